@@ -1,0 +1,91 @@
+-- A kind of word: its parts and the struct that has its fields. What a reader and a writer answer, and both round trips, once for every kind.
+use mathlib.Core.Path.{_≡_, refl, ap, sym, subst, _∙_}
+use mathlib.Core.Bool.{cond}
+use mathlib.Core.List.{List}
+use Prim.Native.Nat.{ℕ, _^_, _<_}
+use Rattle.words.specs.Parts.{Part, width, unpack, pack, clean, fit, Clean, Fit, clean-true, clean-false, fit-true, fit-false, pack-unpack, unpack-fit, unpack-pack, pack-lt, pack-clean}
+use Rattle.words.specs.declared.Written.{Written}
+use Rattle.words.specs.declared.Written.the-variants.{Word, Refused}
+
+-- A: the struct of the fields; R: what its reader answers, the fields or a refusal
+pub record Kind (A R : Type 0) : Type 0 where
+  pub parts : List Part
+  pub of : List ℕ → A
+  pub list : A → List ℕ
+  pub fields : A → R
+  pub refused : ℕ → R
+
+module _ {A R : Type 0} (k : Kind A R) where
+  -- the fields that stand in a word, whatever its zero bits
+  abbrev pub fieldsIn : ℕ → A
+  fieldsIn w = k .of (unpack (k .parts) w)
+
+  -- the word that has these fields
+  abbrev pub wordOf : A → ℕ
+  wordOf f = pack (k .parts) (k .list f)
+
+  -- the fields, or refused with 2 where a zero bit is set
+  abbrev pub reading : ℕ → R
+  reading w = cond (clean (k .parts) w) (k .fields (fieldsIn w)) (k .refused 2)
+
+  -- the word, or refused with 2 where a field is too wide
+  abbrev pub writing : A → Written
+  writing f = cond (fit (k .parts) (k .list f)) (Word (wordOf f)) (Refused 2)
+
+  -- no zero bit of the word is set; no field is too wide
+  abbrev pub Zeroed : ℕ → Type 0
+  Zeroed w = Clean (k .parts) w
+
+  abbrev pub InRange : A → Type 0
+  InRange f = Fit (k .parts) (k .list f)
+
+  -- ── the exits of a reader and of a writer ──
+  pub read-done : (w : ℕ) → Zeroed w → reading w ≡ k .fields (fieldsIn w)
+  read-done w h = rw (clean-true (k .parts) w h) refl
+
+  pub read-refused : (w : ℕ) → (Zeroed w → ⊥) → reading w ≡ k .refused 2
+  read-refused w h = rw (clean-false (k .parts) w h) refl
+
+  pub write-done : (f : A) → InRange f → writing f ≡ Word (wordOf f)
+  write-done f h = rw (fit-true (k .parts) (k .list f) h) refl
+
+  pub write-refused : (f : A) → (InRange f → ⊥) → writing f ≡ Refused 2
+  write-refused f h = rw (fit-false (k .parts) (k .list f) h) refl
+
+-- ── both round trips ──
+-- the parts fill a word; the struct has the fields of the list, and no other
+pub record Lawful {A R : Type 0} (k : Kind A R) : Type 0 where
+  pub whole : width (k .parts) ≡ 64
+  pub of-list : (f : A) → k .of (k .list f) ≡ f
+  pub list-of : (w : ℕ) → k .list (fieldsIn k w) ≡ unpack (k .parts) w
+
+pub record RoundTrips {A R : Type 0} (k : Kind A R) : Type 0 where
+  -- a word with its zero bits zero, read and written, is the same word
+  pub words : (w : ℕ) → w < 2 ^ 64 → Zeroed k w → (reading k w ≡ k .fields (fieldsIn k w)) × (writing k (fieldsIn k w) ≡ Word w)
+  -- fields in range, written and read, are the same fields
+  pub values : (f : A) → InRange k f → (writing k f ≡ Word (wordOf k f)) × (reading k (wordOf k f) ≡ k .fields f)
+
+module _ {A R : Type 0} {k : Kind A R} (law : Lawful k) where
+  -- what was read is in range
+  pub in-range : (w : ℕ) → InRange k (fieldsIn k w)
+  in-range w = subst (Fit (k .parts)) (sym (law .list-of w)) (unpack-fit (k .parts) w)
+
+  pub word-back : (w : ℕ) → w < 2 ^ 64 → Zeroed k w → wordOf k (fieldsIn k w) ≡ w
+  word-back w h c =
+      ap (pack (k .parts)) (law .list-of w)
+      ∙ pack-unpack (k .parts) w (subst (λ (n : ℕ). w < 2 ^ n) (sym (law .whole)) h) c
+
+  pub fields-back : (f : A) → InRange k f → fieldsIn k (wordOf k f) ≡ f
+  fields-back f h = ap (k .of) (unpack-pack (k .parts) (k .list f) h) ∙ law .of-list f
+
+  pub word-small : (f : A) → InRange k f → wordOf k f < 2 ^ 64
+  word-small f h = subst (λ (n : ℕ). wordOf k f < 2 ^ n) (law .whole) (pack-lt (k .parts) (k .list f) h)
+
+  pub word-zeroed : (f : A) → InRange k f → Zeroed k (wordOf k f)
+  word-zeroed f h = pack-clean (k .parts) (k .list f) h
+
+  pub round-trips : RoundTrips k
+  round-trips = record {
+    words = λ w h c. (read-done k w c, write-done k (fieldsIn k w) (in-range w) ∙ ap Word (word-back w h c));
+    values = λ f h. (write-done k f h, read-done k (wordOf k f) (word-zeroed f h) ∙ ap (k .fields) (fields-back f h));
+  }

@@ -1,0 +1,6 @@
+pub mod Parts
+pub mod Kind
+pub mod Words
+pub mod Laws
+pub mod Trips
+pub mod Printed

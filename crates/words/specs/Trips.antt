@@ -1,0 +1,25 @@
+-- Packed words round-trip both ways: each kind, by the one law of Kind.
+use Rattle.words.specs.Kind.{RoundTrips, round-trips}
+use Rattle.words.specs.Words.{first, header, structure, regions, slot, call, boot}
+use Rattle.words.specs.Laws.{first-lawful, header-lawful, structure-lawful, regions-lawful, slot-lawful, call-lawful, boot-lawful}
+
+pub first-trips : RoundTrips first
+first-trips = round-trips first-lawful
+
+pub header-trips : RoundTrips header
+header-trips = round-trips header-lawful
+
+pub structure-trips : RoundTrips structure
+structure-trips = round-trips structure-lawful
+
+pub regions-trips : RoundTrips regions
+regions-trips = round-trips regions-lawful
+
+pub slot-trips : RoundTrips slot
+slot-trips = round-trips slot-lawful
+
+pub call-trips : RoundTrips call
+call-trips = round-trips call-lawful
+
+pub boot-trips : RoundTrips boot
+boot-trips = round-trips boot-lawful

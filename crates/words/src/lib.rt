@@ -1,0 +1,39 @@
+ghost use mathlib.Core.Path.{_≡_};
+ghost use Prim.Native.Nat.{_≤_};
+ghost use Rattle.loops.specs.Bit.{bitOf};
+
+// A packed word has fields and zero bits. Here, and nowhere above, it is known which bits they are.
+// One module a kind of word: its fields, a reader, a writer.
+pub mod boot_word;
+pub mod call_word;
+pub mod first_word;
+pub mod header_word;
+pub mod regions_word;
+pub mod slot_word;
+pub mod structure_word;
+
+// Three kinds of number that are never taken for one another.
+pub struct Line(pub u32);
+
+pub struct Slot(pub u32);
+
+pub struct Partition(pub u32);
+
+pub struct Rights {
+    pub read: bool,
+    pub write: bool,
+    pub execute: bool,
+}
+
+// What a writer answers: the word, or refused with the number of the refusal.
+pub enum Written {
+    Word(u64),
+    Refused(u64),
+}
+
+// A flag as a bit of a word.
+fn bit(b: bool) -> u64
+    ensures { λ r. ⌜ (r ≡ bitOf b) × (r ≤ 1) ⌝ }
+{
+    if b { 1 } else { 0 }
+}
