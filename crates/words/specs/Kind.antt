@@ -3,7 +3,7 @@ use mathlib.Core.Path.{_≡_, refl, ap, sym, subst, _∙_}
 use mathlib.Core.Bool.{cond}
 use mathlib.Core.List.{List}
 use Prim.Native.Nat.{ℕ, _^_, _<_}
-use Rattle.words.specs.Parts.{Part, width, unpack, pack, clean, fit, Clean, Fit, clean-true, clean-false, fit-true, fit-false, pack-unpack, unpack-fit, unpack-pack, pack-lt, pack-clean}
+use Rattle.words.specs.Parts.{Part, width, unpack, pack, clean, fit, Clean, Fit, zeroSum, clean-true, clean-false, sum-clean, clean-sum, fit-true, fit-false, pack-unpack, unpack-fit, unpack-pack, pack-lt, pack-clean}
 use Rattle.words.specs.declared.Written.{Written}
 use Rattle.words.specs.declared.Written.the-variants.{Word, Refused}
 
@@ -40,11 +40,11 @@ module _ {A R : Type 0} (k : Kind A R) where
   InRange f = Fit (k .parts) (k .list f)
 
   -- ── the exits of a reader and of a writer ──
-  pub read-done : (w : ℕ) → Zeroed w → reading w ≡ k .fields (fieldsIn w)
-  read-done w h = rw (clean-true (k .parts) w h) refl
+  pub read-done : (w : ℕ) → zeroSum (k .parts) w ≡ 0 → reading w ≡ k .fields (fieldsIn w)
+  read-done w h = rw (clean-true (k .parts) w (sum-clean (k .parts) w h)) refl
 
-  pub read-refused : (w : ℕ) → (Zeroed w → ⊥) → reading w ≡ k .refused 2
-  read-refused w h = rw (clean-false (k .parts) w h) refl
+  pub read-refused : (w : ℕ) → (zeroSum (k .parts) w ≡ 0 → ⊥) → reading w ≡ k .refused 2
+  read-refused w h = rw (clean-false (k .parts) w (λ c. h (clean-sum (k .parts) w c))) refl
 
   pub write-done : (f : A) → InRange f → writing f ≡ Word (wordOf f)
   write-done f h = rw (fit-true (k .parts) (k .list f) h) refl
@@ -86,6 +86,6 @@ module _ {A R : Type 0} {k : Kind A R} (law : Lawful k) where
 
   pub round-trips : RoundTrips k
   round-trips = record {
-    words = λ w h c. (read-done k w c, write-done k (fieldsIn k w) (in-range w) ∙ ap Word (word-back w h c));
-    values = λ f h. (write-done k f h, read-done k (wordOf k f) (word-zeroed f h) ∙ ap (k .fields) (fields-back f h));
+    words = λ w h c. (read-done k w (clean-sum (k .parts) w c), write-done k (fieldsIn k w) (in-range w) ∙ ap Word (word-back w h c));
+    values = λ f h. (write-done k f h, read-done k (wordOf k f) (clean-sum (k .parts) (wordOf k f) (word-zeroed f h)) ∙ ap (k .fields) (fields-back f h));
   }

@@ -1,5 +1,6 @@
 ghost use mathlib.Core.Path.{_≡_};
 ghost use Rattle.words.specs.Kind.{fieldsIn, reading, writing};
+ghost use Rattle.words.specs.Parts.{zeroSum};
 ghost use Rattle.words.specs.Words.{boot};
 use crate::Line;
 use crate::Written;
@@ -24,10 +25,17 @@ pub fn fields(w: u64) -> BootFields
     }
 }
 
+// What stands in the zero bits, added up: 0 where none is set.
+pub fn zero_bits(w: u64) -> u64
+    ensures { λ r. ⌜ r ≡ zeroSum (boot .parts) w ⌝ }
+{
+    w % 0x400
+}
+
 pub fn read(w: u64) -> BootRead
     ensures { λ r. ⌜ r ≡ reading boot w ⌝ }
 {
-    if w % 0x400 != 0 {
+    if zero_bits(w) != 0 {
         return BootRead::Refused(2);
     }
     BootRead::Fields(fields(w))

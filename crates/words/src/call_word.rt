@@ -1,5 +1,6 @@
 ghost use mathlib.Core.Path.{_≡_};
 ghost use Rattle.words.specs.Kind.{fieldsIn, reading, writing};
+ghost use Rattle.words.specs.Parts.{zeroSum};
 ghost use Rattle.words.specs.Words.{call};
 use crate::Line;
 use crate::Partition;
@@ -40,10 +41,17 @@ pub fn fields(w: u64) -> CallFields
     }
 }
 
+// What stands in the zero bits, added up: 0 where none is set.
+pub fn zero_bits(w: u64) -> u64
+    ensures { λ r. ⌜ r ≡ zeroSum (call .parts) w ⌝ }
+{
+    w % 0x1_0000
+}
+
 pub fn read(w: u64) -> CallRead
     ensures { λ r. ⌜ r ≡ reading call w ⌝ }
 {
-    if w % 0x1_0000 != 0 {
+    if zero_bits(w) != 0 {
         return CallRead::Refused(2);
     }
     CallRead::Fields(fields(w))

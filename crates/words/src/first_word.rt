@@ -1,5 +1,6 @@
 ghost use mathlib.Core.Path.{_≡_};
 ghost use Rattle.words.specs.Kind.{fieldsIn, reading, writing};
+ghost use Rattle.words.specs.Parts.{zeroSum};
 ghost use Rattle.words.specs.Words.{first};
 use crate::Line;
 use crate::Partition;
@@ -27,10 +28,17 @@ pub fn fields(w: u64) -> FirstFields
     }
 }
 
+// What stands in the zero bits, added up: 0 where none is set.
+pub fn zero_bits(w: u64) -> u64
+    ensures { λ r. ⌜ r ≡ zeroSum (first .parts) w ⌝ }
+{
+    w % 64
+}
+
 pub fn read(w: u64) -> FirstRead
     ensures { λ r. ⌜ r ≡ reading first w ⌝ }
 {
-    if w % 64 != 0 {
+    if zero_bits(w) != 0 {
         return FirstRead::Refused(2);
     }
     FirstRead::Fields(fields(w))

@@ -1,5 +1,6 @@
 ghost use mathlib.Core.Path.{_≡_};
 ghost use Rattle.words.specs.Kind.{fieldsIn, reading, writing};
+ghost use Rattle.words.specs.Parts.{zeroSum};
 ghost use Rattle.words.specs.Words.{header};
 use crate::Line;
 use crate::Partition;
@@ -30,10 +31,17 @@ pub fn fields(w: u64) -> HeaderFields
     }
 }
 
+// What stands in the zero bits, added up: 0 where none is set.
+pub fn zero_bits(w: u64) -> u64
+    ensures { λ r. ⌜ r ≡ zeroSum (header .parts) w ⌝ }
+{
+    w % 32
+}
+
 pub fn read(w: u64) -> HeaderRead
     ensures { λ r. ⌜ r ≡ reading header w ⌝ }
 {
-    if w % 32 != 0 {
+    if zero_bits(w) != 0 {
         return HeaderRead::Refused(2);
     }
     HeaderRead::Fields(fields(w))

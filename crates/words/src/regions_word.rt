@@ -2,6 +2,7 @@ ghost use mathlib.Core.Path.{_≡_};
 ghost use Prim.Native.Nat.{_+_, _*_, _≤_, _<_};
 ghost use Rattle.loops.specs.Bit.{bitOf};
 ghost use Rattle.words.specs.Kind.{fieldsIn, reading, writing};
+ghost use Rattle.words.specs.Parts.{zeroSum};
 ghost use Rattle.words.specs.Words.{regions, halfWord};
 use crate::Slot;
 use crate::Written;
@@ -69,17 +70,21 @@ pub fn fields(w: u64) -> RegionsFields
     }
 }
 
-pub fn read(w: u64) -> RegionsRead
-    ensures { λ r. ⌜ r ≡ reading regions w ⌝ }
+// What stands in the zero bits, added up: 0 where none is set.
+pub fn zero_bits(w: u64) -> u64
+    ensures { λ r. ⌜ r ≡ zeroSum (regions .parts) w ⌝ }
 {
-    // what stands in the zero bits of the eight bytes, added up
-    let set = w / 0x2000_0000_0000_0000 % 4
+    w / 0x2000_0000_0000_0000 % 4
         + (w / 0x20_0000_0000_0000 % 4
             + (w / 0x2000_0000_0000 % 4
                 + (w / 0x20_0000_0000 % 4
-                    + (w / 0x2000_0000 % 4
-                        + (w / 0x20_0000 % 4 + (w / 0x2000 % 4 + w / 32 % 4))))));
-    if set != 0 {
+                    + (w / 0x2000_0000 % 4 + (w / 0x20_0000 % 4 + (w / 0x2000 % 4 + w / 32 % 4))))))
+}
+
+pub fn read(w: u64) -> RegionsRead
+    ensures { λ r. ⌜ r ≡ reading regions w ⌝ }
+{
+    if zero_bits(w) != 0 {
         return RegionsRead::Refused(2);
     }
     RegionsRead::Fields(fields(w))

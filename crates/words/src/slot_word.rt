@@ -1,5 +1,6 @@
 ghost use mathlib.Core.Path.{_≡_};
 ghost use Rattle.words.specs.Kind.{fieldsIn, reading, writing};
+ghost use Rattle.words.specs.Parts.{zeroSum};
 ghost use Rattle.words.specs.Words.{slot};
 use crate::Line;
 use crate::Partition;
@@ -39,10 +40,17 @@ pub fn fields(w: u64) -> SlotFields
     }
 }
 
+// What stands in the zero bits, added up: 0 where none is set.
+pub fn zero_bits(w: u64) -> u64
+    ensures { λ r. ⌜ r ≡ zeroSum (slot .parts) w ⌝ }
+{
+    w % 2
+}
+
 pub fn read(w: u64) -> SlotRead
     ensures { λ r. ⌜ r ≡ reading slot w ⌝ }
 {
-    if w % 2 != 0 {
+    if zero_bits(w) != 0 {
         return SlotRead::Refused(2);
     }
     SlotRead::Fields(fields(w))

@@ -1,5 +1,6 @@
 ghost use mathlib.Core.Path.{_≡_};
 ghost use Rattle.words.specs.Kind.{fieldsIn, reading, writing};
+ghost use Rattle.words.specs.Parts.{zeroSum};
 ghost use Rattle.words.specs.Words.{structure};
 use crate::Line;
 use crate::Written;
@@ -27,10 +28,17 @@ pub fn fields(w: u64) -> StructureFields
     }
 }
 
+// What stands in the zero bits, added up: 0 where none is set.
+pub fn zero_bits(w: u64) -> u64
+    ensures { λ r. ⌜ r ≡ zeroSum (structure .parts) w ⌝ }
+{
+    w % 512
+}
+
 pub fn read(w: u64) -> StructureRead
     ensures { λ r. ⌜ r ≡ reading structure w ⌝ }
 {
-    if w % 512 != 0 {
+    if zero_bits(w) != 0 {
         return StructureRead::Refused(2);
     }
     StructureRead::Fields(fields(w))

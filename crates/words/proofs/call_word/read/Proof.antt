@@ -1,8 +1,7 @@
 use mathlib.Core.Path.{sym, ap, _∙_}
+use borrow.Author.Needs.{needs}
 use Rattle.words.specs.Kind.{read-done, read-refused}
 use Rattle.words.specs.Words.{call}
-use native.Mathlib.Omega.{arith}
-use borrow.Author.Needs.{needs}
 use Rattle.words.proofs.call_word.read.Statement.{statement}
 use Rattle.words.proofs.call_word.read.Tie as tie
 
@@ -11,6 +10,7 @@ unfolding call
 read-spec =
     tie.close
     (tie.spec
-    (λ c. sym (read-refused call (c .before .args .w) (λ h. omega arith)))
     (λ c κs. search needs)
-    (λ c. ap (call .fields) (c .fields .ensures) ∙ sym (read-done call (c .before .before .args .w) (omega arith, tt))))
+    (λ c. sym (read-refused call (c .before .before .args .w) (λ z. c .if1 .taken (c .before .zero-bits .ensures ∙ z))))
+    (λ c κs. search needs)
+    (λ c. ap (call .fields) (c .fields .ensures) ∙ sym (read-done call (c .before .before .before .args .w) (sym (c .before .before .zero-bits .ensures) ∙ c .before .if1 .left))))

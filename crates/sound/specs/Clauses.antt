@@ -1,0 +1,185 @@
+-- 01's clauses as tests, one partition at a time: what the code computes.
+use mathlib.Core.Bool.{Bool, true, false, cond, not, _&&_, _||_, Bool·beq}
+use mathlib.Core.List.{List}
+use Prim.Native.Nat.{ℕ, _+_, _*_, _/_, _%_, _≤_, _<_}
+use lib.ListN.{length, getD}
+use lib.Dec.{leb, ltb, eqb}
+use Rattle.loops.specs.Every.{all, any}
+use Rattle.loops.specs.Climb.{reaches}
+use Rattle.words.specs.Kind.{fieldsIn}
+use Rattle.words.specs.Parts.{clean}
+use Rattle.words.specs.Words.{first, header, structure, regions, slot}
+use Rattle.words.specs.declared.Rights.{Rights}
+use Rattle.words.specs.declared.regions_word.Region.{Region}
+use Rattle.tables.specs.State.{Opt, none, some, Entry, Area, K, Table}
+use Rattle.tables.specs.View.{areaPlace, regionsPlace, slotPlace, nth, view}
+use Rattle.tables.specs.Search.{isSome, present, child, holds}
+use Rattle.tables.specs.Settle.{meets, apart, openAt}
+use Rattle.tables.specs.Areas.{zeroRecord}
+
+-- a test of what is there; nothing passes
+unfoldable pub when : {A : Type 0} → (A → Bool) → Opt A → Bool
+when f none = true
+when f (some a) = f a
+
+-- .. of something that has to be there
+unfoldable pub has : {A : Type 0} → (A → Bool) → Opt A → Bool
+has f none = false
+has f (some a) = f a
+
+unfoldable pub isNowhere : Area → Bool
+isNowhere a = eqb (a .lo) 0 && eqb (a .hi) 0
+
+-- 16 lines or more
+unfoldable pub long : Area → Bool
+long a = leb (a .lo + 16) (a .hi)
+
+-- ── S1 ──
+unfoldable pub s1 : K → Bool
+s1 k = ltb (k .base) (k .stop) && present k (k .current)
+
+-- ── S2 ──
+unfoldable pub s2Root : K → ℕ → Bool
+s2Root k p = has isNowhere (k .area p 0) && eqb (k .parent p) 0
+
+unfoldable pub s2Other : K → ℕ → Bool
+s2Other k p = present k (k .parent p) && when (λ a. not (isNowhere a)) (k .area p 0) && reaches (k .parent) 15 p
+
+unfoldable pub s2 : List ℕ → K → ℕ → Bool
+s2 l k p = cond (eqb p 0) (s2Root k p) (cond (present k p) (s2Other k p) (zeroRecord l p))
+
+-- ── S3 ──
+-- a region that is not loaded names slot 0
+unfoldable pub blankRegion : Region → Bool
+blankRegion r = r .loaded || eqb (r .slot .0) 0
+
+-- word o of a record has its zero bits zero
+unfoldable pub s3Word : ℕ → ℕ → Bool
+s3Word o w =
+    cond (ltb o 8)
+    (cond (eqb o 5) (clean (regions .parts) w && all 8 (λ r. blankRegion (nth (fieldsIn regions w) r)))
+    (cond (eqb o 0) (clean (header .parts) w) (cond (ltb o 5) (clean (structure .parts) w) (eqb w 0))))
+    (clean (slot .parts) w)
+
+unfoldable pub s3First : List ℕ → Bool
+s3First l = clean (first .parts) (getD l 0 0)
+
+unfoldable pub s3 : List ℕ → ℕ → Bool
+s3 l p = all 40 (λ o. s3Word o (getD l (1 + 40 * p + o) 0))
+
+-- ── S4 ──
+-- the two areas 0, 0 of the root
+unfoldable pub rooted : ℕ → ℕ → Bool
+rooted p j = eqb p 0 && ltb j 2
+
+-- area j of p, where it is there: 0, 0 at the root, elsewhere long
+unfoldable pub s4Area : K → ℕ → ℕ → Bool
+s4Area k p j = when (λ a. cond (rooted p j) (isNowhere a) (long a)) (k .area p j)
+
+-- structure j of p, where it is absent: a zero word, and not the root's structure 0
+unfoldable pub s4Absent : List ℕ → K → ℕ → ℕ → Bool
+s4Absent l k p j = isSome (k .area p (1 + j)) || (eqb (getD l (areaPlace p (1 + j)) 0) 0 && not (rooted p (1 + j)))
+
+unfoldable pub s4 : List ℕ → K → ℕ → Bool
+s4 l k p = all 5 (s4Area k p) && all 4 (s4Absent l k p)
+
+-- ── S5 ──
+unfoldable pub s5Slot : List ℕ → K → ℕ → ℕ → Bool
+s5Slot l k p i = cond (isSome (k .slot p i)) (isSome (k .area p (1 + i / 8)) && when (λ e. ltb (e .start) (e .stop)) (k .slot p i)) (eqb (getD l (slotPlace p i) 0) 0)
+
+unfoldable pub s5 : List ℕ → K → ℕ → Bool
+s5 l k p = all 32 (s5Slot l k p)
+
+-- ── S6 ──
+unfoldable pub apartE : Opt Entry → Opt Entry → Bool
+apartE x y = when (λ e. when (λ f. not (meets (e .start) (e .stop) (f .start) (f .stop))) y) x
+
+unfoldable pub s6 : K → ℕ → Bool
+s6 k p = all 32 (λ i. all i (λ j. apartE (k .slot p i) (k .slot p j)))
+
+-- ── S7 ──
+unfoldable pub held : K → ℕ → ℕ → Bool
+held k p l = any 32 (λ i. holds l (k .slot p i))
+
+-- each entry of p that ends inside lo to hi, ends where another line is held; and lo is held: so is all of lo to hi
+unfoldable pub covered : K → ℕ → ℕ → ℕ → Bool
+covered k p lo hi = not (ltb lo hi) || (held k p lo && all 32 (λ i. when (λ e. not (ltb lo (e .stop)) || not (ltb (e .stop) hi) || held k p (e .stop)) (k .slot p i)))
+
+unfoldable pub s7Root : K → ℕ → Bool
+s7Root k p = covered k p (k .base) (k .stop) && all 32 (λ i. when (λ e. leb (k .base) (e .start) && leb (e .stop) (k .stop)) (k .slot p i))
+
+unfoldable pub s7Given : K → ℕ → Bool
+s7Given k p = all 32 (λ i. when (λ e. eqb (e .given) 0 || child k p (e .given)) (k .slot p i))
+
+-- the entry f is given to p and contains e
+unfoldable pub grants : ℕ → Entry → Entry → Bool
+grants p e f = eqb (f .given) p && leb (f .start) (e .start) && leb (e .stop) (f .stop)
+
+unfoldable pub s7Inside : K → ℕ → Bool
+s7Inside k p = all 32 (λ i. when (λ e. any 32 (λ j. has (grants p e) (k .slot (k .parent p) j))) (k .slot p i))
+
+unfoldable pub s7Cover : K → ℕ → Bool
+s7Cover k p = all 32 (λ j. when (λ f. not (eqb (f .given) p) || covered k p (f .start) (f .stop)) (k .slot (k .parent p) j))
+
+unfoldable pub s7 : K → ℕ → Bool
+s7 k p = s7Given k p && cond (eqb p 0) (s7Root k p) (not (present k p) || (s7Inside k p && s7Cover k p))
+
+-- ── S8 ──
+-- a not-given entry of q equals the area
+unfoldable pub equals : K → ℕ → Area → Bool
+equals k q a = any 32 (λ i. has (λ e. eqb (e .given) 0 && eqb (e .start) (a .lo) && eqb (e .stop) (a .hi)) (k .slot q i))
+
+-- area j of p is an entry of the parent, or a structure's of p itself
+unfoldable pub s8Backed : K → ℕ → ℕ → Bool
+s8Backed k p j = rooted p j || when (λ a. equals k (k .parent p) a || (not (eqb j 0) && equals k p a)) (k .area p j)
+
+-- area j of p shares no line with an area after it
+unfoldable pub s8Apart : K → ℕ → ℕ → Bool
+s8Apart k p j = when (λ a. all 80 (λ n. not (ltb (5 * p + j) n) || apart (k .area (n / 5) (n % 5)) (a .lo) (a .hi))) (k .area p j)
+
+unfoldable pub s8 : K → ℕ → Bool
+s8 k p = all 5 (s8Backed k p) && all 5 (s8Apart k p)
+
+-- ── S9 ──
+unfoldable pub s9 : Table → ℕ → Bool
+s9 t p = all 32 (λ i. Bool·beq (t .opened p i) (openAt (t .k) p i))
+
+-- ── S10 ──
+unfoldable pub s10Names : Table → ℕ → ℕ → Bool
+s10Names t p r = when (λ i. isSome (t .k .slot p i) && t .opened p i) (t .region p r)
+
+unfoldable pub s10Once : Table → ℕ → ℕ → ℕ → Bool
+s10Once t p r q = when (λ i. when (λ j. not (eqb i j)) (t .region p q)) (t .region p r)
+
+unfoldable pub s10 : Table → ℕ → Bool
+s10 t p = all 8 (s10Names t p) && all 8 (λ r. all r (s10Once t p r))
+
+-- ── S11 ──
+unfoldable pub full : Rights → Bool
+full r = r .read && r .write && r .execute
+
+unfoldable pub within : Rights → Rights → Bool
+within a b = (not (a .read) || b .read) && (not (a .write) || b .write) && (not (a .execute) || b .execute)
+
+unfoldable pub s11 : K → ℕ → Bool
+s11 k p =
+    cond (eqb p 0)
+    (all 32 (λ i. when (λ e. full (e .rights)) (k .slot p i)))
+    (all 32 (λ i. when (λ e. all 32 (λ j. when (λ f. not (grants p e f) || within (e .rights) (f .rights)) (k .slot (k .parent p) j))) (k .slot p i)))
+
+-- ── all clauses at all partitions ──
+unfoldable pub sound : List ℕ → Bool
+sound l =
+    eqb (length l) 641
+    && s1 (view l .k)
+    && all 16 (s2 l (view l .k))
+    && s3First l
+    && all 16 (s3 l)
+    && all 16 (s4 l (view l .k))
+    && all 16 (s5 l (view l .k))
+    && all 16 (s6 (view l .k))
+    && all 16 (s7 (view l .k))
+    && all 16 (s8 (view l .k))
+    && all 16 (s9 (view l))
+    && all 16 (s10 (view l))
+    && all 16 (s11 (view l .k))

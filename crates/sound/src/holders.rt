@@ -1,0 +1,59 @@
+ghost use mathlib.Core.Path.{_≡_};
+ghost use Prim.Native.Nat.{_+_, _≤_, _<_};
+ghost use lib.ListN.{length};
+ghost use Rattle.tables.specs.View.{view};
+ghost use Rattle.sound.specs.Holders.{heir, deepest, Trailed};
+use tables::Found;
+use words::Line;
+use words::Partition;
+
+// whom p gave its entry that holds the line; 0 is nobody
+fn heir(t: &[u64; 641], l: Line, p: Partition) -> Partition
+    requires { ⌜ p .0 < 16 ⌝ }
+    ensures { λ r. ⌜ (r .0 ≡ heir (view (now (t .entry)) .k) (l .0) (p .0)) × (r .0 < 16) ⌝ }
+{
+    let found = tables::search::holding_slot(t, p, l);
+    let Found::At(i) = found else {
+        return Partition(0);
+    };
+    let f = tables::read::entry(t, p, i);
+    if f.present {
+        return f.given;
+    }
+    Partition(0)
+}
+
+// the deepest holder of the line: from the root down along what is given
+fn deepest_holder(t: &[u64; 641], l: Line) -> Partition
+    ensures { λ r. ⌜ (r .0 ≡ deepest (view (now (t .entry)) .k) (l .0) 0 15) × (r .0 < 16) ⌝ }
+{
+    let mut p = Partition(0);
+    let mut left = 15u32;
+    while left > 0 {
+        let g = heir(t, l, p);
+        if g.0 == 0 {
+            return p;
+        }
+        p = g;
+        left -= 1;
+    }
+    p
+}
+
+// writes the way from p up to the root, root first; how many there are
+fn trail(t: &[u64; 641], p: Partition, steps: u32, list: &mut [u8]) -> usize
+    requires { ⌜ (p .0 < 16) × (steps + 1 ≤ length (now list)) ⌝ }
+    ensures { λ r. ⌜ Trailed (view (now (t .entry)) .k) (p .0) steps (now (list .entry)) r (now (list .exit)) ⌝ }
+{
+    if p.0 == 0 {
+        list[0] = 0;
+        return 1;
+    }
+    if steps == 0 {
+        return 0;
+    }
+    let h = tables::read::header(t, p);
+    let n = trail(t, h.parent, steps - 1, list);
+    list[n] = p.0 as u8;
+    n + 1
+}

@@ -1,0 +1,2 @@
+// When a table is sound, and who holds a line of it.
+pub mod holders;

@@ -1,0 +1,16 @@
+use Rattle.tables.specs.Seen.{word-of}
+use borrow.Author.Needs.{needs}
+use Rattle.tables.proofs.read.entry_word.Statement.{statement}
+use Rattle.tables.proofs.read.entry_word.Tie as tie
+
+pub entry-word-spec : {M : Type 1} → statement M
+entry-word-spec =
+    tie.close
+    (tie.spec
+    (λ c. search needs)
+    (λ c. search needs)
+    (λ c. search needs)
+    (λ c. search needs)
+    (λ c. search needs)
+    (λ c. search needs)
+    (λ c. let a = c .before .before .before .args in word-of (a .t .now) (a .p .0) (a .i .0) (c .before .before .before .pre)))

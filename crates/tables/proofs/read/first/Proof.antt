@@ -1,0 +1,12 @@
+use Rattle.tables.specs.Seen.{see-first}
+use borrow.Author.Needs.{needs}
+use Rattle.tables.proofs.read.first.Statement.{statement}
+use Rattle.tables.proofs.read.first.Tie as tie
+
+pub first-spec : {M : Type 1} → statement M
+first-spec =
+    tie.close
+    (tie.spec
+    (λ c. search needs)
+    (λ c κs. search needs)
+    (λ c. see-first _ _ (c .fields .ensures)))

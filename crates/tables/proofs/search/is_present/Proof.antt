@@ -1,0 +1,13 @@
+use mathlib.Core.Path.{refl}
+use Rattle.tables.specs.Search.{present, header-some}
+use borrow.Author.Needs.{needs}
+use Rattle.tables.proofs.search.is_present.Statement.{statement}
+use Rattle.tables.proofs.search.is_present.Tie as tie
+
+pub is-present-spec : {M : Type 1} → statement M
+unfolding present
+is-present-spec =
+    tie.close
+    (tie.spec
+    (λ c κs. search needs)
+    (λ c. rw (c .header .ensures .area, header-some) refl))

@@ -1,0 +1,35 @@
+-- The table as it is handed over and back: 5,128 bytes, each of its 641 words most significant byte first.
+use mathlib.Core.List.{List, [], _∷_}
+use Prim.Native.Nat.{ℕ, _+_, _*_, _/_, _%_}
+use lib.ListN.{getD, set}
+use Rattle.loops.specs.Carry.{done}
+use Rattle.loops.specs.Rewrite.{tab}
+use Rattle.words.specs.Parts.{Part, bits, pack, unpack}
+
+-- the parts of a word: eight bytes, most significant first
+abbrev pub octets : List Part
+octets = bits 8 ∷ bits 8 ∷ bits 8 ∷ bits 8 ∷ bits 8 ∷ bits 8 ∷ bits 8 ∷ bits 8 ∷ []
+
+-- word k of the bytes b, from their bytes 8k to 8k + 7
+unfoldable pub wordAt : List ℕ → ℕ → ℕ
+wordAt b k = pack octets (tab 8 (λ j. getD b (8 * k + j) 0))
+
+-- byte j of the word w
+unfoldable pub byteAt : ℕ → ℕ → ℕ
+byteAt w j = getD (unpack octets w) j 0
+
+-- byte i of the table l, from its word i / 8
+abbrev pub byteOf : List ℕ → ℕ → ℕ
+byteOf l i = byteAt (getD l (i / 8) 0) (i % 8)
+
+-- the table that 5,128 bytes are
+unfoldable pub wordsOf : List ℕ → List ℕ
+wordsOf b = tab 641 (wordAt b)
+
+-- the bytes that a table is
+unfoldable pub bytesOf : List ℕ → List ℕ
+bytesOf l = tab 5128 (byteOf l)
+
+-- the bytes b with w put at word k, one byte after the other
+abbrev pub putWord : List ℕ → ℕ → ℕ → List ℕ
+putWord b k w = done (λ j s. set s (8 * k + j) (byteAt w j)) b 8

@@ -1,0 +1,68 @@
+-- A function with another value at one place.
+use mathlib.Core.Path.{_≡_, refl, sym, _∙_}
+use mathlib.Core.Logic.{_⊎_, inl, inr}
+use Prim.Native.Nat.{ℕ}
+use native.Mathlib.Decide.{ℕ-discrete}
+
+unfoldable pub pick : {P A : Type 0} → Dec P → A → A → A
+pick (yes _) a b = a
+pick (no _) a b = b
+
+pub pick-yes : {P A : Type 0} (d : Dec P) (a b : A) → P → pick d a b ≡ a
+unfolding pick
+pick-yes (yes _) a b h = refl
+pick-yes (no f) a b h = absurd (f h)
+
+pub pick-no : {P A : Type 0} (d : Dec P) (a b : A) → (P → ⊥) → pick d a b ≡ b
+unfolding pick
+pick-no (yes p) a b h = absurd (h p)
+pick-no (no f) a b h = refl
+
+-- ── of one number ──
+unfoldable pub upd1 : {A : Type 0} → (ℕ → A) → ℕ → A → ℕ → A
+upd1 f p a q = pick (ℕ-discrete q p) a (f q)
+
+module _ {A : Type 0} (f : ℕ → A) (p : ℕ) (a : A) (q : ℕ) where
+  pub upd1-same : q ≡ p → upd1 f p a q ≡ a
+  unfolding upd1
+  upd1-same h = pick-yes (ℕ-discrete q p) a (f q) h
+
+  pub upd1-other : (q ≡ p → ⊥) → upd1 f p a q ≡ f q
+  unfolding upd1
+  upd1-other h = pick-no (ℕ-discrete q p) a (f q) h
+
+  -- a value of the new function is the one written, or an old one
+  pub upd1-from : {b : A} → upd1 f p a q ≡ b → ((q ≡ p) × (a ≡ b)) ⊎ ((q ≡ p → ⊥) × (f q ≡ b))
+  upd1-from {b} h = go (ℕ-discrete q p)
+    where
+      go : Dec (q ≡ p) → ((q ≡ p) × (a ≡ b)) ⊎ ((q ≡ p → ⊥) × (f q ≡ b))
+      go (yes z) = inl (z, sym (upd1-same z) ∙ h)
+      go (no z) = inr (z, sym (upd1-other z) ∙ h)
+
+-- ── of two numbers ──
+unfoldable pub both? : (p i q j : ℕ) → Dec ((q ≡ p) × (j ≡ i))
+both? p i q j = go (ℕ-discrete q p) (ℕ-discrete j i)
+  where
+    go : Dec (q ≡ p) → Dec (j ≡ i) → Dec ((q ≡ p) × (j ≡ i))
+    go (yes a) (yes b) = yes (a, b)
+    go (yes a) (no b) = no (λ h. b (h .1))
+    go (no a) d = no (λ h. a (h .0))
+
+unfoldable pub upd : {A : Type 0} → (ℕ → ℕ → A) → ℕ → ℕ → A → ℕ → ℕ → A
+upd f p i a q j = pick (both? p i q j) a (f q j)
+
+module _ {A : Type 0} (f : ℕ → ℕ → A) (p i : ℕ) (a : A) (q j : ℕ) where
+  pub upd-same : (q ≡ p) × (j ≡ i) → upd f p i a q j ≡ a
+  unfolding upd
+  upd-same h = pick-yes (both? p i q j) a (f q j) h
+
+  pub upd-other : ((q ≡ p) × (j ≡ i) → ⊥) → upd f p i a q j ≡ f q j
+  unfolding upd
+  upd-other h = pick-no (both? p i q j) a (f q j) h
+
+  pub upd-from : {b : A} → upd f p i a q j ≡ b → ((q ≡ p) × (j ≡ i) × (a ≡ b)) ⊎ (((q ≡ p) × (j ≡ i) → ⊥) × (f q j ≡ b))
+  upd-from {b} h = go (both? p i q j)
+    where
+      go : Dec ((q ≡ p) × (j ≡ i)) → ((q ≡ p) × (j ≡ i) × (a ≡ b)) ⊎ (((q ≡ p) × (j ≡ i) → ⊥) × (f q j ≡ b))
+      go (yes z) = inl (z .0, z .1, sym (upd-same z) ∙ h)
+      go (no z) = inr (z, sym (upd-other z) ∙ h)

@@ -1,0 +1,46 @@
+ghost use mathlib.Core.Path.{_≡_};
+ghost use lib.ListN.{length};
+
+// What the 641 words of a table mean. Here, and nowhere above, it is known which word holds what.
+pub mod areas;
+pub mod bytes;
+pub mod climb;
+pub mod read;
+pub mod regions;
+pub mod search;
+
+use words::Partition;
+use words::Slot;
+
+// What a search for a slot answers.
+pub enum Found {
+    At(Slot),
+    Nothing,
+}
+
+// What a search for a partition answers.
+pub enum Which {
+    Number(Partition),
+    Nobody,
+}
+
+// What a search for an absent structure answers.
+pub enum Structure {
+    Index(u32),
+    Full,
+}
+
+// What a service answers: two words, or the number of the refusal.
+pub enum Outcome {
+    Done(u64, u64),
+    Refused(u64),
+}
+
+// Behind `&[u64; 641]` the length is not known by itself: lending it on as a slice tells it.
+fn sized(t: &[u64; 641])
+    ensures { λ _. ⌜ length (now (t .entry)) ≡ 641 ⌝ }
+{
+    lent(t);
+}
+
+fn lent(_: &[u64]) {}
