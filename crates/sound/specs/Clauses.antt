@@ -1,7 +1,7 @@
 -- 01's clauses as tests, one partition at a time: what the code computes.
 use mathlib.Core.Bool.{Bool, true, false, cond, not, _&&_, _||_, Bool·beq}
 use mathlib.Core.List.{List}
-use Prim.Native.Nat.{ℕ, _+_, _*_, _/_, _%_, _≤_, _<_}
+use Prim.Native.Nat.{ℕ, _+_, _*_, _/_, _%_}
 use lib.ListN.{length, getD}
 use lib.Dec.{leb, ltb, eqb}
 use Rattle.loops.specs.Every.{all, any}
@@ -12,10 +12,10 @@ use Rattle.words.specs.Words.{first, header, structure, regions, slot}
 use Rattle.words.specs.declared.Rights.{Rights}
 use Rattle.words.specs.declared.regions_word.Region.{Region}
 use Rattle.tables.specs.State.{Opt, none, some, Entry, Area, K, Table}
-use Rattle.tables.specs.View.{areaPlace, regionsPlace, slotPlace, nth, view}
+use Rattle.tables.specs.View.{areaPlace, slotPlace, nth, view}
 use Rattle.tables.specs.Search.{isSome, present, child, holds}
 use Rattle.tables.specs.Settle.{meets, apart, openAt}
-use Rattle.tables.specs.Areas.{zeroRecord}
+use Rattle.tables.specs.ZeroRecord.{zeroRecord}
 
 -- a test of what is there; nothing passes
 unfoldable pub when : {A : Type 0} → (A → Bool) → Opt A → Bool

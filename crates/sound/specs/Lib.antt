@@ -15,3 +15,7 @@ pub mod Properties
 pub mod Holders
 pub mod Whole
 pub mod AtOnce
+pub mod Absent
+pub mod Records
+pub mod Opening
+pub mod Backing

@@ -7,7 +7,7 @@ use Prim.Native.Nat.{ℕ, _<_}
 use native.Mathlib.Decide.{ℕ-discrete, decLt}
 use native.Mathlib.Omega.{arith}
 use lib.Dec.{eqb}
-use borrow.Author.Tests.{leb-true, le-leb, eqb-true, eq-eqb, ne-eqb}
+use borrow.Author.Tests.{eqb-true, eq-eqb, ne-eqb}
 use Rattle.loops.specs.Every.{all, all-at, all-of, bool-ext}
 use Rattle.words.specs.Words.{slot}
 use Rattle.words.specs.declared.Rights.{Rights}
@@ -16,7 +16,7 @@ use Rattle.tables.specs.View.{slotAt, view, inside-in}
 use Rattle.tables.specs.Lines.{Clear}
 use Rattle.tables.specs.Search.{isSome}
 use Rattle.tables.specs.Settle.{openBit, openAt}
-use Rattle.sound.specs.Sound.{Around, Sub, allRights, S5, S9, S10, S11}
+use Rattle.sound.specs.Sound.{Sub, allRights, S5, S9, S10, S11}
 use Rattle.sound.specs.Clauses.{when, grants, full, within, s9, s10Names, s10Once, s10, s11}
 use Rattle.sound.specs.MeansEntries.{grants-means}
 use Rattle.sound.specs.Tests.{and-says, and-true, then-says, then-true, not-says, not-of, when-says, when-true, every-says, every-true, slot-range, area-range, region-range}

@@ -19,8 +19,8 @@ use Rattle.tables.specs.State.{Opt, none, some, Entry, Area, nowhere, K, not-no
 use Rattle.tables.specs.View.{areaPlace, regionsPlace, slotPlace, nth, view}
 use Rattle.tables.specs.Search.{isSome, present}
 use Rattle.sound.specs.Sound.{Present, Rooted, S1, S2, S3, S4, S5}
-use Rattle.tables.specs.Areas.{zeroRecord}
-use Rattle.sound.specs.Clauses.{isNowhere, long, s1, s2Root, s2Other, s2, blankRegion, s3Word, s3First, s3, rooted, s4Area, s4Absent, s4, s5Slot, s5}
+use Rattle.tables.specs.ZeroRecord.{zeroRecord}
+use Rattle.sound.specs.Clauses.{isNowhere, long, s1, s2Root, s2Other, s2, blankRegion, s3Word, s3First, s3, s4Area, s4Absent, s4, s5Slot, s5}
 use Rattle.sound.specs.Tests.{slot-range, area-range}
 use Rattle.sound.specs.MeansEntries.{is-some-means}
 use Rattle.sound.specs.MeansAreas.{rooted-means}

@@ -1,6 +1,6 @@
 -- A sound table: 01's clauses S1 to S11, as propositions. Each is said of one partition p, so that a failing one can be named.
 use mathlib.Core.Path.{_≡_}
-use mathlib.Core.Bool.{Bool, true, false}
+use mathlib.Core.Bool.{true, false}
 use mathlib.Core.List.{List}
 use mathlib.Core.Logic.{_⊎_, _↔_}
 use Prim.Native.Nat.{ℕ, _+_, _*_, _/_, _≤_, _<_}
@@ -9,7 +9,7 @@ use Rattle.loops.specs.Climb.{Reaches}
 use Rattle.words.specs.Kind.{fieldsIn, Zeroed}
 use Rattle.words.specs.Words.{first, header, structure, regions, slot}
 use Rattle.words.specs.declared.Rights.{Rights}
-use Rattle.tables.specs.State.{Opt, none, some, Entry, Area, nowhere, K, Table}
+use Rattle.tables.specs.State.{none, some, Entry, Area, nowhere, K, Table}
 use Rattle.tables.specs.View.{areaPlace, regionsPlace, slotPlace, nth, view}
 use Rattle.tables.specs.Lines.{In, InA, Holds, Clear}
 

@@ -1,13 +1,11 @@
 -- What the tests say: and, or, not, comparisons, a test of what is there, a test of every slot.
-use mathlib.Core.Path.{_≡_, refl, sym, _∙_}
-use mathlib.Core.Bool.{Bool, true, false, cond, not, _&&_, _||_, and-eq-true-iff, false≢true}
-use mathlib.Core.Logic.{_⊎_, inl, inr, _↔_}
+use mathlib.Core.Path.{_≡_, refl}
+use mathlib.Core.Bool.{Bool, true, false, not, _&&_, _||_, and-eq-true-iff, false≢true}
+use mathlib.Core.Logic.{_⊎_, inl, inr}
 use mathlib.Core.List.{List}
-use Prim.Native.Nat.{ℕ, _≤_, _<_}
-use lib.Dec.{leb, ltb, eqb}
-use borrow.Author.Tests.{ltb-true, lt-ltb, leb-true, le-leb, eqb-true, eqb-false, eq-eqb, ne-eqb}
+use Prim.Native.Nat.{ℕ, _<_}
 use Rattle.loops.specs.Every.{all, any, all-at, all-of, any-at, any-of, bool-ext}
-use Rattle.tables.specs.State.{Opt, none, some, Entry, Area, not-none, some-inj}
+use Rattle.tables.specs.State.{Opt, none, some, Entry, Area}
 use Rattle.tables.specs.View.{view, viewK, entryIn, slotAt, areaAt, regionAt, inside-some}
 use Rattle.sound.specs.Clauses.{when, has}
 

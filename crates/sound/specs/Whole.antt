@@ -1,27 +1,25 @@
 -- Exactly the sound tables pass; and a canonical list whose table is right is sound.
-use mathlib.Core.Path.{_≡_, refl, sym, _∙_}
-use mathlib.Core.Bool.{Bool, true, false, _&&_}
+use mathlib.Core.Path.{_≡_}
+use mathlib.Core.Bool.{true}
 use mathlib.Core.Logic.{_↔_}
 use mathlib.Core.List.{List}
-use Prim.Native.Nat.{ℕ, _+_, _*_, _<_}
-use lib.ListN.{length, getD}
-use lib.Dec.{eqb}
+use Prim.Native.Nat.{ℕ}
+use lib.ListN.{length}
 use borrow.Author.Tests.{eqb-true, eq-eqb}
-use Rattle.loops.specs.Every.{all}
-use Rattle.tables.specs.State.{Opt, none, some, Entry, Area, Table}
+use Rattle.tables.specs.State.{none, Table}
 use Rattle.tables.specs.View.{view}
 use Rattle.tables.specs.Encode.{Canon, canon-length}
 use Rattle.tables.specs.FitView.{zero-slot}
-use Rattle.sound.specs.Sound.{Sound, S1, S2, S3, S4, S5, S6, S7, S8, S9, S10, S11, Present}
-use Rattle.sound.specs.Clauses.{sound, s1, s2, s3First, s3, s4, s5, s6, s7, s8, s9, s10, s11}
+use Rattle.sound.specs.Sound.{Sound, S9, S10}
+use Rattle.sound.specs.Clauses.{sound, s1, s2, s3, s4, s5, s6, s7, s8, s9, s10, s11}
 use Rattle.sound.specs.Tests.{and-says, and-true}
-use Rattle.sound.specs.Means.{eq-means, and-means, all-means}
+use Rattle.sound.specs.Means.{all-means}
 use Rattle.sound.specs.MeansWords.{s1-means, s2-means, s3-first-means, s3-means, s4-means, s5-means}
 use Rattle.sound.specs.MeansEntries.{s6-means, s7-means}
 use Rattle.sound.specs.MeansAreas.{s8-means}
 use Rattle.sound.specs.MeansRegions.{s9-means, s10-means, s11-means}
 use Rattle.sound.specs.Canonical.{canon-s3-first, canon-s3, canon-structure, canon-absent, Nothing}
-use Rattle.sound.specs.Core.{Core, Parts, core-sound}
+use Rattle.sound.specs.Core.{Core, core-sound}
 
 module _ (l : List ℕ) where
   to : sound l ≡ true → Sound l

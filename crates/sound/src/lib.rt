@@ -1,2 +1,20 @@
+ghost use mathlib.Core.Path.{_≡_};
+ghost use Rattle.sound.specs.Clauses.{rooted};
+
 // When a table is sound, and who holds a line of it.
+pub mod backing;
 pub mod holders;
+pub mod opening;
+pub mod records;
+
+use words::Partition;
+
+// area j of p is one of the root's two that are 0, 0
+fn is_rooted(p: Partition, j: u32) -> bool
+    ensures { λ r. ⌜ r ≡ rooted (p .0) j ⌝ }
+{
+    if p.0 == 0 {
+        return j < 2;
+    }
+    false
+}

@@ -75,7 +75,7 @@ unfolding structureWord structureArea structure
 structure-read none g = refl
 structure-read (some a) g = ap structureArea (structure-back a (g a refl))
 
-nth-for : (f : ℕ → Opt ℕ) (r : ℕ) → r < 8 → nth (regionsFor f) r ≡ regionFor (f r)
+pub nth-for : (f : ℕ → Opt ℕ) (r : ℕ) → r < 8 → nth (regionsFor f) r ≡ regionFor (f r)
 unfolding nth
 nth-for f zero h = refl
 nth-for f (suc zero) h = refl
@@ -92,6 +92,7 @@ unfolding regionFor
 slot-small none g = omega arith
 slot-small (some i) g = g i refl
 
+-- regions that name slots are in range, and come back from their word
 pub regions-small : (f : ℕ → Opt ℕ) → ((r i : ℕ) → f r ≡ some i → i < 32) → InRange regions (regionsFor f)
 regions-small f g =
     let s : (q : ℕ) → regionFor (f q) .slot .0 < 32 = λ q. slot-small (f q) (g q) in

@@ -1,20 +1,16 @@
 -- What canonical words are seen as fits them.
-use mathlib.Core.Path.{_≡_, refl, ap, sym, _∙_}
+use mathlib.Core.Path.{_≡_, refl, _∙_}
 use mathlib.Core.Bool.{Bool, true, false, cond}
 use mathlib.Core.List.{List}
 use lib.ListN.{getD}
 use lib.Dec.{eqb, ltb}
-use borrow.Author.Tests.{ltb-true, ltb-false}
-use Prim.Native.Nat.{ℕ, zero, suc, _+_, _*_, _^_, _≤_, _<_}
+use borrow.Author.Tests.{ltb-true}
+use Prim.Native.Nat.{ℕ, zero, suc, _^_, _<_}
 use native.Mathlib.Omega.{arith}
-use lib.ListN.{length, List·getD-eq-default}
-use Rattle.words.specs.Kind.{fieldsIn, in-range}
+use Rattle.words.specs.Kind.{fieldsIn}
 use Rattle.words.specs.Words.{first, header, structure, regions, slot}
-use Rattle.words.specs.Laws.{first-lawful, header-lawful, structure-lawful, regions-lawful, slot-lawful}
-use Rattle.words.specs.declared.regions_word.Region.{Region}
-use Rattle.words.specs.declared.regions_word.RegionsFields.{RegionsFields}
-use Rattle.tables.specs.State.{Opt, none, some, Entry, Area, not-none, some-inj, Same, same, SameA, sameA}
-use Rattle.tables.specs.View.{areaPlace, slotPlace, regionsPlace, entryOf, entryIn, headerArea, structureArea, areaIn, noRegion, nth, named, slotAt, headerAt, areaAt, regionAt, inside, parentAt, viewK, view, inside-some}
+use Rattle.tables.specs.State.{none, some, Area, not-none, some-inj, same, sameA}
+use Rattle.tables.specs.View.{areaPlace, slotPlace, regionsPlace, entryOf, entryIn, headerArea, structureArea, areaIn, nth, named, slotAt, headerAt, areaAt, regionAt, inside, parentAt, viewK, view, inside-some}
 use Rattle.tables.specs.Encode.{slotWord, headerWord, Canon, at-slot, at-header, canon-at}
 use Rattle.tables.specs.Back.{Fit}
 

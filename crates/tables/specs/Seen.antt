@@ -1,24 +1,22 @@
 -- What the code's readers promise: fields, and what they are in the table that the words are.
-use mathlib.Core.Path.{_≡_, refl, ap, sym, _∙_}
-use mathlib.Core.Bool.{Bool, true, false, cond}
+use mathlib.Core.Path.{_≡_, ap, sym, _∙_}
+use mathlib.Core.Bool.{false}
 use mathlib.Core.List.{List}
 use lib.ListN.{getD}
-use lib.Dec.{eqb}
 use borrow.Author.Tests.{lt-ltb, ne-eqb}
-use Prim.Native.Nat.{ℕ, _+_, _*_, _^_, _<_}
+use Prim.Native.Nat.{ℕ, _+_, _^_, _<_}
 use native.Mathlib.Omega.{arith}
 use Rattle.words.specs.Kind.{fieldsIn}
-use Rattle.words.specs.Words.{first, header, structure, regions, slot}
+use Rattle.words.specs.Words.{first, structure, regions, slot}
 use Rattle.words.specs.declared.first_word.FirstFields.{FirstFields}
 use Rattle.words.specs.declared.header_word.HeaderFields.{HeaderFields}
-use Rattle.words.specs.declared.regions_word.Region.{Region}
 use Rattle.words.specs.declared.regions_word.RegionsFields.{RegionsFields}
 use Rattle.words.specs.declared.slot_word.SlotFields.{SlotFields}
 use Rattle.words.specs.declared.structure_word.StructureFields.{StructureFields}
-use Rattle.tables.specs.State.{Opt, none, some, Entry, Area}
+use Rattle.tables.specs.State.{none}
 use Rattle.tables.specs.View.{areaPlace, regionsPlace, slotPlace, entryIn, headerArea, structureArea, areaIn, nth, named, slotAt, headerAt, areaAt, regionAt, parentAt, viewK, view, inside-in}
 use Rattle.tables.specs.Encode.{slotWord, Canon, canon-at, at-slot}
-use Rattle.tables.specs.FitView.{SmallFirst, small-first, SmallSlot, small-slot, SmallHeader, small-header, SmallStructure, small-structure, small-region}
+use Rattle.tables.specs.FitView.{small-first, small-slot, small-header, small-structure, small-region}
 
 -- ── base, end and current ──
 pub record SeenFirst (l : List ℕ) (f : FirstFields) : Type 0 where

@@ -1,6 +1,6 @@
 -- The table that 641 words mean. An absent thing is `none`. An entry has no open bit of its own: S9 derives it.
 use mathlib.Core.Path.{_≡_, ap, sym, _∙_}
-use mathlib.Core.Bool.{Bool, true}
+use mathlib.Core.Bool.{Bool}
 use Prim.Native.Nat.{ℕ}
 use native.Mathlib.Omega.{arith}
 use Rattle.words.specs.declared.Rights.{Rights}

@@ -1,5 +1,5 @@
 -- A function with another value at one place.
-use mathlib.Core.Path.{_≡_, refl, sym, _∙_}
+use mathlib.Core.Path.{_≡_, refl, ap, sym, _∙_}
 use mathlib.Core.Logic.{_⊎_, inl, inr}
 use Prim.Native.Nat.{ℕ}
 use native.Mathlib.Decide.{ℕ-discrete}
@@ -38,6 +38,14 @@ module _ {A : Type 0} (f : ℕ → A) (p : ℕ) (a : A) (q : ℕ) where
       go : Dec (q ≡ p) → ((q ≡ p) × (a ≡ b)) ⊎ ((q ≡ p → ⊥) × (f q ≡ b))
       go (yes z) = inl (z, sym (upd1-same z) ∙ h)
       go (no z) = inr (z, sym (upd1-other z) ∙ h)
+
+-- a function of two numbers with another row
+module _ {A : Type 0} (f : ℕ → ℕ → A) (p : ℕ) (a : ℕ → A) (q j : ℕ) where
+  pub row-same : q ≡ p → upd1 f p a q j ≡ a j
+  row-same z = ap (λ (g : ℕ → A). g j) (upd1-same f p a q z)
+
+  pub row-other : (q ≡ p → ⊥) → upd1 f p a q j ≡ f q j
+  row-other z = ap (λ (g : ℕ → A). g j) (upd1-other f p a q z)
 
 -- ── of two numbers ──
 unfoldable pub both? : (p i q j : ℕ) → Dec ((q ≡ p) × (j ≡ i))

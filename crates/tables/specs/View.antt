@@ -1,12 +1,11 @@
 -- The 641 words, seen as a table.
-use mathlib.Core.Path.{_≡_, refl, ap, sym, _∙_}
+use mathlib.Core.Path.{_≡_, refl}
 use mathlib.Core.Bool.{Bool, true, false, cond}
 use mathlib.Core.List.{List, [], _∷_}
-use lib.ListN.{length, getD}
+use lib.ListN.{getD}
 use lib.Dec.{eqb, ltb}
 use borrow.Author.Tests.{ltb-true, lt-ltb}
 use Prim.Native.Nat.{ℕ, _+_, _*_, _<_}
-use native.Mathlib.Omega.{arith}
 use Rattle.words.specs.Kind.{fieldsIn}
 use Rattle.words.specs.Words.{first, header, structure, regions, slot}
 use Rattle.words.specs.declared.header_word.HeaderFields.{HeaderFields}

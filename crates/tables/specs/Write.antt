@@ -1,21 +1,19 @@
 -- A written word, seen as a change of the table.
-use mathlib.Core.Path.{_≡_, refl, ap, ap₂, sym, _∙_}
+use mathlib.Core.Path.{_≡_, refl, ap, sym, _∙_}
 use mathlib.Core.Bool.{Bool, true, false, cond}
 use mathlib.Core.List.{List}
-use mathlib.Core.Logic.{_⊎_, inl, inr, ⊎-elim}
 use lib.ListN.{length, getD, set, length-set}
 use lib.Seq.{getD-set-same, getD-set-other}
-use lib.Dec.{eqb, ltb}
-use borrow.Author.Tests.{ltb-true, ltb-false, eqb-true, eqb-false}
-use Prim.Native.Nat.{ℕ, zero, suc, _+_, _-_, _*_, _/_, _%_, _^_, _≤_, _<_}
+use lib.Dec.{eqb}
+use borrow.Author.Tests.{eqb-false}
+use Prim.Native.Nat.{ℕ, _+_, _-_, _*_, _/_, _%_, _<_}
 use native.Mathlib.Omega.{arith}
 use native.Mathlib.Decide.{ℕ-discrete}
 use Rattle.words.specs.Kind.{wordOf}
 use Rattle.words.specs.Words.{first}
-use Rattle.tables.specs.State.{Opt, none, some, Entry, Area, K, Table, not-none}
-use Rattle.tables.specs.Update.{upd, upd-same, upd-other, upd-from, upd1, upd1-same, upd1-other, upd1-from}
-use Rattle.tables.specs.View.{areaPlace, regionsPlace, slotPlace, view}
-use Rattle.tables.specs.Encode.{slotWord, headerWord, structureWord, regionsWord, firstFor, partWord, wordFor, encode, Canon, Is, encode-length, at-part, canon-length, canon-at, is-canon}
+use Rattle.tables.specs.State.{Opt, none, Entry, Area, K, Table}
+use Rattle.tables.specs.Update.{upd, upd1}
+use Rattle.tables.specs.Encode.{firstFor, partWord, wordFor, Is, at-part, canon-length, canon-at, is-canon}
 use Rattle.tables.specs.Back.{Fit, is-from}
 
 -- ── the table with ── other slots; other parents and areas

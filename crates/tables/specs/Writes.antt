@@ -13,7 +13,7 @@ use Rattle.loops.specs.Rewrite.{each, length-tab, tab-at}
 use Rattle.words.specs.Kind.{wordOf}
 use Rattle.words.specs.Words.{first, regions}
 use Rattle.tables.specs.State.{Opt, none, some, Entry, Area, K, Table, not-none, some-inj}
-use Rattle.tables.specs.Update.{upd, upd-same, upd-other, upd-from, upd1, upd1-same, upd1-other, upd1-from}
+use Rattle.tables.specs.Update.{upd, upd-same, upd-other, upd-from, upd1, upd1-same, upd1-other, upd1-from, row-same, row-other}
 use Rattle.tables.specs.View.{areaPlace, regionsPlace, slotPlace, view}
 use Rattle.tables.specs.Encode.{slotWord, headerWord, structureWord, regionFor, regionsWord, firstFor, partWord, wordFor, encode, Canon, Is, encode-length, at-part, canon-length, canon-at, is-canon}
 use Rattle.tables.specs.Back.{Fit, is-from}
@@ -222,19 +222,11 @@ clearedWord p n w = cond (eqb n 0) w (cond (eqb ((n - 1) / 40) p) 0 w)
 
 -- what is there after the record of p was cleared, is not of p, and was there
 kept : {A : Type 0} (f : ℕ → ℕ → Opt A) (p q j : ℕ) (a : A) → upd1 f p (λ k. none) q j ≡ some a → (q ≡ p → ⊥) × (f q j ≡ some a)
-kept {A} f p q j a u = go (ℕ-discrete q p)
+kept f p q j a u = go (ℕ-discrete q p)
   where
     go : Dec (q ≡ p) → (q ≡ p → ⊥) × (f q j ≡ some a)
-    go (yes z) = not-none none refl (sym (ap (λ (g : ℕ → Opt A). g j) (upd1-same f p (λ k. none) q z)) ∙ u)
-    go (no z) = (z, sym (ap (λ (g : ℕ → Opt A). g j) (upd1-other f p (λ k. none) q z)) ∙ u)
-
--- of another partition nothing changes
-module _ {A : Type 0} (f : ℕ → ℕ → A) (p : ℕ) (a : ℕ → A) (q j : ℕ) where
-  row-same : q ≡ p → upd1 f p a q j ≡ a j
-  row-same z = ap (λ (g : ℕ → A). g j) (upd1-same f p a q z)
-
-  row-other : (q ≡ p → ⊥) → upd1 f p a q j ≡ f q j
-  row-other z = ap (λ (g : ℕ → A). g j) (upd1-other f p a q z)
+    go (yes z) = not-none none refl (sym (row-same f p (λ k. none) q j z) ∙ u)
+    go (no z) = (z, sym (row-other f p (λ k. none) q j z) ∙ u)
 
 module _ (t : Table) (p q m : ℕ) where
   cleared-part : q ≡ p → 0 ≡ partWord (clearRecord t p) q m

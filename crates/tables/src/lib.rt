@@ -1,5 +1,7 @@
 ghost use mathlib.Core.Path.{_≡_};
+ghost use Prim.Native.Nat.{_<_};
 ghost use lib.ListN.{length};
+ghost use Rattle.tables.specs.Store.{stored};
 
 // What the 641 words of a table mean. Here, and nowhere above, it is known which word holds what.
 pub mod areas;
@@ -8,9 +10,12 @@ pub mod climb;
 pub mod read;
 pub mod regions;
 pub mod search;
+pub mod settle;
+pub mod write;
 
 use words::Partition;
 use words::Slot;
+use words::Written;
 
 // What a search for a slot answers.
 pub enum Found {
@@ -37,10 +42,20 @@ pub enum Outcome {
 }
 
 // Behind `&[u64; 641]` the length is not known by itself: lending it on as a slice tells it.
-fn sized(t: &[u64; 641])
+pub fn sized(t: &[u64; 641])
     ensures { λ _. ⌜ length (now (t .entry)) ≡ 641 ⌝ }
 {
     lent(t);
 }
 
 fn lent(_: &[u64]) {}
+
+// The word goes to its place. A refusal stores nothing: no caller here meets one.
+fn store(t: &mut [u64; 641], at: usize, word: Written)
+    requires { ⌜ at < 641 ⌝ }
+    ensures { λ _. ⌜ now (t .exit) ≡ stored (now (t .entry)) at word ⌝ }
+{
+    if let Written::Word(w) = word {
+        t[at] = w;
+    }
+}

@@ -23,6 +23,7 @@ pub fn nth(f: RegionsFields, r: u32) -> Region
     }
 }
 
+// x where b, and y where not
 fn choose(b: bool, x: Region, y: Region) -> Region
     ensures { λ r. ⌜ r ≡ cond b x y ⌝ }
 {

@@ -126,12 +126,12 @@ pub fn holding_slot(t: &[u64; 641], p: Partition, l: Line) -> Found
     requires { ⌜ p .0 < 16 ⌝ }
     ensures { λ r. ⌜ r ≡ foundOf (lowest 32 (holdsAt (view (now (t .entry)) .k) (p .0) (l .0))) ⌝ }
 {
-    let mut i = 0u32;
-    while i < 32 {
-        if holds_line(t, p, Slot(i), l) {
-            return Found::At(Slot(i));
+    let mut s = 0u32;
+    while s < 32 {
+        if holds_line(t, p, Slot(s), l) {
+            return Found::At(Slot(s));
         }
-        i += 1;
+        s += 1;
     }
     Found::Nothing
 }

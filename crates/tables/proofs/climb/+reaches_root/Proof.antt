@@ -1,10 +1,11 @@
--- The measure is the steps that are left.
+-- The recursion falls by the steps that are left.
+use mathlib.Core.Path.{sym}
 use Prim.Native.Nat.{ℕ, _<_}
-use Rattle.loops.specs.Climb.{climb-root, climb-lost, climb-step}
+use native.Mathlib.Omega.{arith}
 use borrow.Author.Needs.{needs}
 use borrow.Fn.Kinds.{In}
 use borrow.Fn.PlainCycle.{Measures, is, falls, and}
-use mathlib.Core.Path.{sym}
+use Rattle.loops.specs.Climb.{climb-root, climb-lost, climb-step}
 use Rattle.tables.proofs.climb.reaches_root.Reads as reaches-root
 use Rattle.tables.proofs.climb.reaches_root.Kinds as reaches-root-kinds
 use Rattle.tables.proofs.climb.+reaches_root.Lts-reaches_root as reaches-root-lts
@@ -28,7 +29,7 @@ pub +reaches-root-spec : {M : Type 1} → statement M
     (at-steps n)
     reaches-root.Post
     (λ c. climb-root _ _ _ _ _ _ (c .if1 .taken))
-    (λ c. climb-lost _ _ _ _ _ _ (c .before .if1 .left) (c .if2 .taken))
+    (λ c. climb-lost _ _ _ _ _ _ (c .before .if1 .left) (omega arith))
     (λ c κs. search needs)
     (λ c. search needs)
     (λ c κs. search needs)

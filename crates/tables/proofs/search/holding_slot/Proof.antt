@@ -11,10 +11,10 @@ use Rattle.tables.proofs.search.holding_slot.Statement.{statement}
 use Rattle.tables.proofs.search.holding_slot.Tie as tie
 
 abbrev Inv-loop : tie.InvT-loop
-Inv-loop t p l i₀ i = Seeking (holdsAt (view t .k) (p .0) (l .0)) some none 32 i
+Inv-loop t p l s₀ s = Seeking (holdsAt (view t .k) (p .0) (l .0)) some none 32 s
 
 abbrev μ-loop : tie.MeasureT-loop
-μ-loop t p l i₀ i = 32 - i
+μ-loop t p l s₀ s = 32 - s
 
 pub holding-slot-spec : {M : Type 1} → statement M
 unfolding lowest foundOf

@@ -1,0 +1,32 @@
+use Prim.Native.Nat.{_-_}
+use lib.ListN.{getD}
+use Rattle.loops.specs.Count.{Failing, fail-start, fail-on, fail-end}
+use Rattle.tables.specs.Areas.{off}
+use native.Mathlib.Omega.{arith}
+use borrow.Author.Needs.{needs}
+use Rattle.sound.proofs.backing.off_first.Statement.{statement}
+use Rattle.sound.proofs.backing.off_first.Tie as tie
+
+abbrev Inv-loop : tie.InvT-loop
+Inv-loop n s e a b x₀ k₀ x k = Failing (λ j. off a b (getD s j 0) (getD e j 0)) n k x
+
+abbrev μ-loop : tie.MeasureT-loop
+μ-loop n s e a b x₀ k₀ x k = n - k
+
+pub off-first-spec : {M : Type 1} → statement M
+off-first-spec =
+    tie.close
+    (tie.spec
+    Inv-loop
+    μ-loop
+    (λ c. fail-start)
+    (λ c. search needs)
+    (λ c. search needs)
+    (λ c. search needs)
+    (λ c. search needs)
+    (λ c κs. search needs)
+    (λ c. search needs)
+    (λ c. search needs)
+    (λ c. search needs)
+    (λ c. fail-on (c .before .before .before .before .loop .inv) (omega arith) (c .hit .ensures .0))
+    (λ c. fail-end (c .before .loop .inv) (omega arith)))

@@ -1,0 +1,240 @@
+ghost use mathlib.Core.Path.{_≡_};
+ghost use mathlib.Core.Bool.{_&&_};
+ghost use Prim.Native.Nat.{_+_, _*_, _^_, _<_};
+ghost use lib.ListN.{getD};
+ghost use Rattle.loops.specs.Every.{all};
+ghost use Rattle.tables.specs.View.{nth, view};
+ghost use Rattle.sound.specs.Clauses.{isNowhere, s1, s2Root, s2, blankRegion, s3First, s3, rooted, s4, s5};
+ghost use Rattle.sound.specs.Records.{wordTest, areaTest, headerTest, structureTest, slotTest};
+use crate::is_rooted;
+use words::Line;
+use words::Partition;
+use words::Slot;
+use words::regions_word::Region;
+use words::regions_word::RegionsFields;
+
+// S1, and S3 of word 0
+pub fn first_sound(t: &[u64; 641]) -> bool
+    ensures { λ r. ⌜ r ≡ s1 (view (now (t .entry)) .k) && s3First (now (t .entry)) ⌝ }
+{
+    let f = tables::read::first(t);
+    if f.base.0 >= f.end.0 {
+        return false;
+    }
+    if !tables::search::is_present(t, f.current) {
+        return false;
+    }
+    words::first_word::zero_bits(t[0]) == 0
+}
+
+fn is_nowhere(a: Line, b: Line) -> bool
+    ensures { λ r. ⌜ r ≡ isNowhere (record { lo = a .0; hi = b .0 }) ⌝ }
+{
+    if a.0 != 0 {
+        return false;
+    }
+    b.0 == 0
+}
+
+// S2 of the root: area 0, 0 and parent 0
+fn root_sound(t: &[u64; 641], p: Partition) -> bool
+    requires { ⌜ p .0 < 16 ⌝ }
+    ensures { λ r. ⌜ r ≡ s2Root (view (now (t .entry)) .k) (p .0) ⌝ }
+{
+    let h = tables::read::header(t, p);
+    if !h.present {
+        return false;
+    }
+    if !is_nowhere(h.start, h.end) {
+        return false;
+    }
+    h.parent.0 == 0
+}
+
+// S2: an absent partition is 40 zero words; from a present one the walk up to the root ends within 15 steps
+pub fn family_sound(t: &[u64; 641], p: Partition) -> bool
+    requires { ⌜ p .0 < 16 ⌝ }
+    ensures { λ r. ⌜ r ≡ s2 (now (t .entry)) (view (now (t .entry)) .k) (p .0) ⌝ }
+{
+    if p.0 == 0 {
+        return root_sound(t, p);
+    }
+    let h = tables::read::header(t, p);
+    if !h.present {
+        return tables::areas::zero_record(t, p);
+    }
+    if !tables::search::is_present(t, h.parent) {
+        return false;
+    }
+    if is_nowhere(h.start, h.end) {
+        return false;
+    }
+    tables::climb::reaches_root(t, p, 15)
+}
+
+// word o of the 40 of p
+fn word(t: &[u64; 641], p: Partition, o: u32) -> u64
+    requires { ⌜ (p .0 < 16) × (o < 40) ⌝ }
+    ensures { λ r. ⌜ r ≡ getD (now (t .entry)) (1 + 40 * p .0 + o) 0 ⌝ }
+{
+    let at = (1 + 40 * p.0 + o) as usize;
+    t[at]
+}
+
+// a to b as area j of p: 0, 0 at the root, elsewhere 16 lines or more
+fn area_sound(p: Partition, j: u32, a: Line, b: Line) -> bool
+    requires { ⌜ a .0 < 2 ^ 27 ⌝ }
+    ensures { λ r. ⌜ r ≡ areaTest (p .0) j (record { lo = a .0; hi = b .0 }) ⌝ }
+{
+    if is_rooted(p, j) {
+        return is_nowhere(a, b);
+    }
+    a.0 + 16 <= b.0
+}
+
+// S3 and S4 of the header
+fn header_sound(t: &[u64; 641], p: Partition) -> bool
+    requires { ⌜ p .0 < 16 ⌝ }
+    ensures { λ r. ⌜ r ≡ headerTest (now (t .entry)) (view (now (t .entry)) .k) (p .0) ⌝ }
+{
+    if words::header_word::zero_bits(word(t, p, 0)) != 0 {
+        return false;
+    }
+    let h = tables::read::header(t, p);
+    if !h.present {
+        return true;
+    }
+    area_sound(p, 0, h.start, h.end)
+}
+
+// S3 and S4 of structure j; an absent one is a zero word
+fn structure_sound(t: &[u64; 641], p: Partition, j: u32) -> bool
+    requires { ⌜ (p .0 < 16) × (j < 4) ⌝ }
+    ensures { λ r. ⌜ r ≡ structureTest (now (t .entry)) (view (now (t .entry)) .k) (p .0) j ⌝ }
+{
+    let w = word(t, p, 1 + j);
+    if words::structure_word::zero_bits(w) != 0 {
+        return false;
+    }
+    let s = tables::read::structure(t, p, j);
+    if s.present {
+        return area_sound(p, 1 + j, s.start, s.end);
+    }
+    if w != 0 {
+        return false;
+    }
+    !is_rooted(p, 1 + j)
+}
+
+// .. of all four
+fn structures_sound(t: &[u64; 641], p: Partition) -> bool
+    requires { ⌜ p .0 < 16 ⌝ }
+    ensures { λ r. ⌜ r ≡ all 4 (structureTest (now (t .entry)) (view (now (t .entry)) .k) (p .0)) ⌝ }
+{
+    let mut j = 0u32;
+    while j < 4 {
+        if !structure_sound(t, p, j) {
+            return false;
+        }
+        j += 1;
+    }
+    true
+}
+
+// a region that is not loaded names slot 0
+fn is_blank(x: Region) -> bool
+    ensures { λ r. ⌜ r ≡ blankRegion x ⌝ }
+{
+    if x.loaded {
+        return true;
+    }
+    x.slot.0 == 0
+}
+
+// .. all eight do so
+fn all_blank(f: RegionsFields) -> bool
+    ensures { λ r. ⌜ r ≡ all 8 (λ i. blankRegion (nth f i)) ⌝ }
+{
+    let mut i = 0u32;
+    while i < 8 {
+        if !is_blank(tables::regions::nth(f, i)) {
+            return false;
+        }
+        i += 1;
+    }
+    true
+}
+
+// S3 of the regions; a zero word has none loaded
+fn regions_sound(t: &[u64; 641], p: Partition) -> bool
+    requires { ⌜ p .0 < 16 ⌝ }
+    ensures { λ r. ⌜ r ≡ wordTest (now (t .entry)) (p .0) 5 ⌝ }
+{
+    let w = word(t, p, 5);
+    if w == 0 {
+        return true;
+    }
+    if words::regions_word::zero_bits(w) != 0 {
+        return false;
+    }
+    all_blank(words::regions_word::fields(w))
+}
+
+// S3 and S5 of slot i: a zero word, or an entry in a present structure, start < end
+fn slot_sound(t: &[u64; 641], p: Partition, i: Slot) -> bool
+    requires { ⌜ (p .0 < 16) × (i .0 < 32) ⌝ }
+    ensures { λ r. ⌜ r ≡ slotTest (now (t .entry)) (view (now (t .entry)) .k) (p .0) (i .0) ⌝ }
+{
+    let w = word(t, p, 8 + i.0);
+    if w == 0 {
+        return true;
+    }
+    if words::slot_word::zero_bits(w) != 0 {
+        return false;
+    }
+    let f = tables::read::entry(t, p, i);
+    if !f.present {
+        return false;
+    }
+    let s = tables::read::structure(t, p, i.0 / 8);
+    if !s.present {
+        return false;
+    }
+    f.start.0 < f.end.0
+}
+
+// .. of all 32
+fn slots_sound(t: &[u64; 641], p: Partition) -> bool
+    requires { ⌜ p .0 < 16 ⌝ }
+    ensures { λ r. ⌜ r ≡ all 32 (slotTest (now (t .entry)) (view (now (t .entry)) .k) (p .0)) ⌝ }
+{
+    let mut i = 0u32;
+    while i < 32 {
+        if !slot_sound(t, p, Slot(i)) {
+            return false;
+        }
+        i += 1;
+    }
+    true
+}
+
+// S3, S4 and S5: each word is looked at once
+pub fn record_sound(t: &[u64; 641], p: Partition) -> bool
+    requires { ⌜ p .0 < 16 ⌝ }
+    ensures { λ r. ⌜ r ≡ s3 (now (t .entry)) (p .0) && s4 (now (t .entry)) (view (now (t .entry)) .k) (p .0) && s5 (now (t .entry)) (view (now (t .entry)) .k) (p .0) ⌝ }
+{
+    if !header_sound(t, p) {
+        return false;
+    }
+    if !structures_sound(t, p) {
+        return false;
+    }
+    if !regions_sound(t, p) {
+        return false;
+    }
+    let blank = word(t, p, 6) | word(t, p, 7);
+    if blank != 0 {
+        return false;
+    }
+    slots_sound(t, p)
+}
