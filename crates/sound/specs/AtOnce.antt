@@ -51,7 +51,7 @@ rest-true l p h =
     (h .s9))
     (h .s10)
 
-rest-says : (l : List ℕ) (p : ℕ) → restAt l p ≡ true → Passes l p
+pub rest-says : (l : List ℕ) (p : ℕ) → restAt l p ≡ true → Passes l p
 unfolding restAt
 rest-says l p q =
     let (a, q10) = and-says _ _ q in

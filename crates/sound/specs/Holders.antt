@@ -1,12 +1,12 @@
 -- Who holds a line: root first, each the parent of the next.
-use mathlib.Core.Path.{_≡_, refl, ap, ap₂, sym, _∙_}
+use mathlib.Core.Path.{_≡_, refl, ap, ap₂, sym, subst, _∙_}
 use mathlib.Core.Bool.{Bool, true, false, cond, _&&_}
 use mathlib.Core.List.{List, [], _∷_, _++_, append-assoc}
 use lib.ListN.{length, drop, set, length-append}
 use lib.Seq.{drop-cons, set-append-seam, set-split}
 use native.Mathlib.Numerals.{add-one}
 use lib.Dec.{leb, ltb, eqb}
-use borrow.Author.Tests.{eq-eqb, ne-eqb}
+use borrow.Author.Tests.{eq-eqb, ne-eqb, lt-leb, le-leb, le-ltb, lt-ltb}
 use Prim.Native.Nat.{ℕ, zero, suc, _+_, _-_, _≤_, _<_}
 use native.Mathlib.Omega.{arith}
 use Rattle.loops.specs.Climb.{climb, climb-root, climb-lost, climb-step}
@@ -17,6 +17,7 @@ use Rattle.tables.specs.Search.{lowest, holdsAt}
 use Rattle.tables.specs.declared.Outcome.{Outcome}
 use Rattle.tables.specs.declared.Outcome.the-variants.{Done, Refused}
 use Rattle.sound.specs.Clauses.{sound}
+use Rattle.sound.specs.Whole.{sound-means}
 
 -- whom an entry is given to; 0 is nobody
 unfoldable pub givenTo : Opt Entry → ℕ
@@ -145,3 +146,67 @@ module _ (k : K) (p n : ℕ) (before : List ℕ) where
             ∙ ap (λ (hs : List ℕ). over hs before) e;
         few = omega (arith, w .few);
       }
+
+-- the holders of line l, written
+pub record Writes (k : K) (l : ℕ) (before : List ℕ) (r : ℕ) (after : List ℕ) : Type 0 where
+  pub number : r ≡ length (holdersOf k l)
+  pub bytes : after ≡ over (holdersOf k l) before
+  pub few : r ≤ 16
+
+pub writes-from : {k : K} {l p r : ℕ} {before after : List ℕ} → p ≡ deepest k l 0 15 → Trailed k p 15 before r after → Writes k l before r after
+unfolding holdersOf
+writes-from {k} {l} {p} {r} {before} {after} q w =
+    let e : trail k p 15 ≡ trail k (deepest k l 0 15) 15 = ap (λ (x : ℕ). trail k x 15) q in
+    record { number = w .number ∙ ap length e; bytes = w .bytes ∙ ap (λ (hs : List ℕ). over hs before) e; few = w .few }
+
+-- what holders promises: its outcome, and every byte of the list
+pub record Listed (t : List ℕ) (l : ℕ) (before : List ℕ) (r : Outcome) (after : List ℕ) : Type 0 where
+  pub outcome : r ≡ holdersOutcome t l (length before)
+  pub bytes : after ≡ holdersBytes t l before
+
+-- ── the exits of holders ──
+module _ {t : List ℕ} {l : ℕ} {before : List ℕ} where
+  pub listed-unsound : sound t ≡ false → Listed t l before (Refused 1) before
+  unfolding holdersOutcome holdersBytes
+  listed-unsound q = record { outcome = rw q refl; bytes = rw q refl }
+
+  pub listed-outside : sound t ≡ true → inMemory (view t .k) l ≡ false → Listed t l before (Refused 7) before
+  unfolding holdersOutcome holdersBytes
+  listed-outside q n = record { outcome = rw (q, n) refl; bytes = rw (q, n) refl }
+
+  pub listed-short : sound t ≡ true → inMemory (view t .k) l ≡ true → length before < 16 → Listed t l before (Refused 17) before
+  unfolding holdersOutcome holdersBytes
+  listed-short q n h = record { outcome = rw (q, n, lt-leb 16 (length before) h) refl; bytes = rw (q, n, lt-leb 16 (length before) h) refl }
+
+  pub listed-done : {r : ℕ} {after : List ℕ} → sound t ≡ true → inMemory (view t .k) l ≡ true → 16 ≤ length before → Writes (view t .k) l before r after → Listed t l before (Done r 0) after
+  unfolding holdersOutcome holdersBytes
+  listed-done q n h w = record {
+    outcome = rw (q, n, le-leb 16 (length before) h) (ap (λ (x : ℕ). Done x 0) (w .number));
+    bytes = rw (q, n, le-leb 16 (length before) h) (w .bytes);
+  }
+
+-- another length is not sound
+pub wrong-length : (t : List ℕ) → (length t ≡ 641 → ⊥) → sound t ≡ false
+wrong-length t h = go (sound t) refl
+  where
+    go : (b : Bool) → sound t ≡ b → b ≡ false
+    go true q = absurd (h (sound-means t .0 q .size))
+    go false q = refl
+
+-- a line below base, a line from end on, a line between
+module _ (k : K) (l : ℕ) where
+  pub below-base : l < k .base → inMemory k l ≡ false
+  unfolding inMemory
+  below-base h = rw (lt-leb (k .base) l h) refl
+
+  pub from-end : k .base ≤ l → k .stop ≤ l → inMemory k l ≡ false
+  unfolding inMemory
+  from-end h g = rw (le-leb (k .base) l h, le-ltb l (k .stop) g) refl
+
+  pub in-memory : k .base ≤ l → l < k .stop → inMemory k l ≡ true
+  unfolding inMemory
+  in-memory h g = rw (le-leb (k .base) l h, lt-ltb l (k .stop) g) refl
+
+-- .. of the copy that was made of the words
+pub writes-copy : {m t : List ℕ} {l r : ℕ} {before after : List ℕ} → m ≡ t → Writes (view m .k) l before r after → Writes (view t .k) l before r after
+writes-copy {l = l} {r = r} {before = before} {after = after} e w = subst (λ (x : List ℕ). Writes (view x .k) l before r after) e w

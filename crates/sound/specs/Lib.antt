@@ -12,10 +12,12 @@ pub mod MeansRegions
 pub mod Canonical
 pub mod Core
 pub mod Properties
-pub mod Holders
 pub mod Whole
 pub mod AtOnce
 pub mod Absent
 pub mod Records
 pub mod Opening
 pub mod Backing
+pub mod Entries
+pub mod Decide
+pub mod Holders

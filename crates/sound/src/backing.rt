@@ -1,7 +1,5 @@
 ghost use mathlib.Core.Path.{_≡_};
-ghost use mathlib.Core.Bool.{not};
 ghost use Prim.Native.Nat.{_≤_, _<_};
-ghost use Rattle.loops.specs.Bit.{bitOf};
 ghost use Rattle.loops.specs.Every.{all};
 ghost use Rattle.tables.specs.View.{entryIn, view};
 ghost use Rattle.tables.specs.Gather.{eachOf, pairsOf};

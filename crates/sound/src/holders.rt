@@ -2,8 +2,10 @@ ghost use mathlib.Core.Path.{_≡_};
 ghost use Prim.Native.Nat.{_+_, _≤_, _<_};
 ghost use lib.ListN.{length};
 ghost use Rattle.tables.specs.View.{view};
-ghost use Rattle.sound.specs.Holders.{heir, deepest, Trailed};
+ghost use Rattle.sound.specs.Holders.{heir, deepest, Trailed, Listed, Writes};
+use crate::decide::is_sound;
 use tables::Found;
+use tables::Outcome;
 use words::Line;
 use words::Partition;
 
@@ -56,4 +58,40 @@ fn trail(t: &[u64; 641], p: Partition, steps: u32, list: &mut [u8]) -> usize
     let n = trail(t, h.parent, steps - 1, list);
     list[n] = p.0 as u8;
     n + 1
+}
+
+// Writes the holders of a line of memory; the list has room for all.
+fn write_holders(t: &[u64; 641], l: Line, list: &mut [u8]) -> usize
+    requires { ⌜ 16 ≤ length (now list) ⌝ }
+    ensures { λ r. ⌜ Writes (view (now (t .entry)) .k) (l .0) (now (list .entry)) r (now (list .exit)) ⌝ }
+{
+    let p = deepest_holder(t, l);
+    trail(t, p, 15, list)
+}
+
+// The partitions with an entry that holds the line: their number, and their numbers in the first bytes, root first.
+// Refused: 1 not a sound table of 641 words, 7 a line outside base to end, 17 a list under 16 bytes.
+pub fn holders(t: &[u64], line: u64, list: &mut [u8]) -> Outcome
+    ensures { λ r. ⌜ Listed (now (t .entry)) line (now (list .entry)) r (now (list .exit)) ⌝ }
+{
+    if t.len() != 641 {
+        return Outcome::Refused(1);
+    }
+    let mut a = [0u64; 641];
+    tables::copies::copy_in(t, &mut a);
+    if !is_sound(&a) {
+        return Outcome::Refused(1);
+    }
+    let f = tables::read::first(&a);
+    if line < f.base.0 as u64 {
+        return Outcome::Refused(7);
+    }
+    if line >= f.end.0 as u64 {
+        return Outcome::Refused(7);
+    }
+    if list.len() < 16 {
+        return Outcome::Refused(17);
+    }
+    let n = write_holders(&a, Line(line as u32), list);
+    Outcome::Done(n as u64, 0)
 }

@@ -3,6 +3,8 @@ ghost use Rattle.sound.specs.Clauses.{rooted};
 
 // When a table is sound, and who holds a line of it.
 pub mod backing;
+pub mod decide;
+pub mod entries;
 pub mod holders;
 pub mod opening;
 pub mod records;

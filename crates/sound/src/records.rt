@@ -4,7 +4,7 @@ ghost use Prim.Native.Nat.{_+_, _*_, _^_, _<_};
 ghost use lib.ListN.{getD};
 ghost use Rattle.loops.specs.Every.{all};
 ghost use Rattle.tables.specs.View.{nth, view};
-ghost use Rattle.sound.specs.Clauses.{isNowhere, s1, s2Root, s2, blankRegion, s3First, s3, rooted, s4, s5};
+ghost use Rattle.sound.specs.Clauses.{isNowhere, s1, s2Root, s2, blankRegion, s3First, s3, s4, s5};
 ghost use Rattle.sound.specs.Records.{wordTest, areaTest, headerTest, structureTest, slotTest};
 use crate::is_rooted;
 use words::Line;

@@ -6,14 +6,12 @@ use lib.ListN.{set}
 use Prim.Native.Nat.{ℕ, _+_, _*_, _^_, _<_}
 use native.Mathlib.Nat.{add-zero}
 use native.Mathlib.Omega.{arith}
-use Rattle.words.specs.Kind.{fieldsIn, wordOf, writing}
+use Rattle.words.specs.Kind.{fieldsIn, writing}
 use Rattle.words.specs.Words.{first, header, structure, regions, slot}
 use Rattle.words.specs.Laws.{first-range, header-range, structure-range, slot-range}
 use Rattle.words.specs.declared.Line.{Line}
 use Rattle.words.specs.declared.Partition.{Partition}
 use Rattle.words.specs.declared.Slot.{Slot}
-use Rattle.words.specs.declared.Written.{Written}
-use Rattle.words.specs.declared.Written.the-variants.{Word, Refused}
 use Rattle.words.specs.declared.first_word.FirstFields.{FirstFields}
 use Rattle.words.specs.declared.header_word.HeaderFields.{HeaderFields}
 use Rattle.words.specs.declared.regions_word.RegionsFields.{RegionsFields}

@@ -2,20 +2,20 @@
 use mathlib.Core.Path.{_≡_, refl, ap, ap₂, sym, subst, _∙_}
 use mathlib.Core.Bool.{Bool, true, false, cond}
 use mathlib.Core.List.{List}
-use mathlib.Core.Logic.{_⊎_, inl, inr, ⊎-elim}
-use lib.ListN.{length, getD, set}
+use mathlib.Core.Logic.{⊎-elim}
+use lib.ListN.{getD, set}
 use lib.Dec.{eqb, ltb}
-use borrow.Author.Tests.{ltb-true, ltb-false, lt-ltb, le-ltb, eqb-true, eqb-false, eq-eqb, ne-eqb}
-use Prim.Native.Nat.{ℕ, zero, suc, _+_, _-_, _*_, _/_, _%_, _^_, _≤_, _<_}
+use borrow.Author.Tests.{ltb-false, lt-ltb, le-ltb, eqb-true, eqb-false, ne-eqb}
+use Prim.Native.Nat.{ℕ, _+_, _-_, _*_, _/_, _%_, _^_, _<_}
 use native.Mathlib.Omega.{arith}
 use native.Mathlib.Decide.{ℕ-discrete}
 use Rattle.loops.specs.Rewrite.{each, length-tab, tab-at}
 use Rattle.words.specs.Kind.{wordOf}
 use Rattle.words.specs.Words.{first, regions}
-use Rattle.tables.specs.State.{Opt, none, some, Entry, Area, K, Table, not-none, some-inj}
+use Rattle.tables.specs.State.{Opt, none, some, Entry, Area, Table, not-none}
 use Rattle.tables.specs.Update.{upd, upd-same, upd-other, upd-from, upd1, upd1-same, upd1-other, upd1-from, row-same, row-other}
-use Rattle.tables.specs.View.{areaPlace, regionsPlace, slotPlace, view}
-use Rattle.tables.specs.Encode.{slotWord, headerWord, structureWord, regionFor, regionsWord, firstFor, partWord, wordFor, encode, Canon, Is, encode-length, at-part, canon-length, canon-at, is-canon}
+use Rattle.tables.specs.View.{areaPlace, regionsPlace, slotPlace}
+use Rattle.tables.specs.Encode.{slotWord, headerWord, structureWord, regionFor, regionsWord, firstFor, partWord, wordFor, Is, is-canon}
 use Rattle.tables.specs.Back.{Fit, is-from}
 use Rattle.tables.specs.FitView.{fit-view}
 use Rattle.tables.specs.Write.{putSlot, putHeader, putStructure, putRegion, putCurrent, clearRecord, word-at, put-word, put-part}

@@ -7,6 +7,7 @@ ghost use Rattle.tables.specs.Store.{stored};
 pub mod areas;
 pub mod bytes;
 pub mod climb;
+pub mod copies;
 pub mod read;
 pub mod regions;
 pub mod search;
