@@ -1,14 +1,14 @@
 -- What a test means, from what its parts mean.
 use mathlib.Core.Path.{_≡_, refl}
-use mathlib.Core.Bool.{Bool, true, false, cond, not, _&&_, false≢true}
-use mathlib.Core.Logic.{_↔_}
+use mathlib.Core.Bool.{Bool, true, false, cond, not, _&&_, _||_, false≢true}
+use mathlib.Core.Logic.{_⊎_, inl, inr, _↔_, ⊎-elim}
 use Prim.Native.Nat.{ℕ, _≤_, _<_}
 use lib.Dec.{leb, ltb, eqb}
 use borrow.Author.Tests.{ltb-true, lt-ltb, leb-true, le-leb, eqb-true, eq-eqb}
 use Rattle.loops.specs.Every.{all, all-at, all-of}
 use Rattle.tables.specs.State.{Opt, some}
 use Rattle.sound.specs.Clauses.{when, has}
-use Rattle.sound.specs.Tests.{and-says, and-true, not-says, not-of, when-says, when-true, has-says, has-true}
+use Rattle.sound.specs.Tests.{and-says, and-true, or-says, or-left, or-right, not-says, not-of, when-says, when-true, has-says, has-true}
 
 pub eq-means : (m n : ℕ) → (eqb m n ≡ true) ↔ (m ≡ n)
 eq-means m n = (eqb-true m n, eq-eqb m n)
@@ -21,6 +21,12 @@ le-means m n = (leb-true m n, le-leb m n)
 
 pub and-means : {a b : Bool} {A B : Type 0} → (a ≡ true) ↔ A → (b ≡ true) ↔ B → (a && b ≡ true) ↔ (A × B)
 and-means f g = (λ q. let z = and-says _ _ q in (f .0 (z .0), g .0 (z .1)), λ h. and-true _ _ (f .1 (h .0)) (g .1 (h .1)))
+
+pub or-means : {a b : Bool} {A B : Type 0} → (a ≡ true) ↔ A → (b ≡ true) ↔ B → (a || b ≡ true) ↔ (A ⊎ B)
+or-means {a} {b} f g = (
+  λ q. ⊎-elim (λ z. inl (f .0 z)) (λ z. inr (g .0 z)) (or-says a b q),
+  ⊎-elim (λ z. or-left a b (f .1 z)) (λ z. or-right a b (g .1 z)),
+)
 
 pub not-means : {a : Bool} {A : Type 0} → (a ≡ true) ↔ A → (not a ≡ true) ↔ (A → ⊥)
 not-means f = (λ q h. not-says _ q (f .1 h), λ n. not-of _ (λ q. n (f .0 q)))

@@ -23,7 +23,7 @@ use Rattle.sound.specs.Tests.{and-says, and-true, then-says, then-true, 
 use Rattle.sound.specs.Opens.{open-clear}
 
 -- ── S9 ──
-beq-means : (a b : Bool) → (Bool·beq a b ≡ true) ↔ (a ≡ b)
+pub beq-means : (a b : Bool) → (Bool·beq a b ≡ true) ↔ (a ≡ b)
 beq-means true true = (λ q. refl, λ e. refl)
 beq-means true false = (λ q. absurd (false≢true q), λ e. sym e)
 beq-means false true = (λ q. absurd (false≢true q), λ e. e)

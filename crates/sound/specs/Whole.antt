@@ -1,25 +1,25 @@
--- Exactly the sound tables pass; and a canonical list whose table is right is sound.
+-- Exactly the sound tables pass; and canonical words are sound exactly where their table is right.
 use mathlib.Core.Path.{_≡_}
-use mathlib.Core.Bool.{true}
+use mathlib.Core.Bool.{true, false}
 use mathlib.Core.Logic.{_↔_}
 use mathlib.Core.List.{List}
-use Prim.Native.Nat.{ℕ}
+use Prim.Native.Nat.{ℕ, _+_, _/_, _^_, _<_}
 use lib.ListN.{length}
 use borrow.Author.Tests.{eqb-true, eq-eqb}
-use Rattle.tables.specs.State.{none, Table}
+use Rattle.tables.specs.State.{none, some, Table, none-of, not-none}
 use Rattle.tables.specs.View.{view}
 use Rattle.tables.specs.Encode.{Canon, canon-length}
-use Rattle.tables.specs.FitView.{zero-slot}
+use Rattle.tables.specs.FitView.{zero-slot, fit-view}
 use Rattle.sound.specs.Sound.{Sound, S9, S10}
 use Rattle.sound.specs.Clauses.{sound, s1, s2, s3, s4, s5, s6, s7, s8, s9, s10, s11}
-use Rattle.sound.specs.Tests.{and-says, and-true}
+use Rattle.sound.specs.Tests.{and-says, and-true, slot-range, region-range}
 use Rattle.sound.specs.Means.{all-means}
 use Rattle.sound.specs.MeansWords.{s1-means, s2-means, s3-first-means, s3-means, s4-means, s5-means}
 use Rattle.sound.specs.MeansEntries.{s6-means, s7-means}
 use Rattle.sound.specs.MeansAreas.{s8-means}
 use Rattle.sound.specs.MeansRegions.{s9-means, s10-means, s11-means}
 use Rattle.sound.specs.Canonical.{canon-s3-first, canon-s3, canon-structure, canon-absent, Nothing}
-use Rattle.sound.specs.Core.{Core, core-sound}
+use Rattle.sound.specs.Core.{Core, core-sound, sound-core}
 
 module _ (l : List ℕ) where
   to : sound l ≡ true → Sound l
@@ -85,13 +85,41 @@ module _ (l : List ℕ) where
   pub sound-means : (sound l ≡ true) ↔ Sound l
   sound-means = (to, back)
 
--- what the theory keeps of a table, apart from its words
+-- what the theory keeps of a table, apart from its words: its end is a line, what is empty is closed, and it has eight regions
 pub record Right (t : Table) : Type 0 where
   pub core : Core (t .k)
-  pub nothing : (p : ℕ) → t .k .area p 0 ≡ none → Nothing t p
+  pub stop : t .k .stop < 2 ^ 27
+  pub closed : (p i : ℕ) → t .k .slot p i ≡ none → t .opened p i ≡ false
+  pub eight : (p r i : ℕ) → t .region p r ≡ some i → r < 8
   pub s9 : (p : ℕ) → S9 t p
   pub s10 : (p : ℕ) → S10 t p
 
+-- a sound table is right ..
+pub sound-right : {l : List ℕ} → Canon l → Sound l → Right (view l)
+sound-right {l} c h = record {
+  core = sound-core l h;
+  stop = fit-view c .stop;
+  closed = fit-view c .closed;
+  eight = λ p r i u. region-range l p r i u .1;
+  s9 = λ p i e u. h .s9 p (slot-range l p i e u .0) i e u;
+  s10 = λ p. record {
+    names = λ r i u. h .s10 p (region-range l p r i u .0) .names r i u;
+    once = λ r q i u. h .s10 p (region-range l p r i u .0) .once r q i u;
+  };
+}
+
+-- an absent partition has nothing
+nothing : {t : Table} → Right t → (p : ℕ) → t .k .area p 0 ≡ none → Nothing t p
+nothing {t} h p z =
+    let area : (j : ℕ) → t .k .area p j ≡ none = λ j. none-of (t .k .area p j) (λ a u. not-none (t .k .area p 0) z (h .core .s2-absent p j a u .1)) in
+    let slot : (i : ℕ) → t .k .slot p i ≡ none = λ i. none-of (t .k .slot p i) (λ e u. let (a, v) = h .core .s5 p i e u in not-none (t .k .area p (1 + i / 8)) (area (1 + i / 8)) v) in
+    record {
+      area = area;
+      slot = slot;
+      region = λ r. none-of (t .region p r) (λ i u. let ((e, v), _) = h .s10 p .names r i u in not-none (t .k .slot p i) (slot i) v);
+    }
+
+-- .. and canonical words whose table is right are sound
 pub right-sound : {l : List ℕ} → Canon l → Right (view l) → Sound l
 right-sound {l} c h =
     let g = core-sound (h .core) in
@@ -99,7 +127,7 @@ right-sound {l} c h =
       size = canon-length c;
       s1 = g .s1;
       s2 = λ p b. record {
-        absent = λ u o d. canon-absent c p b (h .nothing p u) o d;
+        absent = λ u o d. canon-absent c p b (nothing h p u) o d;
         root = g .s2-root p;
         parent = g .s2-parent p;
         area = g .s2-area p;

@@ -1,0 +1,139 @@
+-- THE THEOREMS, over words: after boot and after any list of calls, done or refused, the table is sound, so the four properties hold.
+use mathlib.Core.Path.{_≡_, refl, ap, _∙_}
+use mathlib.Core.Bool.{Bool, true, false, cond}
+use mathlib.Core.List.{List, [], _∷_}
+use mathlib.Core.Logic.{_⊎_, inl, inr}
+use Prim.Native.Nat.{ℕ, _^_, _<_}
+use lib.Dec.{eqb}
+use lib.ListN.{getD}
+use Rattle.words.specs.Kind.{fieldsIn}
+use Rattle.words.specs.Parts.{clean}
+use Rattle.words.specs.Words.{call}
+use Rattle.words.specs.declared.call_word.CallFields.{CallFields}
+use Rattle.tables.specs.State.{Table}
+use Rattle.tables.specs.View.{view}
+use Rattle.tables.specs.Encode.{encode, Canon}
+use Rattle.sound.specs.Sound.{Sound}
+use Rattle.sound.specs.Clauses.{sound}
+use Rattle.sound.specs.Canonical.{sound-canon}
+use Rattle.sound.specs.Properties.{Isolated, sound-isolated}
+use Rattle.sound.specs.Whole.{Right, sound-means, sound-right}
+use Rattle.services.specs.Rules.{Result, done, refused, check, serve, serveRead, callOn, bootOn, wordsAfter}
+use Rattle.isolation.specs.Fits.{Good, right-good}
+use Rattle.isolation.specs.Ladder.{not-done}
+use Rattle.isolation.specs.Create.{create-right}
+use Rattle.isolation.specs.Delete.{delete-right}
+use Rattle.isolation.specs.Prepare.{prepare-right}
+use Rattle.isolation.specs.Collect.{collect-right}
+use Rattle.isolation.specs.Give.{give-right}
+use Rattle.isolation.specs.Take.{take-right}
+use Rattle.isolation.specs.Cut.{cut-right}
+use Rattle.isolation.specs.Merge.{merge-right}
+use Rattle.isolation.specs.Regions.{load-right, unload-right, readRegion-same}
+use Rattle.isolation.specs.Find.{find-same}
+use Rattle.isolation.specs.Switch.{switch-right}
+use Rattle.isolation.specs.Boot.{boot-right}
+
+-- ── one call ──
+passed : (a : Bool) {x : Result} {v w : ℕ} {t′ : Table} → check 2 a x ≡ done v w t′ → x ≡ done v w t′
+unfolding check
+passed true z = z
+passed false z = not-done z
+
+-- a service of serve's list, or the rest of it
+service : {C : Type 0} (b a : Bool) {x y : Result} {v w : ℕ} {t′ : Table} → cond b (check 2 a x) y ≡ done v w t′ → (x ≡ done v w t′ → C) → (y ≡ done v w t′ → C) → C
+service true a z f g = f (passed a z)
+service false a z f g = g z
+
+-- each service keeps a table right
+pub serve-right : {t : Table} → Right t → (f : CallFields) {v w : ℕ} {t′ : Table} → serve t f ≡ done v w t′ → Right t′
+unfolding serve
+serve-right h f z =
+    let n = f .service in
+    let p = f .partition .0 in
+    let s = f .slot .0 in
+    let u = f .other in
+    let l = f .line .0 in
+    service (eqb n 1) _ z (create-right h s) λ z.
+    service (eqb n 2) _ z (delete-right h p) λ z.
+    service (eqb n 3) _ z (prepare-right h p s) λ z.
+    service (eqb n 4) _ z (collect-right h p u) λ z.
+    service (eqb n 5) _ z (give-right h p s (f .rights)) λ z.
+    service (eqb n 6) _ z (take-right h s) λ z.
+    service (eqb n 7) _ z (cut-right h s l) λ z.
+    service (eqb n 8) _ z (merge-right h s u) λ z.
+    service (eqb n 9) _ z (load-right h p s u) λ z.
+    service (eqb n 10) _ z (unload-right h p u) λ z.
+    service (eqb n 11) _ z (λ z. rw (readRegion-same h p u z) h) λ z.
+    service (eqb n 12) _ z (λ z. rw (find-same h p l z) h) λ z.
+    service (eqb n 13) _ z (switch-right h p) λ z.
+    not-done z
+
+-- services 11 and 12, read region and find
+abbrev pub Reads : CallFields → Type 0
+Reads f = (f .service ≡ 11) ⊎ (f .service ≡ 12)
+
+-- .. change nothing
+pub serve-same : {t : Table} → Right t → (f : CallFields) → Reads f → {v w : ℕ} {t′ : Table} → serve t f ≡ done v w t′ → t′ ≡ t
+unfolding serve
+serve-same h f (inl e) z = readRegion-same h (f .partition .0) (f .other) (passed _ (rw e at z))
+serve-same h f (inr e) z = find-same h (f .partition .0) (f .line .0) (passed _ (rw e at z))
+
+module _ (l : List ℕ) (w : ℕ) (small : (n : ℕ) → getD l n 0 < 2 ^ 64) where
+  -- what is done was asked of a sound table, which the words are those of
+  served : {v x : ℕ} {t′ : Table} → callOn l w ≡ done v x t′ → Canon l × Right (view l) × (serve (view l) (fieldsIn call w) ≡ done v x t′)
+  unfolding callOn serveRead call
+  served {v} {x} {t′} = go (sound l) (clean (call .parts) w) refl
+    where
+      go : (b a : Bool) → sound l ≡ b → cond b (serveRead (view l) (cond a (call .fields (fieldsIn call w)) (call .refused 2))) (refused 1) ≡ done v x t′
+          → Canon l × Right (view l) × (serve (view l) (fieldsIn call w) ≡ done v x t′)
+      go true true q z = let s = sound-means l .0 q in let c = sound-canon small s in (c, sound-right c s, z)
+      go true false q z = not-done z
+      go false a q z = not-done z
+
+  pub call-right : {v x : ℕ} {t′ : Table} → callOn l w ≡ done v x t′ → Right t′
+  call-right z = let (_, h, y) = served z in serve-right h (fieldsIn call w) y
+
+  pub call-sound : {v x : ℕ} {t′ : Table} → callOn l w ≡ done v x t′ → Sound (encode t′)
+  call-sound z = right-good (call-right z) .sound
+
+  -- a call that reads changes no word
+  pub reads-same : Reads (fieldsIn call w) → {v x : ℕ} {t′ : Table} → callOn l w ≡ done v x t′ → encode t′ ≡ l
+  reads-same e z = let (c, h, y) = served z in ap encode (serve-same h (fieldsIn call w) e y) ∙ c .same
+
+-- a refused call leaves the words as they were
+pub refused-same : (l : List ℕ) (w : ℕ) {n : ℕ} → callOn l w ≡ refused n → wordsAfter l (callOn l w) ≡ l
+unfolding wordsAfter
+refused-same l w z = rw z refl
+
+pub boot-sound : (l : List ℕ) (base end : ℕ) {v x : ℕ} {t′ : Table} → bootOn l base end ≡ done v x t′ → Sound (encode t′)
+boot-sound l base end z = right-good (boot-right l base end z) .sound
+
+-- ── any list of calls ──
+-- the words after the calls of these words, in order
+unfoldable pub afterAll : List ℕ → List ℕ → List ℕ
+afterAll l [] = l
+afterAll l (w ∷ ws) = afterAll (wordsAfter l (callOn l w)) ws
+
+pub after-good : {l : List ℕ} → Good l → (ws : List ℕ) → Good (afterAll l ws)
+unfolding afterAll wordsAfter
+after-good g [] = g
+after-good {l} g (w ∷ ws) = after-good (one (callOn l w) refl) ws
+  where
+    one : (r : Result) → callOn l w ≡ r → Good (wordsAfter l r)
+    one (done v x t′) z = right-good (call-right l w (g .small) z)
+    one (refused n) z = g
+
+module _ (l ws : List ℕ) (small : (n : ℕ) → getD l n 0 < 2 ^ 64) (s : Sound l) where
+  pub after-sound : Sound (afterAll l ws)
+  after-sound = after-good (record { small = small; sound = s }) ws .sound
+
+  pub after-isolated : Isolated (view (afterAll l ws))
+  after-isolated = sound-isolated (afterAll l ws) after-sound
+
+module _ (l ws : List ℕ) (base end : ℕ) {v x : ℕ} {t′ : Table} (z : bootOn l base end ≡ done v x t′) where
+  pub from-boot-sound : Sound (afterAll (encode t′) ws)
+  from-boot-sound = after-good (right-good (boot-right l base end z)) ws .sound
+
+  pub from-boot-isolated : Isolated (view (afterAll (encode t′) ws))
+  from-boot-isolated = sound-isolated (afterAll (encode t′) ws) from-boot-sound

@@ -1,0 +1,301 @@
+-- The rules of boot and of the thirteen services, in 01's order and words: the checks with their numbers, then the effect and the values.
+use mathlib.Core.Bool.{Bool, true, false, cond, not, _&&_, _||_, Bool·beq}
+use mathlib.Core.List.{List}
+use Prim.Native.Nat.{ℕ, _+_, _*_, _/_, _^_}
+use lib.ListN.{length}
+use lib.Dec.{leb, ltb, eqb}
+use Rattle.loops.specs.Every.{any, all}
+use Rattle.words.specs.Kind.{reading}
+use Rattle.words.specs.Words.{call}
+use Rattle.words.specs.declared.Rights.{Rights}
+use Rattle.words.specs.declared.call_word.CallFields.{CallFields}
+use Rattle.words.specs.declared.call_word.CallRead.{CallRead}
+use Rattle.words.specs.declared.call_word.CallRead.the-variants.{Fields, Refused}
+use Rattle.tables.specs.State.{Opt, none, some, Entry, Area, nowhere, K, Table}
+use Rattle.tables.specs.Update.{upd, upd1}
+use Rattle.tables.specs.View.{view}
+use Rattle.tables.specs.Encode.{encode, slotWord}
+use Rattle.tables.specs.Write.{withSlot, withArea, withCurrent}
+use Rattle.tables.specs.Search.{lowest, isSome, child, hasChild, absentChild, noStructure, free, holdsAt}
+use Rattle.tables.specs.Settle.{settle}
+use Rattle.sound.specs.Sound.{allRights}
+use Rattle.sound.specs.Clauses.{sound, has, within, grants}
+
+-- done with its two values and the table after it, or refused with its number
+pub data Result : Type 0 where
+  done : ℕ → ℕ → Table → Result
+  refused : ℕ → Result
+
+-- the next check, with its number
+unfoldable pub check : ℕ → Bool → Result → Result
+check n true r = r
+check n false r = refused n
+
+-- the next check, that there is a value, with its number
+unfoldable pub need : {A : Type 0} → ℕ → Opt A → (A → Result) → Result
+need n none f = refused n
+need n (some a) f = f a
+
+-- ── words of 01 ──
+-- P is the caller or a child of it
+unfoldable pub ownOrChild : K → ℕ → Bool
+ownOrChild k p = eqb p (k .current) || child k (k .current) p
+
+-- P is the caller's parent (the root has none) or a child of it
+unfoldable pub parentOrChild : K → ℕ → Bool
+parentOrChild k p = (not (eqb (k .current) 0) && eqb p (k .parent (k .current))) || child k (k .current) p
+
+-- slot S of the caller: 4 no entry, 5 not open, 6 given
+unfoldable pub freeEntry : Table → ℕ → (Entry → Result) → Result
+freeEntry t s f =
+    need 4 (t .k .slot (t .k .current) s) λ e.
+    check 5 (t .opened (t .k .current) s)
+    (check 6 (eqb (e .given) 0)
+    (f e))
+
+-- 16 lines or more
+unfoldable pub long : Entry → Bool
+long e = leb (e .start + 16) (e .stop)
+
+abbrev pub areaOf : Entry → Area
+areaOf e = record { lo = e .start; hi = e .stop }
+
+abbrev pub endingAt : Entry → ℕ → Entry
+endingAt e l = record { start = e .start; stop = l; given = e .given; rights = e .rights }
+
+abbrev pub startingAt : Entry → ℕ → Entry
+startingAt e l = record { start = l; stop = e .stop; given = e .given; rights = e .rights }
+
+abbrev pub givenTo : Entry → ℕ → Entry
+givenTo e p = record { start = e .start; stop = e .stop; given = p; rights = e .rights }
+
+-- the range of an entry, with rights R, not given
+abbrev pub rangeOf : Entry → Rights → Entry
+rangeOf e r = record { start = e .start; stop = e .stop; given = 0; rights = r }
+
+abbrev pub setSlot : K → ℕ → ℕ → Opt Entry → K
+setSlot k p i x = withSlot k (upd (k .slot) p i x)
+
+-- ── 1 create: S; 4 5 6 8 9; lowest absent number becomes a child with area = entry S; child, 0 ──
+abbrev pub createK : K → ℕ → Entry → K
+createK k n e = withArea k (upd1 (k .parent) n (k .current)) (upd (k .area) n 0 (some (areaOf e)))
+
+unfoldable pub create : Table → ℕ → Result
+create t s =
+    freeEntry t s λ e.
+    need 8 (lowest 16 (absentChild (t .k))) λ n.
+    check 9 (long e)
+    (done n 0 (settle (createK (t .k) n e) (t .region)))
+
+-- ── 2 delete: P a child; 3 15; caller's given = P become 0, record P zero; 0, 0 ──
+unfoldable pub ungive : ℕ → Opt Entry → Opt Entry
+ungive p none = none
+ungive p (some e) = some (cond (eqb (e .given) p) (givenTo e 0) e)
+
+abbrev pub deleteK : K → ℕ → K
+deleteK k p = record {
+  base = k .base;
+  stop = k .stop;
+  current = k .current;
+  parent = upd1 (k .parent) p 0;
+  area = upd1 (k .area) p (λ j. none);
+  slot = upd1 (upd1 (k .slot) (k .current) (λ i. ungive p (k .slot (k .current) i))) p (λ i. none);
+}
+
+unfoldable pub delete : Table → ℕ → Result
+delete t p =
+    check 3 (child (t .k) (t .k .current) p)
+    (check 15 (not (hasChild (t .k) p))
+    (done 0 0 (settle (deleteK (t .k) p) (upd1 (t .region) p (λ r. none)))))
+
+-- ── 3 prepare: P own or child, S; 3 4 5 6 8 9; lowest absent structure of P gets area = entry S; its number, 0 ──
+abbrev pub prepareK : K → ℕ → ℕ → Entry → K
+prepareK k p j e = withArea k (k .parent) (upd (k .area) p (1 + j) (some (areaOf e)))
+
+unfoldable pub prepare : Table → ℕ → ℕ → Result
+prepare t p s =
+    check 3 (ownOrChild (t .k) p)
+    (freeEntry t s λ e.
+    need 8 (lowest 4 (noStructure (t .k) p)) λ j.
+    check 9 (long e)
+    (done j 0 (settle (prepareK (t .k) p j e) (t .region))))
+
+-- ── 4 collect: P own or child, T structure; 3 4 15; structure word zero; 0, 0 ──
+abbrev pub collectK : K → ℕ → ℕ → K
+collectK k p j = withArea k (k .parent) (upd (k .area) p (1 + j) none)
+
+-- no slot of structure j of p is present
+unfoldable pub vacant : K → ℕ → ℕ → Bool
+vacant k p j = all 8 (λ i. not (isSome (k .slot p (8 * j + i))))
+
+unfoldable pub collect : Table → ℕ → ℕ → Result
+collect t p j =
+    check 3 (ownOrChild (t .k) p)
+    (check 4 (ltb j 4 && isSome (t .k .area p (1 + j)))
+    (check 15 (vacant (t .k) p j && not (eqb p 0 && eqb j 0))
+    (done 0 0 (settle (collectK (t .k) p j) (t .region)))))
+
+-- ── 5 give: P a child, S, R; 3 4 5 6 8 10; S given = P; lowest free slot of P gets the range with rights R; that slot, 0 ──
+abbrev pub giveK : K → ℕ → ℕ → ℕ → Rights → Entry → K
+giveK k p s n r e = setSlot (setSlot k (k .current) s (some (givenTo e p))) p n (some (rangeOf e r))
+
+unfoldable pub give : Table → ℕ → ℕ → Rights → Result
+give t p s r =
+    check 3 (child (t .k) (t .k .current) p)
+    (freeEntry t s λ e.
+    need 8 (lowest 32 (free (t .k) p)) λ n.
+    check 10 (within r (e .rights))
+    (done n 0 (settle (giveK (t .k) p s n r e) (t .region))))
+
+-- ── 6 take: S; 4 6 14; child's entry zero, S given = 0; 0, 0 ──
+-- slot i of the child that e is given to: an open, not-given entry of exactly that range
+unfoldable pub returned : Table → Entry → ℕ → Bool
+returned t e i = has (λ f. eqb (f .given) 0 && eqb (f .start) (e .start) && eqb (f .stop) (e .stop)) (t .k .slot (e .given) i) && t .opened (e .given) i
+
+abbrev pub takeK : K → ℕ → ℕ → Entry → K
+takeK k s i e = setSlot (setSlot k (k .current) s (some (givenTo e 0))) (e .given) i none
+
+unfoldable pub take : Table → ℕ → Result
+take t s =
+    need 4 (t .k .slot (t .k .current) s) λ e.
+    check 6 (not (eqb (e .given) 0))
+    (need 14 (lowest 32 (returned t e)) λ i.
+    done 0 0 (settle (takeK (t .k) s i e) (t .region)))
+
+-- ── 7 cut: S, L; 4 5 6 7 8; S ends at L; lowest free slot gets L to old end, same rights; that slot, 0 ──
+abbrev pub cutK : K → ℕ → ℕ → ℕ → Entry → K
+cutK k s n l e = setSlot (setSlot k (k .current) s (some (endingAt e l))) (k .current) n (some (startingAt e l))
+
+unfoldable pub cut : Table → ℕ → ℕ → Result
+cut t s l =
+    freeEntry t s λ e.
+    check 7 (ltb (e .start) l && ltb l (e .stop))
+    (need 8 (lowest 32 (free (t .k) (t .k .current))) λ n.
+    done n 0 (settle (cutK (t .k) s n l e) (t .region)))
+
+-- ── 8 merge: S, T; 4 5 6 11 12 13; S ends where T ended, T zero; 0, 0 ──
+abbrev pub mergeK : K → ℕ → ℕ → Entry → Entry → K
+mergeK k s u e f = setSlot (setSlot k (k .current) s (some (endingAt e (f .stop)))) (k .current) u none
+
+-- one entry of the caller's parent, given to the caller, contains both
+unfoldable pub oneGrant : K → Entry → Entry → Bool
+oneGrant k e f = any 32 (λ i. has (λ g. grants (k .current) e g && grants (k .current) f g) (k .slot (k .parent (k .current)) i))
+
+unfoldable pub sameRights : Rights → Rights → Bool
+sameRights a b = Bool·beq (a .read) (b .read) && Bool·beq (a .write) (b .write) && Bool·beq (a .execute) (b .execute)
+
+unfoldable pub merge : Table → ℕ → ℕ → Result
+merge t s u =
+    need 4 (t .k .slot (t .k .current) s) λ e.
+    need 4 (t .k .slot (t .k .current) u) λ f.
+    check 5 (t .opened (t .k .current) s && t .opened (t .k .current) u)
+    (check 6 (eqb (e .given) 0 && eqb (f .given) 0)
+    (check 11 (eqb (e .stop) (f .start))
+    (check 12 (eqb (t .k .current) 0 || oneGrant (t .k) e f)
+    (check 13 (sameRights (e .rights) (f .rights))
+    (done 0 0 (settle (mergeK (t .k) s u e f) (t .region)))))))
+
+-- ── 9 load: P own or child, S of P, T region; 3 4 5 16; region T names S; 0, 0 ──
+-- S is already in another region
+unfoldable pub elsewhere : Table → ℕ → ℕ → ℕ → Bool
+elsewhere t p s r = any 8 (λ q. not (eqb q r) && has (λ i. eqb i s) (t .region p q))
+
+unfoldable pub load : Table → ℕ → ℕ → ℕ → Result
+load t p s r =
+    check 3 (ownOrChild (t .k) p)
+    (need 4 (t .k .slot p s) λ e.
+    check 5 (t .opened p s)
+    (check 16 (ltb r 8 && not (elsewhere t p s r))
+    (done 0 0 (settle (t .k) (upd (t .region) p r (some s))))))
+
+-- ── 10 unload: P own or child, T; 3 16; region T zero; 0, 0 ──
+unfoldable pub unload : Table → ℕ → ℕ → Result
+unload t p r =
+    check 3 (ownOrChild (t .k) p)
+    (check 16 (ltb r 8)
+    (done 0 0 (settle (t .k) (upd (t .region) p r none))))
+
+-- ── 11 read region: P own or child, T; 3 16; 0, entry word or 0 ──
+unfoldable pub regionWord : Table → ℕ → Opt ℕ → ℕ
+regionWord t p none = 0
+regionWord t p (some i) = slotWord (t .k .slot p i) (t .opened p i)
+
+unfoldable pub readRegion : Table → ℕ → ℕ → Result
+readRegion t p r =
+    check 3 (ownOrChild (t .k) p)
+    (check 16 (ltb r 8)
+    (done 0 (regionWord t p (t .region p r)) (settle (t .k) (t .region))))
+
+-- ── 12 find: P own or child, L; 3 7; slot, entry word ──
+unfoldable pub find : Table → ℕ → ℕ → Result
+find t p l =
+    check 3 (ownOrChild (t .k) p)
+    (need 7 (lowest 32 (holdsAt (t .k) p l)) λ i.
+    done i (slotWord (t .k .slot p i) (t .opened p i)) (settle (t .k) (t .region)))
+
+-- ── 13 switch: P parent or child; 3; current = P; 0, 0 ──
+unfoldable pub switch : Table → ℕ → Result
+switch t p =
+    check 3 (parentOrChild (t .k) p)
+    (done 0 0 (settle (withCurrent (t .k) p) (t .region)))
+
+-- ── a call word ──
+unfoldable pub noRights : Rights → Bool
+noRights r = not (r .read) && not (r .write) && not (r .execute)
+
+-- 2: a field that the service doesn't use is 0. Used are P, S, T, R, L as said.
+unfoldable pub unused : Bool → Bool → Bool → Bool → Bool → CallFields → Bool
+unused p s u r l f =
+    (p || eqb (f .partition .0) 0) && (s || eqb (f .slot .0) 0) && (u || eqb (f .other) 0) && (r || noRights (f .rights)) && (l || eqb (f .line .0) 0)
+
+unfoldable pub serve : Table → CallFields → Result
+serve t f =
+    let n = f .service in
+    let p = f .partition .0 in
+    let s = f .slot .0 in
+    let u = f .other in
+    let l = f .line .0 in
+    cond (eqb n 1) (check 2 (unused false true false false false f) (create t s))
+    (cond (eqb n 2) (check 2 (unused true false false false false f) (delete t p))
+    (cond (eqb n 3) (check 2 (unused true true false false false f) (prepare t p s))
+    (cond (eqb n 4) (check 2 (unused true false true false false f) (collect t p u))
+    (cond (eqb n 5) (check 2 (unused true true false true false f) (give t p s (f .rights)))
+    (cond (eqb n 6) (check 2 (unused false true false false false f) (take t s))
+    (cond (eqb n 7) (check 2 (unused false true false false true f) (cut t s l))
+    (cond (eqb n 8) (check 2 (unused false true true false false f) (merge t s u))
+    (cond (eqb n 9) (check 2 (unused true true true false false f) (load t p s u))
+    (cond (eqb n 10) (check 2 (unused true false true false false f) (unload t p u))
+    (cond (eqb n 11) (check 2 (unused true false true false false f) (readRegion t p u))
+    (cond (eqb n 12) (check 2 (unused true false false false true f) (find t p l))
+    (cond (eqb n 13) (check 2 (unused true false false false false f) (switch t p))
+    (refused 2)))))))))))))
+
+unfoldable pub serveRead : Table → CallRead → Result
+serveRead t (Fields f) = serve t f
+serveRead t (Refused n) = refused n
+
+-- the call of a word on the words of a table: 1 first, then 2, then the service
+unfoldable pub callOn : List ℕ → ℕ → Result
+callOn l w = cond (sound l) (serveRead (view l) (reading call w)) (refused 1)
+
+-- ── boot: base and end; 1 7; whole table rewritten ──
+abbrev pub bootK : ℕ → ℕ → K
+bootK base end = record {
+  base = base;
+  stop = end;
+  current = 0;
+  parent = λ p. 0;
+  area = upd (upd (λ p j. none) 0 0 (some nowhere)) 0 1 (some nowhere);
+  slot = upd (λ p i. none) 0 0 (some (record { start = base; stop = end; given = 0; rights = allRights }));
+}
+
+unfoldable pub bootOn : List ℕ → ℕ → ℕ → Result
+bootOn l base end =
+    check 1 (eqb (length l) 641)
+    (check 7 (ltb base end && ltb base (2 ^ 27) && ltb end (2 ^ 27))
+    (done 0 0 (settle (bootK base end) (λ p r. none))))
+
+-- the words after it: those of the table after it, or, refused, as they were
+unfoldable pub wordsAfter : List ℕ → Result → List ℕ
+wordsAfter l (done v w t) = encode t
+wordsAfter l (refused n) = l
