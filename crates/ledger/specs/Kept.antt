@@ -1,0 +1,158 @@
+-- The ledger is who holds what: after boot, and after any list of calls, done or refused.
+use mathlib.Core.Path.{_≡_, refl, sym, _∙_}
+use mathlib.Core.Bool.{Bool, true, false, cond, _&&_}
+use mathlib.Core.List.{List, [], _∷_}
+use mathlib.Core.Logic.{_↔_, Iff·rfl, Iff·symm, Iff·trans}
+use Prim.Native.Nat.{ℕ}
+use lib.Dec.{eqb}
+use borrow.Author.Tests.{eqb-true}
+use Rattle.words.specs.Kind.{fieldsIn}
+use Rattle.words.specs.Parts.{clean}
+use Rattle.words.specs.Words.{call}
+use Rattle.words.specs.declared.Rights.{Rights}
+use Rattle.words.specs.declared.call_word.CallFields.{CallFields}
+use Rattle.tables.specs.State.{Opt, some, Entry, K, Table, some-inj}
+use Rattle.tables.specs.View.{view}
+use Rattle.tables.specs.Encode.{encode}
+use Rattle.tables.specs.Back.{view-encode}
+use Rattle.tables.specs.Search.{holds}
+use Rattle.tables.specs.Lines.{In, Holds}
+use Rattle.tables.specs.Settle.{settle}
+use Rattle.sound.specs.Sound.{Sound}
+use Rattle.sound.specs.Canonical.{sound-canon}
+use Rattle.sound.specs.Means.{eq-means, le-means, lt-means, and-means, or-means, not-means}
+use Rattle.sound.specs.MeansEntries.{holds-means}
+use Rattle.sound.specs.Whole.{Right, sound-means, sound-right}
+use Rattle.sound.specs.Holders.{givenTo}
+use Rattle.services.specs.Rules.{Result, done, refused, check, delete, give, take, serve, serveRead, callOn, bootOn, wordsAfter}
+use Rattle.isolation.specs.Ladder.{not-done, Ends, ends}
+use Rattle.isolation.specs.Fits.{Good, right-fit, right-good}
+use Rattle.isolation.specs.Create.{create-done, create-holds}
+use Rattle.isolation.specs.Delete.{delete-done, delete-holds}
+use Rattle.isolation.specs.Prepare.{prepare-done, prepare-holds}
+use Rattle.isolation.specs.Collect.{collect-done, collect-holds}
+use Rattle.isolation.specs.Give.{give-done, give-holds}
+use Rattle.isolation.specs.Take.{take-done, take-holds}
+use Rattle.isolation.specs.Cut.{cut-done, cut-holds}
+use Rattle.isolation.specs.Merge.{merge-done, merge-holds}
+use Rattle.isolation.specs.Regions.{load-done, unload-done, readRegion-same}
+use Rattle.isolation.specs.Find.{find-same}
+use Rattle.isolation.specs.Switch.{switch-done}
+use Rattle.isolation.specs.Boot.{boot-exact, boot-holds, boot-right}
+use Rattle.isolation.specs.Whole.{afterAll, call-right}
+use Rattle.ledger.specs.Ledger.{Ledger, opening, enter, strike, strikeAll, accepted, noted, keptOn}
+
+-- g is the ledger of a table of base to end: its partitions are those that hold the line
+pub record Keeps (base end : ℕ) (g : Ledger) (k : K) : Type 0 where
+  pub base-is : k .base ≡ base
+  pub end-is : k .stop ≡ end
+  pub holders : (p l : ℕ) → (g p l ≡ true) ↔ Holds (k .slot) p l
+
+-- ── one call ──
+-- p is c, and the entry has line l
+at-line : (c p l : ℕ) {o : Opt Entry} {e : Entry} → o ≡ some e → (eqb p c && holds l o ≡ true) ↔ ((p ≡ c) × In l e)
+at-line c p l {o} {e} u = and-means (eq-means p c) (
+  λ q. let (f, v, x) = holds-means l o .0 q in rw (some-inj (sym v ∙ u)) at x,
+  λ x. holds-means l o .1 (e, u, x),
+)
+
+-- a service of serve's list, or the rest of it
+service : {C : Type 0} (n m : ℕ) (a : Bool) {x y : Result} {v w : ℕ} {t′ : Table} → cond (eqb n m) (check 2 a x) y ≡ done v w t′
+    → (n ≡ m → x ≡ done v w t′ → C) → (y ≡ done v w t′ → C) → C
+unfolding check
+service {C} n m a {x} {y} {v} {w} {t′} z f g = go (eqb n m) a refl z
+  where
+    go : (b a : Bool) → eqb n m ≡ b → cond b (check 2 a x) y ≡ done v w t′ → C
+    go true true q z = f (eqb-true n m q) z
+    go true false q z = not-done z
+    go false a q z = g z
+
+module _ {base end : ℕ} {g : Ledger} {t : Table} (h : Right t) (s : Keeps base end g (t .k)) where
+  -- base and end stay
+  kept : {new : Ledger} {k : K} → k .base ≡ t .k .base → k .stop ≡ t .k .stop → ((p l : ℕ) → (new p l ≡ true) ↔ Holds (k .slot) p l) → Keeps base end new k
+  kept b e f = record { base-is = b ∙ s .base-is; end-is = e ∙ s .end-is; holders = f }
+
+  -- nobody is entered, nobody struck
+  quiet : {k : K} → k .base ≡ t .k .base → k .stop ≡ t .k .stop → ((p l : ℕ) → Holds (k .slot) p l ↔ Holds (t .k .slot) p l) → Keeps base end g k
+  quiet b e f = kept b e (λ p l. Iff·trans (s .holders p l) (Iff·symm (f p l)))
+
+  give-kept : (c i : ℕ) (r : Rights) {v w : ℕ} {t′ : Table} → give t c i r ≡ done v w t′ → Keeps base end (enter c (t .k .slot (t .k .current) i) g) (t′ .k)
+  unfolding enter settle
+  give-kept c i r x =
+      let (e, ok, z) = give-done h c i r x in
+      rw z (kept refl refl λ p l. Iff·trans (or-means (s .holders p l) (at-line c p l (ok .entry .at))) (Iff·symm (give-holds (h .core) ok p l)))
+
+  take-kept : (i : ℕ) {v w : ℕ} {t′ : Table} → take t i ≡ done v w t′ → let o = t .k .slot (t .k .current) i in Keeps base end (strike (givenTo o) o g) (t′ .k)
+  unfolding strike settle givenTo
+  take-kept i x =
+      let (j, e, f, ok, z) = take-done h i x in
+      let q : givenTo (t .k .slot (t .k .current) i) ≡ e .given = rw (ok .at) refl in
+      rw (z, q) (kept refl refl λ p l. Iff·trans (and-means (s .holders p l) (not-means (at-line (e .given) p l (ok .at)))) (Iff·symm (take-holds (h .core) ok p l)))
+
+  delete-kept : (c : ℕ) {v w : ℕ} {t′ : Table} → delete t c ≡ done v w t′ → Keeps base end (strikeAll c g) (t′ .k)
+  unfolding strikeAll settle
+  delete-kept c x =
+      let (ok, z) = delete-done h c x in
+      rw z (kept refl refl λ p l. Iff·trans (and-means (s .holders p l) (not-means (eq-means p c))) (Iff·symm (delete-holds (h .core) ok p l)))
+
+  -- each service, with what the ledger notes of it
+  pub serve-kept : (f : CallFields) {v w : ℕ} {t′ : Table} → serve t f ≡ done v w t′ → Keeps base end (accepted t f g) (t′ .k)
+  unfolding serve accepted settle
+  serve-kept f z =
+      let n = f .service in
+      let p = f .partition .0 in
+      let i = f .slot .0 in
+      let u = f .other in
+      let m = f .line .0 in
+      service n 1 _ z (λ y x. let (_, ok, q) = create-done h i x in rw (y, q) (quiet refl refl (create-holds (h .core) ok))) λ z.
+      service n 2 _ z (λ y x. rw y (delete-kept p x)) λ z.
+      service n 3 _ z (λ y x. let (_, ok, q) = prepare-done h p i x in rw (y, q) (quiet refl refl (prepare-holds (h .core) ok))) λ z.
+      service n 4 _ z (λ y x. let (ok, q) = collect-done h p u x in rw (y, q) (quiet refl refl (collect-holds (h .core) ok))) λ z.
+      service n 5 _ z (λ y x. rw y (give-kept p i (f .rights) x)) λ z.
+      service n 6 _ z (λ y x. rw y (take-kept i x)) λ z.
+      service n 7 _ z (λ y x. let (_, ok, q) = cut-done h i m x in rw (y, q) (quiet refl refl (cut-holds (h .core) ok))) λ z.
+      service n 8 _ z (λ y x. let (_, _, ok, q) = merge-done h i u x in rw (y, q) (quiet refl refl (merge-holds (h .core) ok))) λ z.
+      service n 9 _ z (λ y x. let (_, _, q) = load-done h p i u x in rw (y, q) s) λ z.
+      service n 10 _ z (λ y x. let (_, _, q) = unload-done h p u x in rw (y, q) s) λ z.
+      service n 11 _ z (λ y x. rw (y, readRegion-same h p u x) s) λ z.
+      service n 12 _ z (λ y x. rw (y, find-same h p m x) s) λ z.
+      service n 13 _ z (λ y x. let (_, q) = switch-done h p x in rw (y, q) (quiet refl refl (λ p l. Iff·rfl))) λ z.
+      not-done z
+
+-- ── any list of calls ──
+-- a call that is done on sound words is its service, done
+served : (l : List ℕ) (w : ℕ) {v x : ℕ} {t′ : Table} → Sound l → callOn l w ≡ done v x t′ → serve (view l) (fieldsIn call w) ≡ done v x t′
+unfolding callOn serveRead call
+served l w {v} {x} {t′} s z = go (clean (call .parts) w) (rw (sound-means l .1 s) at z)
+  where
+    go : (a : Bool) → serveRead (view l) (cond a (call .fields (fieldsIn call w)) (call .refused 2)) ≡ done v x t′ → serve (view l) (fieldsIn call w) ≡ done v x t′
+    go true z = z
+    go false z = not-done z
+
+module _ {base end : ℕ} where
+  pub after-kept : {l : List ℕ} → Good l → {g : Ledger} → Keeps base end g (view l .k) → (ws : List ℕ) → Keeps base end (keptOn l g ws) (view (afterAll l ws) .k)
+  unfolding keptOn afterAll noted wordsAfter
+  after-kept h s [] = s
+  after-kept {l} h {g} s (w ∷ ws) = let (a, b) = one (callOn l w) refl in after-kept a b ws
+    where
+      one : (r : Result) → callOn l w ≡ r → Good (wordsAfter l r) × Keeps base end (noted (view l) (fieldsIn call w) r g) (view (wordsAfter l r) .k)
+      one (done v x t′) z =
+          let q = call-right l w (h .small) z in
+          let a = sound-right (sound-canon (h .small) (h .sound)) (h .sound) in
+          (right-good q, rw (view-encode t′ (right-fit q)) (serve-kept a s (fieldsIn call w) (served l w (h .sound) z)))
+      one (refused n) z = (h, s)
+
+  boot-kept : (l : List ℕ) {v x : ℕ} {t′ : Table} → bootOn l base end ≡ done v x t′ → Keeps base end (opening base end) (t′ .k)
+  unfolding Ends opening settle
+  boot-kept l = ends (λ _ _ t′. Keeps base end (opening base end) (t′ .k)) (boot-exact l base end) (λ _ _. record {
+    base-is = refl;
+    end-is = refl;
+    holders = λ p m.
+        let q = and-means (eq-means p 0) (and-means (le-means base m) (lt-means m end)) in
+        Iff·trans q (Iff·symm (boot-holds base end p m));
+  })
+
+  -- from an accepted boot the ledger is right after any list of calls
+  pub from-boot-kept : (l : List ℕ) {v x : ℕ} {t′ : Table} → bootOn l base end ≡ done v x t′ → (ws : List ℕ)
+      → Keeps base end (keptOn (encode t′) (opening base end) ws) (view (afterAll (encode t′) ws) .k)
+  from-boot-kept l {t′ = t′} z = let q = boot-right l base end z in after-kept (right-good q) (rw (view-encode t′ (right-fit q)) (boot-kept l z))
