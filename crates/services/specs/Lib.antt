@@ -1,1 +1,4 @@
 pub mod Rules
+pub mod Ran
+pub mod Who
+pub mod Pick

@@ -1,0 +1,25 @@
+use mathlib.Core.Path.{sym, _∙_}
+use borrow.Author.Tests.{not-true, not-false}
+use Rattle.tables.specs.Search.{lowest-some}
+use Rattle.tables.specs.Answers.{found-is}
+use Rattle.services.specs.Rules.{find}
+use Rattle.services.specs.Ran.{ran-refused, ran-done, pass, fail, there, missing, second-is}
+use borrow.Author.Needs.{needs}
+use Rattle.services.proofs.looks.find.Statement.{statement}
+use Rattle.services.proofs.looks.find.Tie as tie
+
+pub find-spec : {M : Type 1} → statement M
+unfolding find
+find-spec =
+    tie.close
+    (tie.spec
+    (λ c κs. search needs)
+    (λ c. ran-refused (fail 3 _ (sym (c .before .own-or-child .ensures) ∙ not-true _ (c .if1 .taken))))
+    (λ c κs. search needs)
+    (λ c. search needs)
+    (λ c. search needs)
+    (λ c. ran-refused (pass 3 (sym (c .before .before .before .before .before .own-or-child .ensures) ∙ not-false _ (c .before .before .before .before .if1 .left)) (missing 7 _ (found-is _ (sym (c .enum-told .given .1) ∙ c .before .before .holding-slot .ensures)))))
+    (λ c κs. record { canon = c .before .before .before .before .before .before .before .before .before .pre .0; inP = c .before .before .before .before .before .before .before .before .before .pre .1; inI = lowest-some 32 _ _ (found-is _ (sym (c .before .before .found .given .1) ∙ c .before .before .before .before .holding-slot .ensures)) .below })
+    (λ c κs. c .before .before .before .before .before .before .before .before .before .before .before .pre .0)
+    (λ c. search needs)
+    (λ c. ran-done (pass 3 (sym (c .before .before .before .before .before .before .before .before .before .before .before .own-or-child .ensures) ∙ not-false _ (c .before .before .before .before .before .before .before .before .before .before .if1 .left)) (there 7 _ _ (found-is _ (sym (c .before .before .before .before .before .before .found .given .1) ∙ c .before .before .before .before .before .before .before .before .holding-slot .ensures)) (second-is (sym (c .before .before .before .entry-word .ensures))))) (c .before .settle .ensures)))

@@ -1,0 +1,16 @@
+use Rattle.services.specs.Who.{is-parent, of-root, no-parent}
+use borrow.Author.Needs.{needs}
+use Rattle.services.proofs.who.parent_or_child.Statement.{statement}
+use Rattle.services.proofs.who.parent_or_child.Tie as tie
+
+pub parent-or-child-spec : {M : Type 1} → statement M
+parent-or-child-spec =
+    tie.close
+    (tie.spec
+    (λ c κs. search needs)
+    (λ c κs. search needs)
+    (λ c. of-root _ _ (c .before .before .before .first .ensures .current) (c .before .if1 .taken) (c .is-child .ensures))
+    (λ c κs. search needs)
+    (λ c. is-parent _ _ (c .before .before .before .before .before .before .first .ensures .current) (c .before .before .before .before .if1 .left) (c .before .before .before .header .ensures .parent) (c .if2 .taken))
+    (λ c κs. search needs)
+    (λ c. no-parent _ _ (c .before .before .before .before .before .before .before .first .ensures .current) (c .before .before .before .before .before .if1 .left) (c .before .before .before .before .header .ensures .parent) (c .before .if2 .left) (c .is-child2 .ensures)))

@@ -1,0 +1,64 @@
+-- The checks 4, 5, 6 of slot S of the caller, whatever follows them.
+use mathlib.Core.Path.{_≡_, refl, ap, sym, subst, _∙_}
+use mathlib.Core.Bool.{Bool, true, false}
+use mathlib.Core.List.{List}
+use Prim.Native.Nat.{ℕ, _<_}
+use lib.Dec.{eqb}
+use borrow.Author.Tests.{eq-eqb, ne-eqb}
+use Rattle.words.specs.declared.slot_word.SlotFields.{SlotFields}
+use Rattle.tables.specs.State.{Opt, none, some, Entry}
+use Rattle.tables.specs.View.{view, entryOf, entryIn}
+use Rattle.tables.specs.Seen.{Seen}
+use Rattle.services.specs.declared.pick.Picked.{Picked}
+use Rattle.services.specs.declared.pick.Picked.the-variants.{Entry as Is, Refused as No}
+use Rattle.services.specs.Rules.{Result, refused, check, need, freeEntry}
+
+-- f is the caller's entry in slot s, open and not given, and the rule goes on with it
+pub record Free (l : List ℕ) (s : ℕ) (f : SlotFields) : Type 0 where
+  pub rule : (next : Entry → Result) → freeEntry (view l) s next ≡ next (entryOf f)
+  pub seen : Seen l (view l .k .current) s f
+  pub present : f .present ≡ true
+  pub not-given : f .given .0 ≡ 0
+
+-- the entry, or the number with which the rule ends here
+pub data Picks (l : List ℕ) (s : ℕ) : Picked → Type 0 where
+  found : {f : SlotFields} → Free l s f → Picks l s (Is f)
+  ends : {n : ℕ} → ((next : Entry → Result) → freeEntry (view l) s next ≡ refused n) → Picks l s (No n)
+
+module _ {l : List ℕ} {s c : ℕ} {f : SlotFields} (now : view l .k .current ≡ c) (v : Seen l c s f) where
+  here : Seen l (view l .k .current) s f
+  here = rw now v
+
+  pub pick-none : f .present ≡ false → Picks l s (No 4)
+  unfolding freeEntry need entryIn
+  pick-none q = ends {n = 4} (λ next. rw (here .slot, q) refl)
+
+  pub pick-closed : f .present ≡ true → f .opened ≡ false → Picks l s (No 5)
+  unfolding freeEntry need check entryIn
+  pick-closed q o = ends {n = 5} (λ next. rw (here .slot, q, here .opened, o) refl)
+
+  pub pick-given : f .present ≡ true → f .opened ≡ true → (f .given .0 ≡ 0 → ⊥) → Picks l s (No 6)
+  unfolding freeEntry need check entryIn
+  pick-given q o g = ends {n = 6} (λ next. rw (here .slot, q, here .opened, o, ne-eqb (f .given .0) 0 g) refl)
+
+  pub pick-free : f .present ≡ true → f .opened ≡ true → f .given .0 ≡ 0 → Picks l s (Is f)
+  unfolding freeEntry need check entryIn
+  pick-free q o g = found {f = f} (record {
+    rule = λ next. rw (here .slot, q, here .opened, o, eq-eqb (f .given .0) 0 g) refl;
+    seen = here;
+    present = q;
+    not-given = g;
+  })
+
+-- what a match on the answer tells
+pub picked-no : {l : List ℕ} {s n : ℕ} {r : Picked} → r ≡ No n → Picks l s r → (next : Entry → Result) → freeEntry (view l) s next ≡ refused n
+picked-no {l} {s} e p = go (subst (Picks l s) e p)
+  where
+    go : {n : ℕ} → Picks l s (No n) → (next : Entry → Result) → freeEntry (view l) s next ≡ refused n
+    go (ends h) = h
+
+pub picked-is : {l : List ℕ} {s : ℕ} {f : SlotFields} {r : Picked} → r ≡ Is f → Picks l s r → Free l s f
+picked-is {l} {s} e p = go (subst (Picks l s) e p)
+  where
+    go : {f : SlotFields} → Picks l s (Is f) → Free l s f
+    go (found h) = h

@@ -1,0 +1,41 @@
+ghost use Prim.Native.Nat.{_<_};
+ghost use Rattle.tables.specs.View.{view};
+ghost use Rattle.tables.specs.Encode.{Canon};
+ghost use Rattle.services.specs.Rules.{find, switch};
+ghost use Rattle.services.specs.Ran.{Ran};
+use crate::who::own_or_child;
+use crate::who::parent_or_child;
+use tables::Found;
+use tables::Outcome;
+use words::Line;
+use words::Partition;
+
+// 12: the slot of p that holds the line, and its word
+pub fn find(t: &mut [u64; 641], p: Partition, l: Line) -> Outcome
+    requires { ⌜ Canon (now t) × (p .0 < 16) ⌝ }
+    ensures { λ r. ⌜ Ran (find (view (now (t .entry))) (p .0) (l .0)) (now (t .entry)) r (now (t .exit)) ⌝ }
+{
+    if !own_or_child(t, p) {
+        return Outcome::Refused(3);
+    }
+    let found = tables::search::holding_slot(t, p, l);
+    let Found::At(i) = found else {
+        return Outcome::Refused(7);
+    };
+    let w = tables::read::entry_word(t, p, i);
+    tables::settle::settle(t);
+    Outcome::Done(i.0 as u64, w)
+}
+
+// 13: p is the caller from now on
+pub fn switch(t: &mut [u64; 641], p: Partition) -> Outcome
+    requires { ⌜ Canon (now t) × (p .0 < 16) ⌝ }
+    ensures { λ r. ⌜ Ran (switch (view (now (t .entry))) (p .0)) (now (t .entry)) r (now (t .exit)) ⌝ }
+{
+    if !parent_or_child(t, p) {
+        return Outcome::Refused(3);
+    }
+    tables::write::put_current(t, p);
+    tables::settle::settle(t);
+    Outcome::Done(0, 0)
+}
