@@ -1,0 +1,29 @@
+use mathlib.Core.Path.{refl, sym, _∙_}
+use borrow.Author.Tests.{not-true, not-false}
+use Rattle.tables.specs.Encode.{is-canon}
+use Rattle.tables.specs.Settled.{settled-is}
+use Rattle.services.specs.Rules.{collect}
+use Rattle.services.specs.Ran.{ran-refused, ran-done, pass, fail}
+use Rattle.services.specs.AreaExits.{no-such, structure-there, occupied, root-first, not-root-first}
+use native.Mathlib.Omega.{arith}
+use borrow.Author.Needs.{needs}
+use Rattle.services.proofs.area_services.collect.Statement.{statement}
+use Rattle.services.proofs.area_services.collect.Tie as tie
+
+pub collect-spec : {M : Type 1} → statement M
+unfolding collect
+collect-spec =
+    tie.close
+    (tie.spec
+    (λ c κs. search needs)
+    (λ c. ran-refused (fail 3 _ (sym (c .before .own-or-child .ensures) ∙ not-true _ (c .if1 .taken))))
+    (λ c. ran-refused (pass 3 (sym (c .before .before .own-or-child .ensures) ∙ not-false _ (c .before .if1 .left)) (fail 4 _ (no-such _ _ (c .if2 .taken)))))
+    (λ c κs. (c .before .before .before .before .before .pre .1, c .before .if2 .left))
+    (λ c. ran-refused (pass 3 (sym (c .before .before .before .before .before .before .own-or-child .ensures) ∙ not-false _ (c .before .before .before .before .before .if1 .left)) (fail 4 _ (structure-there (c .before .before .structure .ensures) (c .before .before .before .before .if2 .left) (not-true _ (c .if3 .taken))))))
+    (λ c κs. (c .before .before .before .before .before .before .before .before .before .pre .1, c .before .before .before .before .before .if2 .left))
+    (λ c. ran-refused (pass 3 (sym (c .before .before .before .before .before .before .before .before .before .own-or-child .ensures) ∙ not-false _ (c .before .before .before .before .before .before .before .before .if1 .left)) (pass 4 (structure-there (c .before .before .before .before .before .structure .ensures) (c .before .before .before .before .before .before .before .if2 .left) (not-false _ (c .before .before .before .if3 .left))) (fail 15 _ (occupied (c .before .before .before .before .before .before .before .before .before .before .before .args .p .0) (c .before .before .before .before .before .before .before .before .before .before .before .args .j) (sym (c .before .vacant .ensures) ∙ not-true _ (c .if4 .taken)))))))
+    (λ c. omega (arith, c .before .before .before .before .before .before .before .before .before .before .before .before .pre .1, c .before .before .before .before .before .before .before .before .if2 .left))
+    (λ c. ran-refused (pass 3 (sym (c .before .before .before .before .before .before .before .before .before .before .before .own-or-child .ensures) ∙ not-false _ (c .before .before .before .before .before .before .before .before .before .before .if1 .left)) (pass 4 (structure-there (c .before .before .before .before .before .before .before .structure .ensures) (c .before .before .before .before .before .before .before .before .before .if2 .left) (not-false _ (c .before .before .before .before .before .if3 .left))) (fail 15 _ (root-first _ _ (sym (c .before .before .before .vacant .ensures) ∙ not-false _ (c .before .before .if4 .left)) (c .if5 .taken))))))
+    (λ c κs. record { canon = c .before .before .before .before .before .before .before .before .before .before .before .before .before .before .pre .0; inP = c .before .before .before .before .before .before .before .before .before .before .before .before .before .before .pre .1; inI = c .before .before .before .before .before .before .before .before .before .before .if2 .left })
+    (λ c κs. is-canon (c .before .clear-structure .ensures))
+    (λ c. ran-done (pass 3 (sym (c .before .before .before .before .before .before .before .before .before .before .before .before .before .before .before .own-or-child .ensures) ∙ not-false _ (c .before .before .before .before .before .before .before .before .before .before .before .before .before .before .if1 .left)) (pass 4 (structure-there (c .before .before .before .before .before .before .before .before .before .before .before .structure .ensures) (c .before .before .before .before .before .before .before .before .before .before .before .before .before .if2 .left) (not-false _ (c .before .before .before .before .before .before .before .before .before .if3 .left))) (pass 15 (not-root-first _ _ (sym (c .before .before .before .before .before .before .before .vacant .ensures) ∙ not-false _ (c .before .before .before .before .before .before .if4 .left)) (c .before .before .before .before .if5 .left)) refl))) (sym (settled-is (c .before .before .clear-structure .ensures) (c .settle .ensures) .encoded))))

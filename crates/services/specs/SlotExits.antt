@@ -1,0 +1,118 @@
+-- The exits of cut and give.
+use mathlib.Core.Path.{_≡_, refl, ap, sym, subst, _∙_}
+use mathlib.Core.Bool.{Bool, true, false}
+use mathlib.Core.List.{List}
+use Prim.Native.Nat.{ℕ, _^_, _<_, _≤_}
+use borrow.Author.Tests.{lt-ltb, le-ltb}
+use Rattle.words.specs.declared.Rights.{Rights}
+use Rattle.words.specs.declared.slot_word.SlotFields.{SlotFields}
+use Rattle.tables.specs.State.{none, some, K, Table}
+use Rattle.tables.specs.View.{view, entryOf}
+use Rattle.tables.specs.Encode.{encode, Canon, Is}
+use Rattle.tables.specs.Write.{putSlot}
+use Rattle.tables.specs.Search.{lowest, child, free}
+use Rattle.tables.specs.Settle.{settled}
+use Rattle.tables.specs.Settled.{settled-is}
+use Rattle.tables.specs.declared.Outcome.the-variants.{Done, Refused}
+use Rattle.sound.specs.Clauses.{within}
+use Rattle.services.specs.Rules.{endingAt, startingAt, givenTo, rangeOf, cut, give}
+use Rattle.services.specs.Ran.{Ran, ran-refused, ran-done, pass, fail, there, missing}
+use Rattle.services.specs.Pick.{Free}
+
+-- what the writes of slot s of c ask of its entry f
+pub record CanPut (l : List ℕ) (c s : ℕ) (f : SlotFields) : Type 0 where
+  pub canon : Canon l
+  pub inP : c < 16
+  pub inI : s < 32
+  pub present : f .present ≡ true
+  pub given-small : f .given .0 < 16
+  pub start-small : f .start .0 < 2 ^ 27
+  pub end-small : f .end .0 < 2 ^ 27
+
+pub can-put : {l : List ℕ} {c s : ℕ} {f : SlotFields} → Canon l → c < 16 → s < 32 → Free l s f → CanPut l c s f
+can-put a b d h = record {
+  canon = a;
+  inP = b;
+  inI = d;
+  present = h .present;
+  given-small = h .seen .given-small;
+  start-small = h .seen .start-small;
+  end-small = h .seen .end-small;
+}
+
+-- slot s of c ends at k, and slot n of c goes on from there
+abbrev pub splitAt : Table → ℕ → ℕ → ℕ → ℕ → SlotFields → Table
+splitAt t c s n k f = putSlot (putSlot t c s (some (endingAt (entryOf f) k)) (f .opened)) c n (some (startingAt (entryOf f) k)) (f .opened)
+
+-- ── cut ──
+pub record CanCut (l : List ℕ) (s k : ℕ) (f : SlotFields) : Type 0 where
+  pub canon : Canon l
+  pub inI : s < 32
+  pub line : k < 2 ^ 27
+  pub entry : Free l s f
+
+module _ {l : List ℕ} {s k : ℕ} {f : SlotFields} (h : CanCut l s k f) where
+  pub can-split : {c : ℕ} → c < 16 → CanPut l c s f
+  can-split b = can-put (h .canon) b (h .inI) (h .entry)
+
+  pub cut-low : k ≤ f .start .0 → Ran (cut (view l) s k) l (Refused 7) l
+  unfolding cut
+  cut-low b = ran-refused (h .entry .rule _ ∙ fail 7 _ (rw (le-ltb (f .start .0) k b) refl))
+
+  pub cut-high : f .start .0 < k → f .end .0 ≤ k → Ran (cut (view l) s k) l (Refused 7) l
+  unfolding cut
+  cut-high a b = ran-refused (h .entry .rule _ ∙ fail 7 _ (rw (lt-ltb (f .start .0) k a) (le-ltb k (f .end .0) b)))
+
+  module _ {c : ℕ} (now : view l .k .current ≡ c) (low : f .start .0 < k) (high : k < f .end .0) where
+    pub cut-full : lowest 32 (free (view l .k) c) ≡ none → Ran (cut (view l) s k) l (Refused 8) l
+    unfolding cut
+    cut-full z =
+        ran-refused (h .entry .rule _ ∙ pass 7 (rw (lt-ltb (f .start .0) k low) (lt-ltb k (f .end .0) high))
+        (missing 8 _ (ap (λ (c : ℕ). lowest 32 (free (view l .k) c)) now ∙ z)))
+
+    pub cut-done : {n : ℕ} {m r : List ℕ} → lowest 32 (free (view l .k) c) ≡ some n → Is m (splitAt (view l) c s n k f) → r ≡ encode (settled (view m))
+        → Ran (cut (view l) s k) l (Done n 0) r
+    unfolding cut
+    cut-done {n} {m} z put e =
+        ran-done (h .entry .rule _ ∙ pass 7 (rw (lt-ltb (f .start .0) k low) (lt-ltb k (f .end .0) high))
+        (there 8 _ n (ap (λ (c : ℕ). lowest 32 (free (view l .k) c)) now ∙ z) refl))
+        (sym (settled-is (subst (λ (c : ℕ). Is m (splitAt (view l) c s n k f)) (sym now) put) e .encoded))
+
+-- ── give ──
+-- slot s of c is given to p, and slot n of p has its range with rights r
+abbrev pub handedTo : Table → ℕ → ℕ → ℕ → ℕ → Rights → SlotFields → Table
+handedTo t c s p n r f = putSlot (putSlot t c s (some (givenTo (entryOf f) p)) (f .opened)) p n (some (rangeOf (entryOf f) r)) (f .opened)
+
+-- p is a child of c, the caller, whose entry f in slot s is free
+pub record CanGive (l : List ℕ) (c p s : ℕ) (f : SlotFields) : Type 0 where
+  pub canon : Canon l
+  pub now : view l .k .current ≡ c
+  pub caller : c < 16
+  pub inP : p < 16
+  pub inI : s < 32
+  pub isChild : child (view l .k) c p ≡ true
+  pub entry : Free l s f
+
+-- the test of P, with the caller's number read first
+pub child-now : (k : K) (p : ℕ) {c : ℕ} {b : Bool} → k .current ≡ c → child k c p ≡ b → child k (k .current) p ≡ b
+child-now k p now e = ap (λ (c : ℕ). child k c p) now ∙ e
+
+module _ {l : List ℕ} {c p s : ℕ} {f : SlotFields} (h : CanGive l c p s f) where
+  pub can-hand : CanPut l c s f
+  can-hand = can-put (h .canon) (h .caller) (h .inI) (h .entry)
+
+  pub give-full : (r : Rights) → lowest 32 (free (view l .k) p) ≡ none → Ran (give (view l) p s r) l (Refused 8) l
+  unfolding give
+  give-full r z = ran-refused (pass 3 (child-now _ _ (h .now) (h .isChild)) (h .entry .rule _ ∙ missing 8 _ z))
+
+  module _ (r : Rights) {n : ℕ} (z : lowest 32 (free (view l .k) p) ≡ some n) where
+    pub give-more : within r (f .rights) ≡ false → Ran (give (view l) p s r) l (Refused 10) l
+    unfolding give
+    give-more w = ran-refused (pass 3 (child-now _ _ (h .now) (h .isChild)) (h .entry .rule _ ∙ there 8 _ n z (fail 10 _ w)))
+
+    pub give-done : {m o : List ℕ} → within r (f .rights) ≡ true → Is m (handedTo (view l) c s p n r f) → o ≡ encode (settled (view m))
+        → Ran (give (view l) p s r) l (Done n 0) o
+    unfolding give
+    give-done {m} w put e =
+        ran-done (pass 3 (child-now _ _ (h .now) (h .isChild)) (h .entry .rule _ ∙ there 8 _ n z (pass 10 w refl)))
+        (sym (settled-is (subst (λ (c : ℕ). Is m (handedTo (view l) c s p n r f)) (sym (h .now)) put) e .encoded))

@@ -1,0 +1,108 @@
+ghost use mathlib.Core.Path.{_≡_};
+ghost use Prim.Native.Nat.{_<_};
+ghost use Rattle.tables.specs.View.{view};
+ghost use Rattle.tables.specs.Encode.{Canon};
+ghost use Rattle.services.specs.Rules.{elsewhere, load, unload, readRegion};
+ghost use Rattle.services.specs.Ran.{Ran};
+ghost use Rattle.services.specs.RegionExits.{inAnother};
+use crate::who::own_or_child;
+use tables::Outcome;
+use words::Partition;
+use words::Slot;
+
+// region q of p is not region r, and names slot s
+fn in_another(t: &[u64; 641], p: Partition, s: Slot, r: u32, q: u32) -> bool
+    requires { ⌜ (p .0 < 16) × (q < 8) ⌝ }
+    ensures { λ b. ⌜ b ≡ inAnother (view (now (t .entry))) (p .0) (s .0) r q ⌝ }
+{
+    if q == r {
+        return false;
+    }
+    let f = tables::read::regions(t, p);
+    let x = tables::regions::nth(f, q);
+    if !x.loaded {
+        return false;
+    }
+    let i = x.slot;
+    i.0 == s.0
+}
+
+// slot s of p is in a region other than r
+fn loaded_elsewhere(t: &[u64; 641], p: Partition, s: Slot, r: u32) -> bool
+    requires { ⌜ p .0 < 16 ⌝ }
+    ensures { λ b. ⌜ b ≡ elsewhere (view (now (t .entry))) (p .0) (s .0) r ⌝ }
+{
+    let mut q = 0u32;
+    while q < 8 {
+        if in_another(t, p, s, r, q) {
+            return true;
+        }
+        q += 1;
+    }
+    false
+}
+
+// 9: region r of p names slot s
+pub fn load(t: &mut [u64; 641], p: Partition, s: Slot, r: u32) -> Outcome
+    requires { ⌜ Canon (now t) × (p .0 < 16) × (s .0 < 32) ⌝ }
+    ensures { λ o. ⌜ Ran (load (view (now (t .entry))) (p .0) (s .0) r) (now (t .entry)) o (now (t .exit)) ⌝ }
+{
+    if !own_or_child(t, p) {
+        return Outcome::Refused(3);
+    }
+    let f = tables::read::entry(t, p, s);
+    if !f.present {
+        return Outcome::Refused(4);
+    }
+    if !f.opened {
+        return Outcome::Refused(5);
+    }
+    if r > 7 {
+        return Outcome::Refused(16);
+    }
+    if loaded_elsewhere(t, p, s, r) {
+        return Outcome::Refused(16);
+    }
+    tables::write::put_region(t, p, r, s);
+    tables::settle::settle(t);
+    Outcome::Done(0, 0)
+}
+
+// 10: region r of p names nothing
+pub fn unload(t: &mut [u64; 641], p: Partition, r: u32) -> Outcome
+    requires { ⌜ Canon (now t) × (p .0 < 16) ⌝ }
+    ensures { λ o. ⌜ Ran (unload (view (now (t .entry))) (p .0) r) (now (t .entry)) o (now (t .exit)) ⌝ }
+{
+    if !own_or_child(t, p) {
+        return Outcome::Refused(3);
+    }
+    if r > 7 {
+        return Outcome::Refused(16);
+    }
+    tables::write::clear_region(t, p, r);
+    tables::settle::settle(t);
+    Outcome::Done(0, 0)
+}
+
+// 11: the word of the slot that region r of p names, or 0
+pub fn read_region(t: &mut [u64; 641], p: Partition, r: u32) -> Outcome
+    requires { ⌜ Canon (now t) × (p .0 < 16) ⌝ }
+    ensures { λ o. ⌜ Ran (readRegion (view (now (t .entry))) (p .0) r) (now (t .entry)) o (now (t .exit)) ⌝ }
+{
+    if !own_or_child(t, p) {
+        return Outcome::Refused(3);
+    }
+    if r > 7 {
+        return Outcome::Refused(16);
+    }
+    let f = tables::read::regions(t, p);
+    let x = tables::regions::nth(f, r);
+    if !x.loaded {
+        tables::settle::settle(t);
+        return Outcome::Done(0, 0);
+    }
+    let i = x.slot;
+    let w = tables::read::entry_word(t, p, i);
+    tables::settle::settle(t);
+    Outcome::Done(0, w)
+}
