@@ -5,3 +5,6 @@ pub mod Pick
 pub mod SlotExits
 pub mod AreaExits
 pub mod RegionExits
+pub mod TakeExits
+pub mod MergeExits
+pub mod DeleteExits

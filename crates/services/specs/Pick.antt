@@ -13,6 +13,10 @@ use Rattle.services.specs.declared.pick.Picked.{Picked}
 use Rattle.services.specs.declared.pick.Picked.the-variants.{Entry as Is, Refused as No}
 use Rattle.services.specs.Rules.{Result, refused, check, need, freeEntry}
 
+-- what was read of the caller, whose number was read first
+pub at-caller : {l : List ℕ} {c s : ℕ} {f : SlotFields} → view l .k .current ≡ c → Seen l c s f → Seen l (view l .k .current) s f
+at-caller now v = rw now v
+
 -- f is the caller's entry in slot s, open and not given, and the rule goes on with it
 pub record Free (l : List ℕ) (s : ℕ) (f : SlotFields) : Type 0 where
   pub rule : (next : Entry → Result) → freeEntry (view l) s next ≡ next (entryOf f)
@@ -27,7 +31,7 @@ pub data Picks (l : List ℕ) (s : ℕ) : Picked → Type 0 where
 
 module _ {l : List ℕ} {s c : ℕ} {f : SlotFields} (now : view l .k .current ≡ c) (v : Seen l c s f) where
   here : Seen l (view l .k .current) s f
-  here = rw now v
+  here = at-caller now v
 
   pub pick-none : f .present ≡ false → Picks l s (No 4)
   unfolding freeEntry need entryIn

@@ -10,6 +10,7 @@ use Rattle.tables.specs.State.{none, some, K, Table}
 use Rattle.tables.specs.View.{view, entryOf}
 use Rattle.tables.specs.Encode.{encode, Canon, Is}
 use Rattle.tables.specs.Write.{putSlot}
+use Rattle.tables.specs.Seen.{Seen}
 use Rattle.tables.specs.Search.{lowest, child, free}
 use Rattle.tables.specs.Settle.{settled}
 use Rattle.tables.specs.Settled.{settled-is}
@@ -29,15 +30,15 @@ pub record CanPut (l : List ℕ) (c s : ℕ) (f : SlotFields) : Type 0 where
   pub start-small : f .start .0 < 2 ^ 27
   pub end-small : f .end .0 < 2 ^ 27
 
-pub can-put : {l : List ℕ} {c s : ℕ} {f : SlotFields} → Canon l → c < 16 → s < 32 → Free l s f → CanPut l c s f
-can-put a b d h = record {
+pub can-put : {l : List ℕ} {c p s : ℕ} {f : SlotFields} → Canon l → c < 16 → s < 32 → Seen l p s f → f .present ≡ true → CanPut l c s f
+can-put a b d v q = record {
   canon = a;
   inP = b;
   inI = d;
-  present = h .present;
-  given-small = h .seen .given-small;
-  start-small = h .seen .start-small;
-  end-small = h .seen .end-small;
+  present = q;
+  given-small = v .given-small;
+  start-small = v .start-small;
+  end-small = v .end-small;
 }
 
 -- slot s of c ends at k, and slot n of c goes on from there
@@ -53,7 +54,7 @@ pub record CanCut (l : List ℕ) (s k : ℕ) (f : SlotFields) : Type 0 where
 
 module _ {l : List ℕ} {s k : ℕ} {f : SlotFields} (h : CanCut l s k f) where
   pub can-split : {c : ℕ} → c < 16 → CanPut l c s f
-  can-split b = can-put (h .canon) b (h .inI) (h .entry)
+  can-split b = can-put (h .canon) b (h .inI) (h .entry .seen) (h .entry .present)
 
   pub cut-low : k ≤ f .start .0 → Ran (cut (view l) s k) l (Refused 7) l
   unfolding cut
@@ -99,7 +100,7 @@ child-now k p now e = ap (λ (c : ℕ). child k c p) now ∙ e
 
 module _ {l : List ℕ} {c p s : ℕ} {f : SlotFields} (h : CanGive l c p s f) where
   pub can-hand : CanPut l c s f
-  can-hand = can-put (h .canon) (h .caller) (h .inI) (h .entry)
+  can-hand = can-put (h .canon) (h .caller) (h .inI) (h .entry .seen) (h .entry .present)
 
   pub give-full : (r : Rights) → lowest 32 (free (view l .k) p) ≡ none → Ran (give (view l) p s r) l (Refused 8) l
   unfolding give

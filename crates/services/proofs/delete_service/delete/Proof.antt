@@ -1,0 +1,25 @@
+use mathlib.Core.Path.{sym, _∙_}
+use borrow.Author.Tests.{not-true, not-false}
+use Rattle.tables.specs.Encode.{is-canon}
+use Rattle.services.specs.Rules.{delete}
+use Rattle.services.specs.Ran.{ran-refused, fail}
+use Rattle.services.specs.SlotExits.{child-now}
+use Rattle.services.specs.DeleteExits.{delete-parent, delete-done}
+use borrow.Author.Needs.{needs}
+use Rattle.services.proofs.delete_service.delete.Statement.{statement}
+use Rattle.services.proofs.delete_service.delete.Tie as tie
+
+pub delete-spec : {M : Type 1} → statement M
+unfolding delete
+delete-spec =
+    tie.close
+    (tie.spec
+    (λ c κs. search needs)
+    (λ c κs. c .before .before .before .before .pre .1)
+    (λ c. ran-refused (fail 3 _ (child-now _ _ (c .before .before .before .before .first .ensures .current) (sym (c .before .is-child .ensures) ∙ not-true _ (c .if1 .taken)))))
+    (λ c κs. search needs)
+    (λ c. delete-parent _ (c .before .before .before .before .before .before .before .first .ensures .current) (sym (c .before .before .before .before .is-child .ensures) ∙ not-false _ (c .before .before .before .if1 .left)) (sym (c .before .has-child .ensures) ∙ c .if2 .taken))
+    (λ c κs. (c .before .before .before .before .before .before .before .before .before .before .pre .0, c .before .before .before .before .before .before .before .before .first .ensures .current-small))
+    (λ c κs. record { canon = is-canon (c .before .ungive .ensures); inP = c .before .before .before .before .before .before .before .before .before .before .before .before .pre .1 })
+    (λ c κs. is-canon (c .before .clear-record .ensures))
+    (λ c. delete-done _ (c .before .before .before .before .before .before .before .before .before .before .before .before .before .first .ensures .current) (sym (c .before .before .before .before .before .before .before .before .before .before .is-child .ensures) ∙ not-false _ (c .before .before .before .before .before .before .before .before .before .if1 .left)) (sym (c .before .before .before .before .before .before .before .has-child .ensures) ∙ c .before .before .before .before .before .before .if2 .left) (c .before .before .before .before .ungive .ensures) (c .before .before .clear-record .ensures) (c .settle .ensures)))

@@ -1,0 +1,131 @@
+-- The exits of merge.
+use mathlib.Core.Path.{_≡_, refl, ap, sym, subst, _∙_}
+use mathlib.Core.Bool.{Bool, true, false, _&&_, _||_, Bool·beq}
+use mathlib.Core.List.{List}
+use Prim.Native.Nat.{ℕ, _<_}
+use lib.Dec.{eqb}
+use borrow.Author.Tests.{eq-eqb, ne-eqb}
+use Rattle.loops.specs.Every.{any}
+use Rattle.words.specs.declared.slot_word.SlotFields.{SlotFields}
+use Rattle.tables.specs.State.{Opt, none, some, Entry, K, Table}
+use Rattle.tables.specs.View.{view, entryOf}
+use Rattle.tables.specs.Encode.{encode, Canon, Is}
+use Rattle.tables.specs.Write.{putSlot}
+use Rattle.tables.specs.Seen.{Seen}
+use Rattle.tables.specs.Settle.{settle, settled}
+use Rattle.tables.specs.Settled.{settled-is}
+use Rattle.tables.specs.declared.Outcome.the-variants.{Done, Refused}
+use Rattle.sound.specs.Clauses.{has, grants}
+use Rattle.services.specs.Rules.{Result, done, refused, check, endingAt, mergeK, oneGrant, sameRights, merge}
+use Rattle.services.specs.Ran.{Ran, ran-refused, ran-done, pass, fail, there, missing}
+use Rattle.services.specs.Pick.{at-caller}
+use Rattle.services.specs.RegionExits.{entry-none, entry-there}
+
+pub both-true : (b : Bool) → b ≡ Bool·beq true b
+both-true true = refl
+both-true false = refl
+
+-- an entry given to c that contains both
+unfoldable pub containsBoth : ℕ → Entry → Entry → Opt Entry → Bool
+containsBoth c e f = has (λ g. grants c e g && grants c f g)
+
+-- check 12
+unfoldable pub mayJoin : K → ℕ → Entry → Entry → Bool
+mayJoin k c e f = eqb c 0 || any 32 (λ i. containsBoth c e f (k .slot (k .parent c) i))
+
+pub joins-root : (k : K) (c : ℕ) (e f : Entry) → c ≡ 0 → true ≡ mayJoin k c e f
+unfolding mayJoin
+joins-root k c e f z = rw (eq-eqb c 0 z) refl
+
+pub joins-granted : (k : K) (c : ℕ) (e f : Entry) {q : ℕ} {b : Bool} → (c ≡ 0 → ⊥) → k .parent c ≡ q → b ≡ any 32 (λ i. containsBoth c e f (k .slot q i)) → b ≡ mayJoin k c e f
+unfolding mayJoin
+joins-granted k c e f {b = b} z w x = rw (ne-eqb c 0 z) (subst (λ (q : ℕ). b ≡ any 32 (λ i. containsBoth c e f (k .slot q i))) (sym w) x)
+
+-- slot s of c ends where f ended, and slot u of c is free
+abbrev pub joinedAt : Table → ℕ → ℕ → ℕ → SlotFields → SlotFields → Table
+joinedAt t c s u e f = putSlot (putSlot t c s (some (endingAt (entryOf e) (f .end .0))) (e .opened)) c u none false
+
+pub merge-none : {l : List ℕ} {c s : ℕ} (u : ℕ) {e : SlotFields} → view l .k .current ≡ c → Seen l c s e → e .present ≡ false → merge (view l) s u ≡ refused 4
+unfolding merge
+merge-none u now v q = missing 4 _ (entry-none (at-caller now v) q)
+
+pub merge-other-none : {l : List ℕ} {c s u : ℕ} {e f : SlotFields} → view l .k .current ≡ c → Seen l c s e → e .present ≡ true → Seen l c u f → f .present ≡ false
+    → merge (view l) s u ≡ refused 4
+unfolding merge
+merge-other-none now v p w q = there 4 _ _ (entry-there (at-caller now v) p) (missing 4 _ (entry-none (at-caller now w) q))
+
+-- e and f are the entries in slots s and u of the caller c
+pub record CanMerge (l : List ℕ) (c s u : ℕ) (e f : SlotFields) : Type 0 where
+  pub canon : Canon l
+  pub now : view l .k .current ≡ c
+  pub caller : c < 16
+  pub inI : s < 32
+  pub inU : u < 32
+  pub first : Seen l c s e
+  pub first-there : e .present ≡ true
+  pub second : Seen l c u f
+  pub second-there : f .present ≡ true
+
+module _ {l : List ℕ} {c s u : ℕ} {e f : SlotFields} (h : CanMerge l c s u e f) where
+  e-now : Seen l (view l .k .current) s e
+  e-now = at-caller (h .now) (h .first)
+
+  f-now : Seen l (view l .k .current) u f
+  f-now = at-caller (h .now) (h .second)
+
+  abbrev after : Result
+  after = done 0 0 (settle (mergeK (view l .k) s u (entryOf e) (entryOf f)) (view l .region))
+
+  from-5 : {x : Result} → check 5 (view l .opened (view l .k .current) s && view l .opened (view l .k .current) u) (check 6 (eqb (e .given .0) 0 && eqb (f .given .0) 0)
+      (check 11 (eqb (e .end .0) (f .start .0)) (check 12 (eqb (view l .k .current) 0 || oneGrant (view l .k) (entryOf e) (entryOf f)) (check 13 (sameRights (e .rights) (f .rights)) after)))) ≡ x
+      → merge (view l) s u ≡ x
+  unfolding merge
+  from-5 q = there 4 _ _ (entry-there e-now (h .first-there)) (there 4 _ _ (entry-there f-now (h .second-there)) q)
+
+  pub merge-closed : e .opened ≡ false → merge (view l) s u ≡ refused 5
+  merge-closed q = from-5 (fail 5 _ (rw (e-now .opened, q) refl))
+
+  pub merge-other-closed : e .opened ≡ true → f .opened ≡ false → merge (view l) s u ≡ refused 5
+  merge-other-closed a q = from-5 (fail 5 _ (rw (e-now .opened, a, f-now .opened) q))
+
+  module _ (a : e .opened ≡ true) (b : f .opened ≡ true) where
+    from-6 : {x : Result} → check 6 (eqb (e .given .0) 0 && eqb (f .given .0) 0)
+        (check 11 (eqb (e .end .0) (f .start .0)) (check 12 (eqb (view l .k .current) 0 || oneGrant (view l .k) (entryOf e) (entryOf f)) (check 13 (sameRights (e .rights) (f .rights)) after))) ≡ x
+        → merge (view l) s u ≡ x
+    from-6 q = from-5 (pass 5 (rw (e-now .opened, a, f-now .opened) b) q)
+
+    pub merge-given : (e .given .0 ≡ 0 → ⊥) → merge (view l) s u ≡ refused 6
+    merge-given z = from-6 (fail 6 _ (rw (ne-eqb (e .given .0) 0 z) refl))
+
+    pub merge-other-given : e .given .0 ≡ 0 → (f .given .0 ≡ 0 → ⊥) → merge (view l) s u ≡ refused 6
+    merge-other-given g z = from-6 (fail 6 _ (rw (eq-eqb (e .given .0) 0 g) (ne-eqb (f .given .0) 0 z)))
+
+    module _ (g : e .given .0 ≡ 0) (i : f .given .0 ≡ 0) where
+      from-11 : {x : Result} → check 11 (eqb (e .end .0) (f .start .0))
+          (check 12 (eqb (view l .k .current) 0 || oneGrant (view l .k) (entryOf e) (entryOf f)) (check 13 (sameRights (e .rights) (f .rights)) after)) ≡ x
+          → merge (view l) s u ≡ x
+      from-11 q = from-6 (pass 6 (rw (eq-eqb (e .given .0) 0 g) (eq-eqb (f .given .0) 0 i)) q)
+
+      pub merge-apart : (e .end .0 ≡ f .start .0 → ⊥) → merge (view l) s u ≡ refused 11
+      merge-apart z = from-11 (fail 11 _ (ne-eqb (e .end .0) (f .start .0) z))
+
+      module _ (n : e .end .0 ≡ f .start .0) where
+        join-now : {b : Bool} → mayJoin (view l .k) c (entryOf e) (entryOf f) ≡ b → (eqb (view l .k .current) 0 || oneGrant (view l .k) (entryOf e) (entryOf f)) ≡ b
+        unfolding mayJoin oneGrant containsBoth
+        join-now {b} q = subst (λ (c : ℕ). mayJoin (view l .k) c (entryOf e) (entryOf f) ≡ b) (sym (h .now)) q
+
+        from-12 : {x : Result} → check 12 (eqb (view l .k .current) 0 || oneGrant (view l .k) (entryOf e) (entryOf f)) (check 13 (sameRights (e .rights) (f .rights)) after) ≡ x
+            → merge (view l) s u ≡ x
+        from-12 q = from-11 (pass 11 (eq-eqb (e .end .0) (f .start .0) n) q)
+
+        pub merge-two-grants : mayJoin (view l .k) c (entryOf e) (entryOf f) ≡ false → merge (view l) s u ≡ refused 12
+        merge-two-grants q = from-12 (fail 12 _ (join-now q))
+
+        module _ (m : mayJoin (view l .k) c (entryOf e) (entryOf f) ≡ true) where
+          pub merge-other-rights : sameRights (e .rights) (f .rights) ≡ false → merge (view l) s u ≡ refused 13
+          merge-other-rights q = from-12 (pass 12 (join-now m) (fail 13 _ q))
+
+          pub merge-done : {v r : List ℕ} → sameRights (e .rights) (f .rights) ≡ true → Is v (joinedAt (view l) c s u e f) → r ≡ encode (settled (view v)) → Ran (merge (view l) s u) l (Done 0 0) r
+          merge-done {v} q put w =
+              ran-done (from-12 (pass 12 (join-now m) (pass 13 q refl)))
+              (sym (settled-is (subst (λ (c : ℕ). Is v (joinedAt (view l) c s u e f)) (sym (h .now)) put) w .encoded))
