@@ -1,0 +1,80 @@
+/*
+ * A handset's firmware sets up its three parts with libulavrepit.a: a form store, a label reader and a
+ * bought-in radio uploader, each with memory of its own. Then it makes the mistake that the kernel is
+ * there for: a block that the store has is given to the uploader as well.
+ *
+ *   make example     or     cc -Iinclude examples/handset.c build/libulavrepit.a
+ */
+#include "ulavrepit.h"
+
+#include <stdio.h>
+
+static uint8_t table[ULAVREPIT_TABLE_BYTES];
+
+/* One call. Its first value is what most services are called for; a refusal is printed. */
+static uint32_t call(const char *what, uint64_t word)
+{
+    ulavrepit_answer answer = ulavrepit_call_answer(table, sizeof table, word);
+    if (answer.refusal != ULAVREPIT_DONE)
+        printf("%s: refused %u\n", what, (unsigned)answer.refusal);
+    return answer.first;
+}
+
+/* Cuts so many lines off the front of the root's largest block; answers their slot. The rest moves on. */
+static uint32_t carve(uint32_t *rest, uint32_t *rest_start, uint32_t lines)
+{
+    uint32_t slot = *rest;
+    *rest_start += lines;
+    *rest = call("cut", ulavrepit_cut(slot, *rest_start));
+    return slot;
+}
+
+/* A child with room for eight entries and one block of its own; answers the slot of that block. */
+static uint32_t add_part(const char *name, uint32_t *rest, uint32_t *rest_start, uint32_t lines, uint32_t rights)
+{
+    uint32_t child = call("create", ulavrepit_create(carve(rest, rest_start, ULAVREPIT_AREA_LINES)));
+    call("prepare", ulavrepit_prepare(child, carve(rest, rest_start, ULAVREPIT_AREA_LINES)));
+    uint32_t slot = carve(rest, rest_start, lines);
+    call("give", ulavrepit_give(child, slot, rights));
+    printf("%s is partition %u, with lines %u to %u\n", name, (unsigned)child,
+           (unsigned)(*rest_start - lines), (unsigned)*rest_start);
+    return slot;
+}
+
+static void print_holders(uint32_t line)
+{
+    uint8_t list[ULAVREPIT_HOLDERS_BYTES];
+    ulavrepit_answer answer = ulavrepit_holders_answer(table, sizeof table, line, list, sizeof list);
+    printf("line %u is held by", (unsigned)line);
+    for (uint32_t i = 0; i < answer.first; i++)
+        printf(" %u", (unsigned)list[i]);
+    puts(answer.refusal == ULAVREPIT_DONE ? "" : " nobody: it is not the kernel's");
+}
+
+int main(void)
+{
+    uint32_t rest = 0, start = 256, end = 4096;
+    uint32_t read_write = ULAVREPIT_READ + ULAVREPIT_WRITE;
+
+    ulavrepit_answer boot = ulavrepit_boot_answer(table, sizeof table, start, end);
+    printf("boot of lines %u to %u: %s\n", (unsigned)start, (unsigned)end, boot.refusal == 0 ? "done" : "refused");
+
+    /* Eight slots are too few for all that follows, so the root gets eight more. */
+    call("prepare", ulavrepit_prepare(0, carve(&rest, &start, ULAVREPIT_AREA_LINES)));
+    uint32_t forms = add_part("store", &rest, &start, 1024, read_write);
+    add_part("reader", &rest, &start, 128, ULAVREPIT_ALL_RIGHTS);
+    add_part("uploader", &rest, &start, 256, read_write);
+
+    print_holders(400);
+    print_holders(1400);
+    print_holders(4096);
+    call("give the store's block to the uploader", ulavrepit_give(3, forms, read_write));
+    print_holders(400);
+
+    /* The right way: it comes back from the store first. */
+    call("take", ulavrepit_take(forms));
+    call("give", ulavrepit_give(3, forms, ULAVREPIT_READ));
+    puts("the store's block is taken back and given to the uploader, to read");
+    print_holders(400);
+    return 0;
+}

@@ -1,0 +1,248 @@
+/*
+ * Ulavrepit: the tables of a separation kernel, kept by a proved library (libulavrepit.a).
+ *
+ * Memory is counted in lines of 32 bytes. A block is start to end, end excluded. There are 16 partitions in a
+ * tree; 0 is the root. Each has 4 structures of 8 slots (slots 0 to 31) and 8 regions.
+ *
+ * The table is 5,128 bytes of your memory; the library keeps nothing of its own and may be called from any
+ * context, but only once at a time for one table. Every call reads the whole table and refuses (1) one that is
+ * not sound, so a damaged table does no harm. A refusal changes no byte of any buffer.
+ */
+#ifndef ULAVREPIT_H
+#define ULAVREPIT_H
+
+#include <stdint.h>
+
+#ifdef __cplusplus
+extern "C" {
+#endif
+
+enum {
+    ULAVREPIT_TABLE_BYTES = 5128,
+    ULAVREPIT_PARTITIONS = 16,
+    ULAVREPIT_STRUCTURES = 4,
+    ULAVREPIT_SLOTS = 32,
+    ULAVREPIT_REGIONS = 8,
+    ULAVREPIT_LINE_BYTES = 32,
+    ULAVREPIT_LAST_LINE = 134217727, /* the highest number that a boot may name as its end */
+    ULAVREPIT_AREA_LINES = 16,       /* a block that is to serve the kernel has so many lines or more */
+    ULAVREPIT_HOLDERS_BYTES = 16     /* a list for holders has so many bytes or more */
+};
+
+/* Rights of an entry, to be added up. */
+enum { ULAVREPIT_EXECUTE = 1, ULAVREPIT_WRITE = 2, ULAVREPIT_READ = 4, ULAVREPIT_ALL_RIGHTS = 7 };
+
+/* The services. The caller is the table's current partition. */
+enum {
+    ULAVREPIT_CREATE = 1,
+    ULAVREPIT_DELETE = 2,
+    ULAVREPIT_PREPARE = 3,
+    ULAVREPIT_COLLECT = 4,
+    ULAVREPIT_GIVE = 5,
+    ULAVREPIT_TAKE = 6,
+    ULAVREPIT_CUT = 7,
+    ULAVREPIT_MERGE = 8,
+    ULAVREPIT_LOAD = 9,
+    ULAVREPIT_UNLOAD = 10,
+    ULAVREPIT_READ_REGION = 11,
+    ULAVREPIT_FIND = 12,
+    ULAVREPIT_SWITCH = 13
+};
+
+/* Refusal numbers. Where several apply, the lowest is given. */
+enum {
+    ULAVREPIT_DONE = 0,
+    ULAVREPIT_REFUSED_TABLE = 1,          /* not 5,128 bytes, or not sound (boot: length only) */
+    ULAVREPIT_REFUSED_WORD = 2,           /* no such service, a zero bit set, a field that it doesn't use not 0 */
+    ULAVREPIT_REFUSED_PARTITION = 3,      /* P is not as the service says */
+    ULAVREPIT_REFUSED_NO_ENTRY = 4,       /* slot S (merge: S or T) is no entry; structure T absent or above 3 */
+    ULAVREPIT_REFUSED_NOT_OPEN = 5,       /* the entry serves the kernel */
+    ULAVREPIT_REFUSED_GIVEN = 6,          /* the entry is given already; take: it is not given */
+    ULAVREPIT_REFUSED_LINE = 7,           /* cut, find, holders: line outside; boot: no such range */
+    ULAVREPIT_REFUSED_FULL = 8,           /* no partition, structure or slot is free */
+    ULAVREPIT_REFUSED_SHORT = 9,          /* the entry has less than 16 lines */
+    ULAVREPIT_REFUSED_RIGHTS = 10,        /* R has a right that the entry lacks */
+    ULAVREPIT_REFUSED_APART = 11,         /* S doesn't end where T starts */
+    ULAVREPIT_REFUSED_TWO_GRANTS = 12,    /* no one entry that the parent gave contains both */
+    ULAVREPIT_REFUSED_RIGHTS_DIFFER = 13, /* rights of S and T differ */
+    ULAVREPIT_REFUSED_IN_PIECES = 14,     /* the child has no open, not-given entry of exactly that range */
+    ULAVREPIT_REFUSED_IN_USE = 15,        /* P has a child; the structure has an entry, or is the root's first */
+    ULAVREPIT_REFUSED_REGION = 16,        /* T above 7; S already in another region */
+    ULAVREPIT_REFUSED_LIST = 17           /* the list is too short */
+};
+
+/* ---- the library ---- */
+
+/*
+ * Each answers  refusal + 2^8 * caller + 2^32 * first;  bits 16 to 31 are zero. Refusal 0: done. The caller's
+ * number is the one before the call; it is 0 where refusal is 1, and for boot and holders. *second is written
+ * only when done. Refused: first is 0. Pointers are never null; buffers don't overlap.
+ */
+
+/* Rewrites the whole table, whatever it holds: base to end, all of it the root's. First 0. */
+uint64_t ulavrepit_boot(uint8_t *table, uint64_t table_len, uint64_t base, uint64_t end);
+
+/* Carries out one call word. First and second are as its service says, below. */
+uint64_t ulavrepit_call(uint8_t *table, uint64_t table_len, uint64_t word, uint64_t *second);
+
+/*
+ * Who holds a line: the first n bytes of the list become the partitions' numbers, root first, and the rest
+ * stay. First is n, second 0. A partition that is not listed cannot reach the line.
+ */
+uint64_t ulavrepit_holders(const uint8_t *table, uint64_t table_len, uint64_t line,
+                           uint8_t *list, uint64_t list_len, uint64_t *second);
+
+/* ---- the same, with a struct for an answer ---- */
+
+typedef struct {
+    uint32_t refusal, caller, first;
+    uint64_t second; /* 0 where refused */
+} ulavrepit_answer;
+
+static inline ulavrepit_answer ulavrepit_unpack_answer(uint64_t result, uint64_t second)
+{
+    ulavrepit_answer answer;
+    answer.refusal = (uint32_t)(result & 0xff);
+    answer.caller = (uint32_t)(result >> 8 & 0xff);
+    answer.first = (uint32_t)(result >> 32);
+    answer.second = second;
+    return answer;
+}
+
+static inline ulavrepit_answer ulavrepit_boot_answer(uint8_t *table, uint64_t table_len, uint64_t base, uint64_t end)
+{
+    return ulavrepit_unpack_answer(ulavrepit_boot(table, table_len, base, end), 0);
+}
+
+static inline ulavrepit_answer ulavrepit_call_answer(uint8_t *table, uint64_t table_len, uint64_t word)
+{
+    uint64_t second = 0;
+    uint64_t result = ulavrepit_call(table, table_len, word, &second);
+    return ulavrepit_unpack_answer(result, second);
+}
+
+static inline ulavrepit_answer ulavrepit_holders_answer(const uint8_t *table, uint64_t table_len, uint64_t line,
+                                                        uint8_t *list, uint64_t list_len)
+{
+    uint64_t second = 0;
+    uint64_t result = ulavrepit_holders(table, table_len, line, list, list_len, &second);
+    return ulavrepit_unpack_answer(result, second);
+}
+
+/* ---- call words: service 4, P 4, S 5, T 5, R 3, L 27, zero 16 bits, most significant first ---- */
+
+/* What the packers answer for a field too wide: no call, refused with 2 by any sound table. */
+#define ULAVREPIT_NO_CALL UINT64_C(0xffffffffffffffff)
+
+static inline uint64_t ulavrepit_word(uint32_t service, uint32_t partition, uint32_t slot, uint32_t other,
+                                      uint32_t rights, uint32_t line)
+{
+    if (service > 15 || partition > 15 || slot > 31 || other > 31 || rights > 7 || line > ULAVREPIT_LAST_LINE)
+        return ULAVREPIT_NO_CALL;
+    return (uint64_t)service << 60 | (uint64_t)partition << 56 | (uint64_t)slot << 51 | (uint64_t)other << 46 |
+           (uint64_t)rights << 43 | (uint64_t)line << 16;
+}
+
+/* A new child, whose record lies in the caller's entry. First: the child's number. */
+static inline uint64_t ulavrepit_create(uint32_t slot)
+{
+    return ulavrepit_word(ULAVREPIT_CREATE, 0, slot, 0, 0, 0);
+}
+
+/* The child goes, and what it was given is the caller's alone again. */
+static inline uint64_t ulavrepit_delete(uint32_t child)
+{
+    return ulavrepit_word(ULAVREPIT_DELETE, child, 0, 0, 0, 0);
+}
+
+/* Eight slots more for the caller or a child, kept in the caller's entry. First: the structure's number. */
+static inline uint64_t ulavrepit_prepare(uint32_t partition, uint32_t slot)
+{
+    return ulavrepit_word(ULAVREPIT_PREPARE, partition, slot, 0, 0, 0);
+}
+
+/* An empty structure goes, and the memory that it lay in is open again. */
+static inline uint64_t ulavrepit_collect(uint32_t partition, uint32_t structure)
+{
+    return ulavrepit_word(ULAVREPIT_COLLECT, partition, 0, structure, 0, 0);
+}
+
+/* The child holds the block too, with these rights. First: its slot in the child. */
+static inline uint64_t ulavrepit_give(uint32_t child, uint32_t slot, uint32_t rights)
+{
+    return ulavrepit_word(ULAVREPIT_GIVE, child, slot, 0, rights, 0);
+}
+
+/* A block that was given comes back, if the child has it whole, open and not given on. */
+static inline uint64_t ulavrepit_take(uint32_t slot)
+{
+    return ulavrepit_word(ULAVREPIT_TAKE, 0, slot, 0, 0, 0);
+}
+
+/* The entry ends at the line; a new one starts there. First: the new one's slot. */
+static inline uint64_t ulavrepit_cut(uint32_t slot, uint32_t line)
+{
+    return ulavrepit_word(ULAVREPIT_CUT, 0, slot, 0, 0, line);
+}
+
+/* The entry and the one that starts where it ends become one, in slot. */
+static inline uint64_t ulavrepit_merge(uint32_t slot, uint32_t next_slot)
+{
+    return ulavrepit_word(ULAVREPIT_MERGE, 0, slot, next_slot, 0, 0);
+}
+
+/* The region of the caller or a child names that partition's slot. */
+static inline uint64_t ulavrepit_load(uint32_t partition, uint32_t slot, uint32_t region)
+{
+    return ulavrepit_word(ULAVREPIT_LOAD, partition, slot, region, 0, 0);
+}
+
+static inline uint64_t ulavrepit_unload(uint32_t partition, uint32_t region)
+{
+    return ulavrepit_word(ULAVREPIT_UNLOAD, partition, 0, region, 0, 0);
+}
+
+/* Second: the word of the entry that the region names, or 0. */
+static inline uint64_t ulavrepit_read_region(uint32_t partition, uint32_t region)
+{
+    return ulavrepit_word(ULAVREPIT_READ_REGION, partition, 0, region, 0, 0);
+}
+
+/* The entry of the caller or a child that holds the line. First: its slot; second: its word. */
+static inline uint64_t ulavrepit_find(uint32_t partition, uint32_t line)
+{
+    return ulavrepit_word(ULAVREPIT_FIND, partition, 0, 0, 0, line);
+}
+
+/* The parent or a child becomes the current partition. */
+static inline uint64_t ulavrepit_switch(uint32_t partition)
+{
+    return ulavrepit_word(ULAVREPIT_SWITCH, partition, 0, 0, 0, 0);
+}
+
+/* ---- entry words, as find and read region answer them ---- */
+
+typedef struct {
+    uint32_t present, open; /* 0 or 1; open: no line of it serves the kernel */
+    uint32_t rights;        /* ULAVREPIT_READ + .. */
+    uint32_t given;         /* the child that holds it too, or 0 */
+    uint32_t start, end;
+} ulavrepit_entry;
+
+static inline ulavrepit_entry ulavrepit_unpack_entry(uint64_t word)
+{
+    ulavrepit_entry entry;
+    entry.present = (uint32_t)(word >> 63);
+    entry.open = (uint32_t)(word >> 62 & 1);
+    entry.rights = (uint32_t)(word >> 59 & 7);
+    entry.given = (uint32_t)(word >> 55 & 15);
+    entry.start = (uint32_t)(word >> 28 & ULAVREPIT_LAST_LINE);
+    entry.end = (uint32_t)(word >> 1 & ULAVREPIT_LAST_LINE);
+    return entry;
+}
+
+#ifdef __cplusplus
+}
+#endif
+
+#endif
