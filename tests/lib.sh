@@ -4,8 +4,12 @@
 #   ok NAME, not_ok NAME    count one check
 #   finish                  prints 'N passed, M failed' and ends the test
 #   $room                   a folder of its own, removed when it ends
-#   target_cc WORDS..       the C compiler that makes x86-64 programs
+#   step NAME COMMAND..     a command that is to end well; where it does not, the test ends
+#   target_cc WORDS..       the C compiler that makes x86-64 programs; target_cxx: the one for C++;
+#                           target_nm: the one that lists names
+#   strict_c                words for it: C99 without a warning
 #   run_x86 PROGRAM WORDS.. runs one that target_cc made
+#   run_checks COUNT PROGRAM WORDS..  runs one that prints a line 'ok NAME' or 'not ok NAME' a check, COUNT of them
 
 passed=0 failed=0
 room=$(mktemp -d) || exit 2
@@ -27,6 +31,22 @@ finish() {
     exit
 }
 
+# There is nothing to test where a step does not end well.
+step() { # NAME COMMAND..
+    local name=$1
+    shift
+    if "$@" >"$room/said" 2>&1; then
+        ok "$name"
+    else
+        not_ok "$name (exit status $?):"
+        cat "$room/said"
+        finish
+    fi
+}
+
+# shellcheck disable=SC2034 # for the tests
+strict_c=(-std=c99 -O2 -Wall -Wextra -Werror -pedantic)
+
 # Rattle's code is for x86-64. On Arm another compiler makes such programs, and the kit's emulator,
 # which has no C library to load, runs them: so they are linked with theirs.
 target_cc() {
@@ -34,6 +54,22 @@ target_cc() {
     x86_64) cc "$@" ;;
     aarch64) x86_64-linux-gnu-gcc -static "$@" ;;
     *) echo "no x86-64 compiler is known for $(uname -m)" >&2; return 1 ;;
+    esac
+}
+
+target_cxx() {
+    case $(uname -m) in
+    x86_64) g++ "$@" ;;
+    aarch64) x86_64-linux-gnu-g++ -static "$@" ;;
+    *) echo "no x86-64 compiler is known for $(uname -m)" >&2; return 1 ;;
+    esac
+}
+
+target_nm() {
+    case $(uname -m) in
+    x86_64) nm "$@" ;;
+    aarch64) x86_64-linux-gnu-nm "$@" ;;
+    *) echo "no x86-64 tools are known for $(uname -m)" >&2; return 1 ;;
     esac
 }
 
@@ -46,4 +82,24 @@ run_x86() {
     aarch64) "$(kit_home)/on/aarch64/toolchain/bin/qemu-x86_64" "$@" ;;
     *) echo "no x86-64 emulator is known for $(uname -m)" >&2; return 1 ;;
     esac
+}
+
+# Counts what the program says. One that died, or left checks out, may have printed no 'not ok'.
+run_checks() { # COUNT PROGRAM WORDS..
+    local count=$1 status lines line name
+    shift
+    run_x86 "$@" >"$room/lines"
+    status=$? lines=$(wc -l <"$room/lines")
+    while read -r line; do
+        case $line in
+        'ok '*) ok "${line#ok }" ;;
+        *) not_ok "${line#not ok }" ;;
+        esac
+    done <"$room/lines"
+    name="$(basename "$1") ends by itself after $count checks"
+    if [ "$status" -eq 0 ] && [ "$lines" -eq "$count" ]; then
+        ok "$name"
+    else
+        not_ok "$name (exit status $status, $lines checks)"
+    fi
 }
