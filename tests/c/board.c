@@ -1,0 +1,333 @@
+/*
+ * The library as firmware meets it: through include/ulavrepit.h and the static library, held to what document
+ * 01 prints. Each call is made on painted memory, and what holds of every call is checked at every call.
+ * A line for each check; the exit status says only that the program came to its end.
+ */
+#include "check.h"
+#include "lent.h"
+#include "session.h"
+
+static lent now;         /* what the library is lent */
+static bool clean = true; /* no call so far broke a rule that holds for every call */
+
+/* Refused: first is 0 and no byte changed. Always: bits 16 to 31 are zero, and guards stay. */
+static ulavrepit_answer judge(uint64_t result, const lent *before)
+{
+    ulavrepit_answer answer = ulavrepit_unpack_answer(result, now.second);
+    if ((result >> 16 & 0xffff) != 0 || !guards_kept(&now))
+        clean = false;
+    if (answer.refusal != 0 && (answer.first != 0 || !same(before, &now)))
+        clean = false;
+    return answer;
+}
+
+static ulavrepit_answer boot_len(uint64_t len, uint64_t base, uint64_t end)
+{
+    lent before = now;
+    ulavrepit_answer answer = judge(ulavrepit_boot(now.table, len, base, end), &before);
+    if (now.second != before.second || memcmp(now.list, before.list, LIST) != 0)
+        clean = false; /* boot is lent neither */
+    return answer;
+}
+
+static ulavrepit_answer call_len(uint64_t len, uint64_t word)
+{
+    now.second = PAINTED;
+    lent before = now;
+    ulavrepit_answer answer = judge(ulavrepit_call(now.table, len, word, &now.second), &before);
+    if (memcmp(now.list, before.list, LIST) != 0)
+        clean = false;
+    return answer;
+}
+
+static ulavrepit_answer holders_len(uint64_t len, uint64_t line, uint64_t list_len)
+{
+    now.second = PAINTED;
+    memset(now.list, PAINT, LIST);
+    lent before = now;
+    uint64_t result = ulavrepit_holders(now.table, len, line, now.list, list_len, &now.second);
+    ulavrepit_answer answer = judge(result, &before);
+    if (memcmp(now.table, before.table, sizeof now.table) != 0)
+        clean = false;
+    return answer;
+}
+
+/* ---- verdicts on one call ---- */
+
+static bool boot_is(uint64_t base, uint64_t end, unsigned refusal)
+{
+    ulavrepit_answer answer = boot_len(sizeof now.table, base, end);
+    return answer.refusal == refusal && answer.caller == 0 && answer.first == 0;
+}
+
+static bool done(uint64_t word, uint32_t first, uint64_t second)
+{
+    unsigned caller = current_of(now.table);
+    ulavrepit_answer answer = call_len(sizeof now.table, word);
+    return answer.refusal == 0 && answer.caller == caller && answer.first == first && answer.second == second;
+}
+
+static bool refused(uint64_t word, unsigned number)
+{
+    unsigned caller = number == 1 ? 0 : current_of(now.table);
+    ulavrepit_answer answer = call_len(sizeof now.table, word);
+    return answer.refusal == number && answer.caller == caller;
+}
+
+static bool holders_refused(uint64_t line, uint64_t list_len, unsigned number)
+{
+    ulavrepit_answer answer = holders_len(sizeof now.table, line, list_len);
+    return answer.refusal == number && answer.caller == 0;
+}
+
+/* The list begins with these names, and its other bytes are as they were. */
+static bool holders_are(uint64_t line, uint64_t list_len, const char *names, uint32_t count)
+{
+    ulavrepit_answer answer = holders_len(sizeof now.table, line, list_len);
+    return answer.refusal == 0 && answer.caller == 0 && answer.first == count && answer.second == 0 &&
+           memcmp(now.list, names, count) == 0 && all_painted(now.list + count, LIST - count);
+}
+
+/* ---- the two tables of document 01 ---- */
+
+/* B is boot 256 to 1024. */
+static bool make_b(void)
+{
+    paint(&now);
+    return boot_is(SESSION_BASE, SESSION_END, 0);
+}
+
+/* X is the table after the session. */
+static bool make_x(void)
+{
+    bool good = make_b();
+    for (unsigned i = 0; i < SESSION_CALLS; i++)
+        good = (session[i].refusal == 0 ? done(session[i].word, session[i].first, 0)
+                                        : refused(session[i].word, session[i].refusal)) && good;
+    return good;
+}
+
+static void test_session(void)
+{
+    check(make_x(), "the session of 01: every answer");
+    check(table_word(now.table, slot_at(0, 3)) == UINT64_C(0xf880001200000400),
+          "afterwards root slot 3 is f880001200000400");
+    check(table_word(now.table, slot_at(1, 0)) == UINT64_C(0xf000001200000400),
+          "afterwards slot 0 of partition 1 is f000001200000400");
+    check(holders_are(256, 16, "\0", 1) && holders_are(287, 16, "\0", 1), "256 to 288: held by 0");
+    check(holders_are(288, 16, "\0\1", 2) && holders_are(511, 16, "\0\1", 2), "288 to 512: held by 0, 1");
+    check(holders_are(512, 16, "\0", 1) && holders_are(1023, 16, "\0", 1), "512 to 1024: held by 0");
+    check(holders_refused(255, 16, 7) && holders_refused(1024, 16, 7), "255 and 1024: refused 7");
+}
+
+/* Document 01, "Checked by the prover, and by a run". */
+static void test_printed_list(void)
+{
+    check(make_b() && table_word(now.table, slot_at(0, 0)) == UINT64_C(0xf800001000000800),
+          "B: root slot 0 is f800001000000800");
+    check(refused(ulavrepit_cut(0, 256), 7), "B, cut slot 0 at 256: 7");
+    check(refused(ulavrepit_cut(0, 1024), 7), "B, cut slot 0 at 1024: 7");
+    check(refused(ulavrepit_merge(0, 0), 11), "B, merge S = T = 0: 11");
+    check(refused(ulavrepit_switch(0), 3), "B, switch to 0: 3");
+    check(refused(ulavrepit_load(0, 0, 8), 16), "B, load slot 0 in region 8: 16");
+    check(refused(ulavrepit_collect(0, 0), 15), "B, collect P 0 structure 0: 15");
+    check(done(ulavrepit_cut(0, 257), 1, 0), "B, cut slot 0 at 257: done, slot 1");
+    check(make_b() && done(ulavrepit_load(0, 0, 7), 0, 0), "B, load slot 0 in region 7: done");
+    check(make_x() && holders_are(300, 16, "\0\1", 2), "X, holders of 300: 0, 1");
+    check(holders_refused(1024, 16, 7), "X, holders of 1024: 7");
+    check(refused(ulavrepit_take(1), 6), "X, take slot 1: 6");
+    check(refused(ulavrepit_create(0), 5), "X, create from slot 0: 5");
+    check(done(ulavrepit_take(3), 0, 0), "X, take slot 3: done");
+    check(make_x() && boot_is(5, 5, 7), "boot 5 to 5: 7");
+    check(boot_is(0, 134217727, 0), "boot 0 to 134,217,727: done");
+    check(make_b() && done(ulavrepit_cut(0, 256 + 15), 1, 0) && refused(ulavrepit_create(0), 9),
+          "a 15-line entry for create: 9");
+    check(make_b() && done(ulavrepit_cut(0, 256 + 16), 1, 0) && done(ulavrepit_create(0), 1, 0),
+          "a 16-line entry for create: done");
+}
+
+static bool length_refused(uint64_t len)
+{
+    return boot_len(len, 1, 2).refusal == 1 && boot_len(len, 2, 1).refusal == 1 &&
+           call_len(len, ulavrepit_find(0, 300)).refusal == 1 && call_len(len, 0).refusal == 1 &&
+           holders_len(len, 300, 16).refusal == 1 && holders_len(len, 0, 0).refusal == 1;
+}
+
+static void test_lengths(void)
+{
+    static const uint64_t lengths[] = {0, 8, 5120, 5127, 5129, 5136};
+    static const char *const names[] = {"length 0: 1", "length 8: 1", "length 5120: 1",
+                                        "length 5127: 1", "length 5129: 1", "length 5136: 1"};
+    for (unsigned i = 0; i < sizeof lengths / sizeof *lengths; i++)
+        check(make_x() && length_refused(lengths[i]), names[i]);
+}
+
+static void test_boot(void)
+{
+    lent booted;
+    bool good = make_b();
+    booted = now;
+    for (unsigned filling = 0; filling < 256; filling++) {
+        memset(now.table, (int)filling, sizeof now.table);
+        good = good && boot_is(5, 5, 7) && boot_is(SESSION_BASE, SESSION_END, 0) && same(&booted, &now);
+    }
+    check(good, "boot of a table of any bytes: the same table; a refused boot leaves them");
+
+    const uint64_t over = 134217728, wrapped = UINT64_C(1) << 32;
+    check(boot_is(0, over, 7) && boot_is(over, over + 1, 7) && boot_is(over, 5, 7) && boot_is(6, 5, 7) &&
+              boot_is(wrapped, wrapped + 5, 7) && boot_is(0, wrapped + 5, 7) && boot_is(0, UINT64_MAX, 7),
+          "boot with base not below end, or a number above 134,217,727: 7");
+    check(boot_is(134217726, 134217727, 0), "boot of the last line: done");
+}
+
+static void test_holders(void)
+{
+    bool good = make_x();
+    for (uint64_t len = 0; len < 16; len++)
+        good = good && holders_refused(300, len, 17);
+    check(good, "holders with a list under 16 bytes: 17");
+    check(holders_are(300, 16, "\0\1", 2) && holders_are(300, LIST, "\0\1", 2),
+          "holders with 16 bytes and more: done, the bytes past the number stay");
+    check(holders_refused(1024, 0, 7) && holders_refused(255, 15, 7) && holders_refused(UINT64_MAX, 0, 7) &&
+              holders_refused((UINT64_C(1) << 32) + 300, 16, 7),
+          "holders: 7 before 17, and a line of more than 32 bits is not one of fewer");
+    now.table[7] ^= 1; /* a zero bit of word 0 */
+    check(holders_refused(300, 16, 1) && holders_refused(1024, 0, 1) && holders_refused(300, 0, 1),
+          "holders of a table not sound: 1 before 7 and 17");
+    check(refused(ulavrepit_find(0, 300), 1) && refused(0, 1), "a call on a table not sound: 1 before 2");
+}
+
+/* One refusal of each number that a booted board can meet; 8, 12 and 13 need longer sessions. */
+static void test_refusals(void)
+{
+    check(make_x() && refused(0, 2) && refused(UINT64_C(14) << 60, 2) && refused(UINT64_MAX, 2) &&
+              refused(ulavrepit_cut(1, 600) | 1, 2) && refused(ulavrepit_word(ULAVREPIT_CUT, 1, 1, 0, 0, 600), 2),
+          "refused 2: no service, a zero bit, a field not used");
+    check(refused(ulavrepit_delete(0), 3) && refused(ulavrepit_give(2, 1, 0), 3), "refused 3");
+    check(refused(ulavrepit_create(31), 4) && refused(ulavrepit_collect(0, 4), 4), "refused 4");
+    check(refused(ulavrepit_give(1, 2, 0), 5), "refused 5");
+    check(refused(ulavrepit_give(1, 3, 0), 6) && refused(ulavrepit_take(1), 6), "refused 6");
+    check(refused(ulavrepit_cut(1, 512), 7) && refused(ulavrepit_find(0, 1024), 7), "refused 7");
+    check(done(ulavrepit_cut(1, 527), 4, 0) && refused(ulavrepit_prepare(1, 1), 9), "refused 9");
+    check(refused(ulavrepit_merge(4, 1), 11), "refused 11");
+    check(refused(ulavrepit_load(0, 1, 8), 16) && refused(ulavrepit_unload(0, 31), 16) &&
+              done(ulavrepit_load(0, 1, 0), 0, 0) && refused(ulavrepit_load(0, 1, 1), 16),
+          "refused 16");
+    check(done(ulavrepit_switch(1), 0, 0) && done(ulavrepit_cut(0, 400), 1, 0) && done(ulavrepit_switch(0), 0, 0) &&
+              refused(ulavrepit_take(3), 14),
+          "refused 14");
+    check(refused(ulavrepit_collect(1, 0), 15), "refused 15");
+}
+
+/* The store is lent a block without the right to execute: it can't pass that right on. */
+static void test_rights(void)
+{
+    bool good = make_x() && done(ulavrepit_switch(1), 0, 0) && done(ulavrepit_cut(0, 304), 1, 0) &&
+                done(ulavrepit_cut(1, 320), 2, 0) && done(ulavrepit_create(0), 2, 0) &&
+                done(ulavrepit_prepare(2, 1), 0, 0);
+    check(good && refused(ulavrepit_give(2, 2, ULAVREPIT_ALL_RIGHTS), 10) &&
+              done(ulavrepit_give(2, 2, ULAVREPIT_READ), 0, 0),
+          "refused 10: a right that the entry lacks; done with fewer");
+    check(holders_are(400, 16, "\0\1\2", 3), "a line given twice over: held by 0, 1, 2");
+    check(done(ulavrepit_find(1, 400), 2, UINT64_C(0xf100001400000400)), "the middle one's entry, given to 2");
+}
+
+static void test_caller(void)
+{
+    check(make_x() && done(ulavrepit_switch(1), 0, 0) && current_of(now.table) == 1 &&
+              done(ulavrepit_find(1, 300), 0, UINT64_C(0xf000001200000400)) && refused(0, 2) &&
+              refused(ulavrepit_delete(0), 3),
+          "the caller in an answer is the one before the call: 0, and after the switch 1");
+    check(call_len(5127, ulavrepit_find(1, 300)).caller == 0, "refused 1: the caller in the answer is 0");
+    check(holders_are(300, 16, "\0\1", 2), "holders names no caller");
+    check(done(ulavrepit_switch(0), 0, 0) && current_of(now.table) == 0, "and back to the parent");
+}
+
+/* A region is emptied when its slot is: the fourth trap of document 01. */
+static void test_regions(void)
+{
+    check(make_x() && done(ulavrepit_load(1, 0, 5), 0, 0) &&
+              done(ulavrepit_read_region(1, 5), 0, UINT64_C(0xf000001200000400)) &&
+              done(ulavrepit_take(3), 0, 0) && done(ulavrepit_read_region(1, 5), 0, 0),
+          "a region of a block that was taken is empty");
+}
+
+static void test_places(void)
+{
+    static uint8_t bytes[ULAVREPIT_TABLE_BYTES + 8];
+    bool good = make_x();
+    for (unsigned shift = 0; shift < 8; shift++) {
+        uint64_t second = PAINTED;
+        memset(bytes, PAINT, sizeof bytes);
+        good = good && ulavrepit_boot(bytes + shift, ULAVREPIT_TABLE_BYTES, SESSION_BASE, SESSION_END) == 0;
+        for (unsigned i = 0; i < SESSION_CALLS; i++)
+            ulavrepit_call(bytes + shift, ULAVREPIT_TABLE_BYTES, session[i].word, &second);
+        good = good && memcmp(bytes + shift, now.table, ULAVREPIT_TABLE_BYTES) == 0 &&
+               all_painted(bytes, shift) && all_painted(bytes + shift + ULAVREPIT_TABLE_BYTES, 8 - shift);
+    }
+    check(good, "a table may begin at any address");
+}
+
+/* ---- the header's own functions ---- */
+
+static void test_packing(void)
+{
+    const uint64_t packed[SESSION_CALLS] = {
+        ulavrepit_cut(0, 512), ulavrepit_cut(0, 272), ulavrepit_create(0), ulavrepit_cut(2, 288),
+        ulavrepit_prepare(1, 2), ulavrepit_give(1, 3, ULAVREPIT_READ + ULAVREPIT_WRITE),
+        ulavrepit_give(1, 3, ULAVREPIT_READ + ULAVREPIT_WRITE)};
+    bool good = true;
+    for (unsigned i = 0; i < SESSION_CALLS; i++)
+        good = good && packed[i] == session[i].word;
+    check(good, "the packers make the session's words");
+    check(ulavrepit_word(15, 15, 31, 31, 7, 134217727) == UINT64_C(0xffffffffffff0000), "the widest fields fit");
+    check(ulavrepit_delete(1) == UINT64_C(0x2100000000000000) && ulavrepit_collect(1, 3) == UINT64_C(0x4100c00000000000) &&
+              ulavrepit_take(3) == UINT64_C(0x6018000000000000) && ulavrepit_merge(1, 2) == UINT64_C(0x8008800000000000) &&
+              ulavrepit_load(1, 2, 3) == UINT64_C(0x9110c00000000000) && ulavrepit_unload(1, 3) == UINT64_C(0xa100c00000000000) &&
+              ulavrepit_read_region(1, 3) == UINT64_C(0xb100c00000000000) &&
+              ulavrepit_find(1, 300) == UINT64_C(0xc1000000012c0000) && ulavrepit_switch(1) == UINT64_C(0xd100000000000000),
+          "the packers of the other services");
+    check(make_b() && refused(ulavrepit_word(16, 0, 0, 0, 0, 0), 2) && refused(ulavrepit_switch(16), 2) &&
+              refused(ulavrepit_create(32), 2) && refused(ulavrepit_merge(0, 32), 2) &&
+              refused(ulavrepit_give(1, 0, 8), 2) && refused(ulavrepit_cut(0, 134217728), 2),
+          "a field too wide: a word that is refused 2");
+}
+
+static void test_unpacking(void)
+{
+    ulavrepit_entry entry = ulavrepit_unpack_entry(UINT64_C(0xf100001400000400));
+    check(entry.present == 1 && entry.open == 1 && entry.rights == ULAVREPIT_READ + ULAVREPIT_WRITE &&
+              entry.given == 2 && entry.start == 320 && entry.end == 512,
+          "the fields of an entry word");
+    entry = ulavrepit_unpack_entry(UINT64_C(1) << 62 | UINT64_C(1) << 59 | UINT64_C(8) << 55 | UINT64_C(1) << 54 | 2);
+    check(entry.present == 0 && entry.open == 1 && entry.rights == ULAVREPIT_EXECUTE && entry.given == 8 &&
+              entry.start == 1u << 26 && entry.end == 1,
+          "each field of an entry word ends where the next begins");
+    make_b();
+    ulavrepit_answer answer = ulavrepit_call_answer(now.table, sizeof now.table, ulavrepit_find(0, 300));
+    check(answer.refusal == 0 && answer.first == 0 && answer.second == UINT64_C(0xf800001000000800),
+          "an answer as a struct");
+    answer = ulavrepit_call_answer(now.table, sizeof now.table, ulavrepit_find(0, 1024));
+    check(answer.refusal == 7 && answer.first == 0 && answer.second == 0, "a refused answer as a struct: values 0");
+    answer = ulavrepit_holders_answer(now.table, sizeof now.table, 300, now.list, 15);
+    check(answer.refusal == 17 && ulavrepit_boot_answer(now.table, 0, 1, 2).refusal == 1,
+          "holders and boot answer a struct too");
+}
+
+int main(void)
+{
+    test_session();
+    test_printed_list();
+    test_lengths();
+    test_boot();
+    test_holders();
+    test_refusals();
+    test_rights();
+    test_caller();
+    test_regions();
+    test_places();
+    test_packing();
+    test_unpacking();
+    check(clean, "in every call: bits 16 to 31 zero, guards kept; refused: first 0, no byte changed");
+    return 0;
+}
