@@ -1,0 +1,30 @@
+/*
+ * Three tables to measure on, made by accepted calls of the kernel that is handed in. Each answers false if a
+ * call was refused.
+ */
+#ifndef TABLES_H
+#define TABLES_H
+
+#include <stdbool.h>
+#include <stdint.h>
+
+/* A kernel: the library's functions or the second program's, which have the same types. */
+typedef struct {
+    uint64_t (*boot)(uint8_t *, uint64_t, uint64_t, uint64_t);
+    uint64_t (*call)(uint8_t *, uint64_t, uint64_t, uint64_t *);
+    uint64_t (*holders)(const uint8_t *, uint64_t, uint64_t, uint8_t *, uint64_t, uint64_t *);
+} kernel;
+
+/* The root alone, with one entry. */
+bool make_fresh(const kernel *k, uint8_t *table);
+
+/* A handset: store, reader and uploader, two helpers of the store; 28 entries, 12 areas. */
+bool make_typical(const kernel *k, uint8_t *table);
+
+/*
+ * The densest that the format holds: a chain of 16 partitions, each with 4 structures and 32 entries, 27 of
+ * them given to its child, with mixed rights.
+ */
+bool make_densest(const kernel *k, uint8_t *table);
+
+#endif
