@@ -9,7 +9,9 @@
 #                           target_nm: the one that lists names
 #   strict_c                words for it: C99 without a warning
 #   run_x86 PROGRAM WORDS.. runs one that target_cc made
-#   run_checks COUNT PROGRAM WORDS..  runs one that prints a line 'ok NAME' or 'not ok NAME' a check, COUNT of them
+#   run_checks COUNT PROGRAM WORDS..  runs one that prints a line 'ok NAME' or 'not ok NAME' a check, COUNT of
+#                           them; lines that begin with # are for the reader
+#   build_compare PROGRAM WORDS..  makes the comparison of build/libulavrepit.a with the second program
 
 passed=0 failed=0
 room=$(mktemp -d) || exit 2
@@ -89,9 +91,10 @@ run_checks() { # COUNT PROGRAM WORDS..
     local count=$1 status lines line name
     shift
     run_x86 "$@" >"$room/lines"
-    status=$? lines=$(wc -l <"$room/lines")
-    while read -r line; do
+    status=$? lines=$(grep -vc '^#' "$room/lines")
+    while IFS= read -r line; do
         case $line in
+        '#'*) printf '%s\n' "$line" ;;
         'ok '*) ok "${line#ok }" ;;
         *) not_ok "${line#not ok }" ;;
         esac
@@ -102,4 +105,9 @@ run_checks() { # COUNT PROGRAM WORDS..
     else
         not_ok "$name (exit status $status, $lines checks)"
     fi
+}
+
+build_compare() { # PROGRAM WORDS..
+    target_cc "${strict_c[@]}" -Ibuild -Isecond "${@:2}" -o "$1" \
+        tests/c/compare.c tests/c/damage.c tests/c/steer.c second/kernel.c build/libulavrepit.a
 }

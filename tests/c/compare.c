@@ -1,0 +1,278 @@
+/*
+ * The library against the second program, in one process and on the same bytes: sessions steered by the table,
+ * near misses of every refusal, words of garbage, tables that no session makes, and damaged tables. After every
+ * call the answers and all the lent memory are compared, guards included, and so are the listings of holders.
+ *
+ *   compare SEED CALLS
+ *
+ * Lines that begin with # are for the reader; the others are one check each. It stops at the first difference.
+ */
+#include "check.h"
+#include "damage.h"
+#include "lent.h"
+#include "steer.h"
+
+#include <inttypes.h>
+#include <stdlib.h>
+
+static lent ours, theirs;  /* lent to the library, and to the second program */
+static second_table state; /* the table of both */
+static dice chance;
+
+static bool same_so_far = true;
+static unsigned long calls, accepted, damaged, odd, listings, boots;
+static unsigned long cells[14][18]; /* by service and refusal number */
+static unsigned long alone[CLAUSES + 1];
+static unsigned long unsound_sessions, unsound_odd;
+static unsigned deepest;
+
+/* ---- one call of each ---- */
+
+/* What was asked, if the two differ or if a refusal changed a byte. */
+static void compare(const char *what, uint64_t argument, uint64_t our, uint64_t their, const lent *before)
+{
+    bool refused = (their & 0xff) != 0;
+    bool kept = !refused || same(before, &ours);
+    if (our == their && same(&ours, &theirs) && guards_kept(&ours) && kept)
+        return;
+    size_t at = 0;
+    while (at < sizeof ours - 1 && ((const uint8_t *)&ours)[at] == ((const uint8_t *)&theirs)[at])
+        at++;
+    if (same_so_far)
+        printf("# difference after %lu calls: %s %016" PRIx64 ", library %016" PRIx64 ", second program %016" PRIx64
+               ", lent bytes %s%zu%s\n",
+               calls, what, argument, our, their, same(&ours, &theirs) ? "the same, not " : "differ first at ", at,
+               kept ? "" : ", and a refusal changed a byte");
+    same_so_far = false;
+}
+
+static void paint_numbers(void)
+{
+    ours.second = theirs.second = PAINTED;
+    memset(ours.list, PAINT, LIST);
+    memset(theirs.list, PAINT, LIST);
+}
+
+static void boot_both(uint64_t base, uint64_t end)
+{
+    paint_numbers();
+    lent before = ours;
+    uint64_t our = ulavrepit_boot(ours.table, sizeof ours.table, base, end);
+    uint64_t their = second_boot(theirs.table, sizeof theirs.table, base, end);
+    compare("boot to", end, our, their, &before);
+    boots++;
+}
+
+/* Answers the refusal number. */
+static unsigned call_both(uint64_t word)
+{
+    paint_numbers();
+    lent before = ours;
+    uint64_t our = ulavrepit_call(ours.table, sizeof ours.table, word, &ours.second);
+    uint64_t their = second_call(theirs.table, sizeof theirs.table, word, &theirs.second);
+    compare("call", word, our, their, &before);
+    if (word >> 60 >= ULAVREPIT_CREATE && word >> 60 <= ULAVREPIT_SWITCH)
+        cells[word >> 60][their & 0xff]++;
+    return (unsigned)(their & 0xff);
+}
+
+static void list_both(uint64_t line)
+{
+    uint64_t list_len = percent(&chance, 90) ? ULAVREPIT_HOLDERS_BYTES : below(&chance, LIST + 1);
+    paint_numbers();
+    lent before = ours;
+    uint64_t our = ulavrepit_holders(ours.table, sizeof ours.table, line, ours.list, list_len, &ours.second);
+    uint64_t their = second_holders(theirs.table, sizeof theirs.table, line, theirs.list, list_len, &theirs.second);
+    compare("holders", line, our, their, &before);
+    listings++;
+}
+
+/* The first and the last line of an entry and the one past it; at times a line of anywhere. */
+static void list_boundaries(void)
+{
+    uint8_t p = (uint8_t)below(&chance, SECOND_PARTITIONS), s = some_slot(&state, p, is_entry, &chance);
+    if (s == SECOND_SLOTS) {
+        list_both(percent(&chance, 50) ? state.base - UINT64_C(1) : state.end);
+        list_both(percent(&chance, 90) ? state.base : roll(&chance));
+        return;
+    }
+    list_both(state.partitions[p].slots[s].start);
+    list_both(state.partitions[p].slots[s].end - 1);
+    list_both(state.partitions[p].slots[s].end);
+}
+
+/* ---- sessions ---- */
+
+static void read_state(void)
+{
+    second_read(theirs.table, &state);
+    for (uint8_t p = 1; p < SECOND_PARTITIONS; p++)
+        if (state.partitions[p].present && depth_in(&state, p) > deepest)
+            deepest = depth_in(&state, p);
+}
+
+static void step(mood m)
+{
+    unsigned refusal = call_both(next_word(theirs.table, &state, m, &chance));
+    calls++;
+    accepted += refusal == 0;
+    unsound_sessions += refusal == 1;
+    read_state();
+    list_boundaries();
+}
+
+/* A table handed to both, in the place of the one that they have. */
+static void hand_over(const uint8_t *table)
+{
+    memcpy(ours.table, table, sizeof ours.table);
+    memcpy(theirs.table, table, sizeof theirs.table);
+}
+
+/* Calls on a sound table that no session makes; then on from there, or as before. */
+static void take_odd_table(mood m)
+{
+    static uint8_t kept[SECOND_BYTES], table[SECOND_BYTES];
+    memcpy(kept, theirs.table, sizeof kept);
+    make_odd(&state, &chance);
+    second_write(&state, table);
+    unsound_odd += second_unsound(table, sizeof table) != 0;
+    odd++;
+    hand_over(table);
+    read_state();
+    call_both(ulavrepit_collect(0, 0));
+    for (unsigned i = 0; i < 12; i++)
+        step(m);
+    if (percent(&chance, 50))
+        hand_over(kept);
+    read_state();
+}
+
+/* One to three bits turned, or one word of noise: mostly not sound, at times still sound. */
+static void change_anything(uint8_t *table)
+{
+    memcpy(table, theirs.table, SECOND_BYTES);
+    for (unsigned i = 1 + below(&chance, 3); i > 0; i--)
+        table[below(&chance, SECOND_BYTES)] ^= (uint8_t)(1u << below(&chance, 8));
+    if (percent(&chance, 10))
+        for (unsigned i = 0, at = 8 * below(&chance, SECOND_WORDS); i < 8; i++)
+            table[at + i] = (uint8_t)(roll(&chance) >> 40);
+}
+
+/* A call and a listing on a damaged table; then on as before. */
+static void take_damaged_table(mood m)
+{
+    static uint8_t kept[SECOND_BYTES], table[SECOND_BYTES];
+    memcpy(kept, theirs.table, sizeof kept);
+    bool made = false;
+    for (unsigned tries = 0; tries < 8 && !made && percent(&chance, 98); tries++)
+        made = damage(&state, table, &chance) != 0;
+    if (!made)
+        change_anything(table);
+    damaged += second_unsound(table, sizeof table) != 0;
+    alone[only_failing(table)]++;
+    hand_over(table);
+    call_both(next_word(theirs.table, &state, m, &chance));
+    list_both(state.base);
+    hand_over(kept);
+}
+
+/* Boots on what the last session left, some of them refused. */
+static void boot_session(void)
+{
+    range r = next_boot(&chance);
+    if (percent(&chance, 30))
+        boot_both(r.end, r.base);
+    if (percent(&chance, 10))
+        boot_both(r.base, r.base);
+    if (percent(&chance, 10))
+        boot_both(roll(&chance), roll(&chance));
+    if (percent(&chance, 20))
+        boot_both(r.base, SECOND_LAST_LINE + UINT64_C(1));
+    boot_both(r.base, r.end);
+    read_state();
+}
+
+static void session(unsigned long last)
+{
+    mood m = (mood)below(&chance, MOODS);
+    boot_session();
+    for (unsigned i = 200 + below(&chance, 400); i > 0 && calls < last && same_so_far; i--) {
+        step(m);
+        if (i % 2 == 0)
+            take_damaged_table(m);
+        if (i % 32 == 0)
+            take_odd_table(m);
+    }
+}
+
+/* ---- what was met ---- */
+
+static const char *const names[14] = {"", "create", "delete", "prepare", "collect", "give", "take", "cut", "merge",
+                                      "load", "unload", "read region", "find", "switch"};
+
+static void print_cells(void)
+{
+    printf("# calls by service and answer: 0 done, 1 to 16 refused\n#            ");
+    for (unsigned refusal = 0; refusal < 17; refusal++)
+        printf("%7u", refusal);
+    for (unsigned service = 1; service <= 13; service++) {
+        printf("\n# %-11s", names[service]);
+        for (unsigned refusal = 0; refusal < 17; refusal++)
+            printf("%7lu", cells[service][refusal]);
+    }
+    printf("\n# tables in which one clause failed alone:");
+    for (unsigned clause = 1; clause <= CLAUSES; clause++)
+        printf(" S%u %lu%s", clause, alone[clause], clause < CLAUSES ? "," : "\n");
+    printf("# the longest chain: %u levels below the root\n", deepest);
+    printf("# %lu boots, %lu calls in sessions, %lu of them accepted, %lu listings, %lu odd tables, %lu damaged tables\n",
+           boots, calls, accepted, listings, odd, damaged);
+}
+
+/* Every service was done, and refused with 1, 2 and each number of its own, and with no other. */
+static bool every_cell_met(void)
+{
+    bool good = true;
+    for (unsigned service = 1; service <= 13; service++)
+        for (unsigned refusal = 0; refusal < 18; refusal++) {
+            bool own = refusal <= 2;
+            for (unsigned i = 0; service_checks[service][i] != 0; i++)
+                own = own || service_checks[service][i] == refusal;
+            if (own == (cells[service][refusal] > 0))
+                continue;
+            printf("# %s was %s refused with %u\n", names[service], own ? "never" : "also", refusal);
+            good = false;
+        }
+    return good;
+}
+
+static bool every_clause_failed_alone(unsigned long least)
+{
+    for (unsigned clause = 1; clause <= CLAUSES; clause++)
+        if (alone[clause] < least)
+            return false;
+    return true;
+}
+
+int main(int count, char **words)
+{
+    unsigned long last = count == 3 ? strtoul(words[2], NULL, 10) : 0;
+    if (last == 0) {
+        fprintf(stderr, "usage: compare SEED CALLS\n");
+        return 2;
+    }
+    chance = seeded(strtoull(words[1], NULL, 10));
+    paint(&ours);
+    paint(&theirs);
+    while (calls < last && same_so_far)
+        session(last);
+    print_cells();
+    check(same_so_far, "the library and the second program answer the same and leave the same bytes");
+    check(unsound_sessions == 0, "no table that a session, or an odd table, came to was refused 1");
+    check(unsound_odd == 0, "every odd table is sound");
+    check(every_cell_met(), "every service was done, and refused with each of its numbers, 1 and 2, and with no other");
+    check(every_clause_failed_alone(last / 200), "each of S1 to S11 failed alone in many tables");
+    check(deepest == SECOND_PARTITIONS - 1, "chains of 15 levels below the root were met");
+    check(accepted > calls / 2, "more than half of the calls were accepted");
+    check(calls >= last && damaged >= last / 4, "as many calls as asked for, and a damaged table for every four");
+    return 0;
+}
