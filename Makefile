@@ -2,7 +2,8 @@
 # make run:     runs the program of this repository.
 # make lib:     proves the library and puts it, with its header, into build/.
 # make example: builds and runs examples/handset.c with it.
-.PHONY: test run lib example
+# make soak:    compares the library with the second program for MINUTES=10 from SEED=1 on, memory checked.
+.PHONY: test run lib example soak
 
 test:
 	@tests/gate
@@ -18,3 +19,8 @@ lib:
 
 example: lib
 	@bash -c '. tests/lib.sh && target_cc -std=c99 -O2 -Ibuild -o build/handset examples/handset.c build/libulavrepit.a && run_x86 build/handset'
+
+soak: export SEED ?= 1
+soak: export MINUTES ?= 10
+soak:
+	@tests/soak
