@@ -2,8 +2,9 @@
 # make run:     runs the program of this repository.
 # make lib:     proves the library and puts it, with its header, into build/.
 # make example: builds and runs examples/handset.c with it.
+# make bench:   the library against the second program, as quotients of their times.
 # make soak:    compares the library with the second program for MINUTES=10 from SEED=1 on, memory checked.
-.PHONY: test run lib example soak
+.PHONY: test run lib example bench soak
 
 test:
 	@tests/gate
@@ -19,6 +20,9 @@ lib:
 
 example: lib
 	@bash -c '. tests/lib.sh && target_cc -std=c99 -O2 -Ibuild -o build/handset examples/handset.c build/libulavrepit.a && run_x86 build/handset'
+
+bench: lib
+	@bash -c '. tests/lib.sh && target_cc -std=c99 -O2 -Ibuild -Isecond -Itests/c -o build/bench bench/bench.c tests/c/tables.c second/kernel.c build/libulavrepit.a && run_x86 build/bench'
 
 soak: export SEED ?= 1
 soak: export MINUTES ?= 10

@@ -1,0 +1,171 @@
+/*
+ * The library against the second program: the same work on the same tables, in one process, turn by turn.
+ *
+ * Each round times the one and then the other (every second round the other way round) and keeps the quotient;
+ * what counts is the median quotient of many rounds. Times are of the processor that this process used, so a
+ * busy machine disturbs both alike. It prints a table for docs/PERFORMANCE.md.
+ */
+#define _POSIX_C_SOURCE 200809L
+#include "kernel.h"
+#include "tables.h"
+#include "ulavrepit.h"
+
+#include <stdio.h>
+#include <stdlib.h>
+#include <string.h>
+#include <time.h>
+
+enum { ROUNDS = 301, BATCH_NANOSECONDS = 300000, WORDS = 2 };
+
+static const kernel library = {ulavrepit_boot, ulavrepit_call, ulavrepit_holders};
+static const kernel second = {second_boot, second_call, second_holders};
+
+/* ---- what is timed ---- */
+
+static uint8_t table[ULAVREPIT_TABLE_BYTES];
+
+/* Call words to be carried out in turn, which leave the table as it was; or a line whose holders are listed. */
+typedef struct {
+    const char *name;
+    uint64_t words[WORDS];
+    uint64_t line;
+    unsigned refusal; /* that each is to answer */
+} job;
+
+/* One piece of work: so many operations, and whether each answered what it should. */
+typedef bool work(const kernel *k, const job *j);
+
+static bool do_boot(const kernel *k, const job *j)
+{
+    return k->boot(table, sizeof table, 256, j->line) == j->refusal;
+}
+
+static bool do_calls(const kernel *k, const job *j)
+{
+    uint64_t value;
+    bool good = true;
+    for (unsigned i = 0; i < WORDS; i++)
+        good = (k->call(table, sizeof table, j->words[i], &value) & 0xff) == j->refusal && good;
+    return good;
+}
+
+static bool do_holders(const kernel *k, const job *j)
+{
+    uint8_t list[ULAVREPIT_HOLDERS_BYTES];
+    uint64_t value;
+    return (k->holders(table, sizeof table, j->line, list, sizeof list, &value) & 0xff) == j->refusal;
+}
+
+/* ---- timing ---- */
+
+static double now(void)
+{
+    struct timespec t;
+    clock_gettime(CLOCK_PROCESS_CPUTIME_ID, &t);
+    return (double)t.tv_sec * 1e9 + (double)t.tv_nsec;
+}
+
+/* Nanoseconds of so many turns. */
+static double time_batch(work *w, const kernel *k, const job *j, unsigned turns)
+{
+    double began = now();
+    for (unsigned i = 0; i < turns; i++)
+        if (!w(k, j)) {
+            fprintf(stderr, "bench: %s: an answer is not as it should be\n", j->name);
+            exit(1);
+        }
+    return now() - began;
+}
+
+static int by_size(const void *a, const void *b)
+{
+    double x = *(const double *)a, y = *(const double *)b;
+    return (x > y) - (x < y);
+}
+
+static double at_percent(double *sorted, unsigned percent)
+{
+    return sorted[(ROUNDS - 1) * percent / 100];
+}
+
+/* Prints a row; the times are of one operation, of which a turn has so many. */
+static void measure(work *w, const job *j, unsigned operations)
+{
+    static double ours[ROUNDS], theirs[ROUNDS], quotients[ROUNDS];
+    unsigned turns = 1;
+    while (time_batch(w, &library, j, turns) < BATCH_NANOSECONDS)
+        turns *= 2;
+    for (unsigned i = 0; i < ROUNDS; i++) {
+        if (i % 2 == 0)
+            ours[i] = time_batch(w, &library, j, turns);
+        theirs[i] = time_batch(w, &second, j, turns);
+        if (i % 2 != 0)
+            ours[i] = time_batch(w, &library, j, turns);
+        quotients[i] = ours[i] / theirs[i];
+    }
+    qsort(ours, ROUNDS, sizeof *ours, by_size);
+    qsort(theirs, ROUNDS, sizeof *theirs, by_size);
+    qsort(quotients, ROUNDS, sizeof *quotients, by_size);
+    double per = (double)turns * operations;
+    printf("| %s | %.0f | %.0f | %.2f | %.2f to %.2f |\n", j->name, at_percent(ours, 50) / per,
+           at_percent(theirs, 50) / per, at_percent(quotients, 50), at_percent(quotients, 5), at_percent(quotients, 95));
+}
+
+/* ---- the rows ---- */
+
+/* Holders, find, and load with unload of the entry that holds the line, on the table as it is. */
+static void measure_table(const char *const names[3], uint64_t line)
+{
+    uint64_t word;
+    uint32_t current = (uint32_t)(table[7] >> 6 | (table[6] & 3) << 2);
+    uint64_t find = ulavrepit_find(current, (uint32_t)line);
+    uint32_t slot = (uint32_t)(second.call(table, sizeof table, find, &word) >> 32);
+    job listing = {names[0], {0}, line, ULAVREPIT_DONE};
+    job finding = {names[1], {find, find}, 0, ULAVREPIT_DONE};
+    job loading = {names[2], {ulavrepit_load(current, slot, 7), ulavrepit_unload(current, 7)}, 0, ULAVREPIT_DONE};
+    measure(do_holders, &listing, 1);
+    measure(do_calls, &finding, WORDS);
+    measure(do_calls, &loading, WORDS);
+}
+
+/* A cut and the merge that undoes it, on the table as it is; the new piece goes to the slot that is free. */
+static void measure_cut(const char *name, uint32_t slot, uint32_t line, uint32_t free_slot)
+{
+    job cutting = {name, {ulavrepit_cut(slot, line), ulavrepit_merge(slot, free_slot)}, 0, ULAVREPIT_DONE};
+    measure(do_calls, &cutting, WORDS);
+}
+
+static void must(bool good, const char *what)
+{
+    if (good)
+        return;
+    fprintf(stderr, "bench: %s was not made\n", what);
+    exit(1);
+}
+
+int main(void)
+{
+    static const char *const fresh[] = {"holders, fresh", "find, fresh", "load and unload, fresh"};
+    static const char *const typical[] = {"holders, typical", "find, typical", "load and unload, typical"};
+    static const char *const densest[] = {"holders, densest", "find, densest", "load and unload, densest"};
+    job booting = {"boot", {0}, 1024, ULAVREPIT_DONE};
+    job refused_word = {"call refused 2, typical", {0}, 0, ULAVREPIT_REFUSED_WORD};
+    job refused_table = {"call refused 1, typical with the last zero bit set", {0}, 0, ULAVREPIT_REFUSED_TABLE};
+
+    puts("| What | Library, ns | Second program, ns | Library / second, median | 5 % to 95 % of rounds |\n|---|---|---|---|---|");
+    measure(do_boot, &booting, 1);
+    must(make_fresh(&second, table), "the fresh table");
+    measure_table(fresh, 300);
+    measure_cut("cut and merge, fresh", 0, 512, 1);
+
+    must(make_typical(&second, table), "the typical table");
+    measure(do_calls, &refused_word, WORDS);
+    measure_table(typical, 8000);
+    measure_cut("cut and merge, typical", 10, 8000, 11);
+    table[sizeof table - 1] ^= 1;
+    measure(do_calls, &refused_table, WORDS);
+
+    must(make_densest(&second, table), "the densest table");
+    measure_table(densest, 65535);
+    return 0;
+}
