@@ -240,11 +240,13 @@ static bool slot_without_load(second_table *t, dice *d)
 
 static bool absent_has_area(second_table *t, dice *d)
 {
-    second_structure *structure = some_structure(t, some_partition(t, is_present, d), false, d);
+    uint8_t p, s;
+    if (!pick_slot(t, is_usable, &p, &s, d))
+        return false;
+    second_structure *structure = some_structure(t, p, false, d);
     if (structure == NULL)
         return false;
-    structure->area.start = below(d, 2) * 256;
-    structure->area.end = 512;
+    structure->area = range_of(slot_in(t, p, s));
     return true;
 }
 
@@ -398,6 +400,22 @@ static bool line_missing(second_table *t, dice *d)
     else
         slot_in(t, p, s)->start += 1;
     return true;
+}
+
+/* An entry reaches one line past its grant, or past the memory, where the partition holds none. */
+static bool line_too_many(second_table *t, dice *d)
+{
+    uint8_t p, s;
+    if (!pick_slot(t, is_usable, &p, &s, d))
+        return false;
+    second_slot *e = slot_in(t, p, s);
+    if (e->end == SECOND_LAST_LINE)
+        return false;
+    for (uint8_t u = 0; u < SECOND_SLOTS; u++)
+        if (is_entry(t, p, u) && slot_in(t, p, u)->start == e->end)
+            return false;
+    e->end += 1;
+    return !touches_area(t, e);
 }
 
 static bool given_to_no_child(second_table *t, dice *d)
@@ -624,7 +642,7 @@ static const way ways[] = {
     {4, true, first_structure_has_area, NULL}, {4, false, first_structure_absent, NULL}, {4, true, short_area, NULL},
     {5, false, entry_outside_structures, NULL}, {5, false, entry_of_no_line, NULL}, {5, false, rest_of_an_entry, NULL},
     {6, false, one_line_twice, NULL}, {6, false, entry_twice, NULL},
-    {7, false, hole, NULL}, {7, false, line_missing, NULL}, {7, false, given_to_no_child, NULL},
+    {7, false, hole, NULL}, {7, false, line_missing, NULL}, {7, false, line_too_many, NULL}, {7, false, given_to_no_child, NULL},
     {7, false, held_without_grant, NULL}, {7, false, grant_forgotten, NULL}, {7, false, more_memory, NULL},
     {7, false, grants_in_one, NULL},
     {8, false, area_unlike_its_entry, NULL}, {8, false, area_twice, NULL}, {8, true, header_in_its_own_entry, NULL},

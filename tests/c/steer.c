@@ -146,6 +146,17 @@ static bool is_in_pieces(const second_table *t, uint8_t p, uint8_t s)
     return slot_of(t, p, s)->given != 0 && !is_whole(t, p, s);
 }
 
+/* In pieces of a kind: the child has it whole, and has closed it or given it on. */
+static bool is_whole_in_use(const second_table *t, uint8_t p, uint8_t s)
+{
+    const second_slot *e = slot_of(t, p, s);
+    for (uint8_t i = 0; e->given != 0 && i < SECOND_SLOTS; i++)
+        if (is_entry(t, e->given, i) && !is_usable(t, e->given, i) && slot_of(t, e->given, i)->start == e->start &&
+            slot_of(t, e->given, i)->end == e->end)
+            return true;
+    return false;
+}
+
 /* A slot that passes, or any. */
 static uint8_t slot_or_any(const second_table *t, uint8_t p, slot_test *passes, dice *d)
 {
@@ -298,7 +309,9 @@ static uint64_t give(const second_table *t, uint8_t refusal, dice *d)
 
 static uint64_t take(const second_table *t, uint8_t refusal, dice *d)
 {
-    slot_test *passes = refusal == 4 ? is_no_entry : refusal == 6 ? is_not_given : refusal == 14 ? is_in_pieces : is_whole;
+    slot_test *passes = refusal == 4 ? is_no_entry : refusal == 6 ? is_not_given : is_whole;
+    if (refusal == 14)
+        passes = percent(d, 50) ? is_in_pieces : is_whole_in_use;
     return ulavrepit_take(slot_or_any(t, t->current, passes, d));
 }
 
@@ -332,11 +345,12 @@ static uint64_t merge(const second_table *t, uint8_t refusal, dice *d)
         return percent(d, 50) ? ulavrepit_merge(a, b) : ulavrepit_merge(b, a);
     }
     uint32_t first = below(d, SECOND_SLOTS * SECOND_SLOTS);
+    bool turned = refusal == 11 && percent(d, 50); /* a pair that could be merged the other way round */
     for (uint32_t i = 0; i < SECOND_SLOTS * SECOND_SLOTS; i++) {
         uint32_t pair = (first + i) % (SECOND_SLOTS * SECOND_SLOTS);
         uint8_t s = (uint8_t)(pair / SECOND_SLOTS), u = (uint8_t)(pair % SECOND_SLOTS);
-        if (is_usable(t, t->current, s) && is_usable(t, t->current, u) && merge_leads_to(t, refusal, s, u))
-            return ulavrepit_merge(s, u);
+        if (is_usable(t, t->current, s) && is_usable(t, t->current, u) && merge_leads_to(t, turned ? 0 : refusal, s, u))
+            return turned ? ulavrepit_merge(u, s) : ulavrepit_merge(s, u);
     }
     return ulavrepit_merge(first / SECOND_SLOTS, first % SECOND_SLOTS);
 }
@@ -490,6 +504,11 @@ static uint8_t tried(const uint8_t *table, uint64_t word)
     return (uint8_t)second_call(copy, sizeof copy, word, &second);
 }
 
+/* Service and refusal that take a table of their kind, which is seldom met: so they are tried often. */
+static const uint8_t seldom[][2] = {
+    {ULAVREPIT_CREATE, 8}, {ULAVREPIT_DELETE, 15}, {ULAVREPIT_PREPARE, 8}, {ULAVREPIT_GIVE, 10}, {ULAVREPIT_TAKE, 14},
+    {ULAVREPIT_CUT, 8}, {ULAVREPIT_MERGE, 6}, {ULAVREPIT_MERGE, 11}, {ULAVREPIT_MERGE, 12}, {ULAVREPIT_MERGE, 13}};
+
 /*
  * Every refusal of every service is as welcome, whatever the mood. Some words are taken untried: if the second
  * program were wrong about them, trying would shun the very words that show it.
@@ -499,6 +518,11 @@ static uint64_t near_miss(const uint8_t *table, const second_table *t, dice *d)
     uint64_t word = 0;
     for (unsigned tries = 0; tries < 8; tries++) {
         uint8_t service = (uint8_t)(1 + below(d, 13)), refusal = some_check(service, d);
+        if (percent(d, 50)) {
+            const uint8_t *cell = seldom[below(d, sizeof seldom / sizeof *seldom)];
+            service = cell[0];
+            refusal = cell[1];
+        }
         word = word_for(t, service, refusal, d);
         if (tried(table, word) == refusal || percent(d, 15))
             break;
