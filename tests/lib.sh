@@ -109,5 +109,5 @@ run_checks() { # COUNT PROGRAM WORDS..
 
 build_compare() { # PROGRAM WORDS..
     target_cc "${strict_c[@]}" -Ibuild -Isecond "${@:2}" -o "$1" \
-        tests/c/compare.c tests/c/damage.c tests/c/steer.c second/kernel.c build/libulavrepit.a
+        tests/c/{compare,damage,most_runs,steer}.c second/kernel.c build/libulavrepit.a
 }

@@ -10,6 +10,7 @@
 #include "check.h"
 #include "damage.h"
 #include "lent.h"
+#include "most_runs.h"
 #include "steer.h"
 
 #include <inttypes.h>
@@ -192,10 +193,23 @@ static void boot_session(void)
     read_state();
 }
 
+/* At times a session starts from a table that is all but full, made by hand. */
+static void hand_over_most_runs(void)
+{
+    static uint8_t table[SECOND_BYTES];
+    make_most_runs(&state);
+    second_write(&state, table);
+    hand_over(table);
+    odd++;
+    read_state();
+}
+
 static void session(unsigned long last)
 {
     mood m = (mood)below(&chance, MOODS);
     boot_session();
+    if (percent(&chance, 4))
+        hand_over_most_runs();
     for (unsigned i = 200 + below(&chance, 400); i > 0 && calls < last && same_so_far; i--) {
         step(m);
         if (i % 2 == 0)

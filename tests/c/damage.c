@@ -114,7 +114,7 @@ static bool touches_area(const second_table *t, const second_slot *e)
     return false;
 }
 
-static void settle(second_table *t)
+void settle_table(second_table *t)
 {
     for (uint8_t p = 0; p < SECOND_PARTITIONS; p++)
         for (uint8_t s = 0; s < SECOND_SLOTS; s++) {
@@ -670,7 +670,7 @@ uint8_t damage(const second_table *sound, uint8_t *table, dice *d)
     if (chosen->in_table != NULL && !chosen->in_table(&t, d))
         return 0;
     if (chosen->settles)
-        settle(&t);
+        settle_table(&t);
     second_write(&t, table);
     if (chosen->in_bytes != NULL && !chosen->in_bytes(table, &t, d))
         return 0;

@@ -23,6 +23,9 @@ uint8_t damage(const second_table *sound, uint8_t *table, dice *d);
  */
 uint8_t only_failing(const uint8_t *table);
 
+/* Sets the open bits by S9, and empties regions that name no open entry. */
+void settle_table(second_table *t);
+
 /* Changes a sound table into another sound one, such as only a builder of tables would make. */
 void make_odd(second_table *t, dice *d);
 
