@@ -12,11 +12,17 @@ test:
 run:
 	@echo "the program tally is run here once it has landed"
 
-lib:
+lib: build/libulavrepit.a build/ulavrepit.h
+
+# Made again when anything in crates/ is newer; folders count too, so that a file taken away is seen.
+build/libulavrepit.a: crates.txt $(shell find crates)
 	@rt staticlib board
 	@mkdir -p build
-	@cp target/staticlib/libboard.a build/libulavrepit.a
-	@cp include/ulavrepit.h build/
+	@cp target/staticlib/libboard.a $@
+
+build/ulavrepit.h: include/ulavrepit.h
+	@mkdir -p build
+	@cp $< $@
 
 example: lib
 	@bash -c '. tests/lib.sh && target_cc -std=c99 -O2 -Ibuild -o build/handset examples/handset.c build/libulavrepit.a && run_x86 build/handset'
