@@ -14,6 +14,7 @@
 #include "steer.h"
 
 #include <inttypes.h>
+#include <stddef.h>
 #include <stdlib.h>
 
 static lent ours, theirs;  /* lent to the library, and to the second program */
@@ -29,21 +30,30 @@ static unsigned deepest;
 
 /* ---- one call of each ---- */
 
-/* What was asked, if the two differ or if a refusal changed a byte. */
+static void print_bytes(void)
+{
+    const uint8_t *our = (const uint8_t *)&ours, *their = (const uint8_t *)&theirs;
+    for (size_t at = 0; at < sizeof ours; at++)
+        if (our[at] != their[at]) {
+            printf("# lent memory differs first at byte %zu; the table is %zu to %zu\n", at, offsetof(lent, table),
+                   offsetof(lent, table) + sizeof ours.table);
+            return;
+        }
+}
+
+/* The two are to answer the same and to leave the same bytes; guards stay, and so does all that was refused. */
 static void compare(const char *what, uint64_t argument, uint64_t our, uint64_t their, const lent *before)
 {
-    bool refused = (their & 0xff) != 0;
-    bool kept = !refused || same(before, &ours);
+    bool kept = (our & 0xff) == 0 || same(before, &ours);
     if (our == their && same(&ours, &theirs) && guards_kept(&ours) && kept)
         return;
-    size_t at = 0;
-    while (at < sizeof ours - 1 && ((const uint8_t *)&ours)[at] == ((const uint8_t *)&theirs)[at])
-        at++;
-    if (same_so_far)
-        printf("# difference after %lu calls: %s %016" PRIx64 ", library %016" PRIx64 ", second program %016" PRIx64
-               ", lent bytes %s%zu%s\n",
-               calls, what, argument, our, their, same(&ours, &theirs) ? "the same, not " : "differ first at ", at,
-               kept ? "" : ", and a refusal changed a byte");
+    if (same_so_far) {
+        printf("# difference after %lu calls: %s %016" PRIx64 ", library %016" PRIx64 ", second program %016" PRIx64 "\n",
+               calls, what, argument, our, their);
+        print_bytes();
+        if (!kept)
+            puts("# the library refused and changed a byte");
+    }
     same_so_far = false;
 }
 
