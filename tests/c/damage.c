@@ -720,9 +720,13 @@ static void scatter_entries(second_table *t, dice *d)
     }
 }
 
-/* The root's first structure has no entry, which no call brings about before the others are full. */
+/*
+ * The root's first structure has no entry, if there is room elsewhere. From boot on, slot 0 always holds the first
+ * line: cut leaves the front in its slot, and merge empties the slot of the back.
+ */
 static void clear_first_structure(second_table *t, dice *d)
 {
+    (void)d;
     for (uint8_t s = 0; s < SECOND_STRUCTURE_SLOTS; s++) {
         uint8_t spare = SECOND_STRUCTURE_SLOTS;
         while (spare < SECOND_SLOTS && !is_free(t, 0, spare))
@@ -730,7 +734,6 @@ static void clear_first_structure(second_table *t, dice *d)
         if (is_entry(t, 0, s) && spare < SECOND_SLOTS)
             move_entry(t, 0, s, spare);
     }
-    (void)d;
 }
 
 /* Pieces of one grant have different rights. What was given on has no more than what it lies in. */
