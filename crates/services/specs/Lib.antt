@@ -8,3 +8,6 @@ pub mod RegionExits
 pub mod TakeExits
 pub mod MergeExits
 pub mod DeleteExits
+pub mod Calls
+pub mod Boot
+pub mod Brief

@@ -3,6 +3,7 @@ use mathlib.Core.Path.{_≡_, refl, ap, sym, _∙_}
 use mathlib.Core.Bool.{Bool, true, false}
 use mathlib.Core.List.{List}
 use Prim.Native.Nat.{ℕ}
+use native.Mathlib.Omega.{arith}
 use Rattle.tables.specs.State.{Opt, none, some, Table}
 use Rattle.tables.specs.View.{view}
 use Rattle.tables.specs.Encode.{encode}
@@ -19,6 +20,16 @@ pub record Ran (res : Result) (before : List ℕ) (r : Outcome) (after : List �
   pub outcome : r ≡ outcomeOf res
   pub words : after ≡ wordsAfter before res
 
+-- ── equal outcomes ──
+pub refused-done : {n v w : ℕ} → _≡_ {A = Outcome} (Refused n) (Done v w) → ⊥
+refused-done q = absurd (let z : _≡_ {A = ℕ} 0 1 = cc in omega arith)
+
+pub done-first : {a b v w : ℕ} → Done a b ≡ Done v w → a ≡ v
+done-first h = cc
+
+pub refused-number : {a n : ℕ} → _≡_ {A = Outcome} (Refused a) (Refused n) → a ≡ n
+refused-number h = cc
+
 -- ── the exits ──
 pub ran-refused : {res : Result} {n : ℕ} {l : List ℕ} → res ≡ refused n → Ran res l (Refused n) l
 unfolding outcomeOf wordsAfter
@@ -27,6 +38,28 @@ ran-refused e = record { outcome = rw e refl; words = rw e refl }
 pub ran-done : {res : Result} {v w : ℕ} {t : Table} {l m : List ℕ} → res ≡ done v w t → m ≡ encode t → Ran res l (Done v w) m
 unfolding outcomeOf wordsAfter
 ran-done e q = record { outcome = rw e refl; words = rw e q }
+
+-- .. by the rule that another is
+pub ran-as : {res own : Result} {l m : List ℕ} {r : Outcome} → res ≡ own → Ran own l r m → Ran res l r m
+ran-as e ran = rw e ran
+
+-- ── on a copy a of the words: done, n are copied back from it; refused, the words stay ──
+module _ {res : Result} {a l m : List ℕ} {r : Outcome} (ran : Ran res a r m) where
+  pub ran-copied : {v w : ℕ} {n : List ℕ} → r ≡ Done v w → n ≡ m → Ran res l r n
+  unfolding outcomeOf wordsAfter
+  ran-copied q e = record { outcome = ran .outcome; words = e ∙ ran .words ∙ go res (sym (ran .outcome) ∙ q) }
+    where
+      go : (res : Result) {v w : ℕ} → outcomeOf res ≡ Done v w → wordsAfter a res ≡ wordsAfter l res
+      go (done v w t) z = refl
+      go (refused n) z = absurd (refused-done z)
+
+  pub ran-kept : {n : ℕ} → r ≡ Refused n → Ran res l r l
+  unfolding outcomeOf wordsAfter
+  ran-kept q = record { outcome = ran .outcome; words = go res (sym (ran .outcome) ∙ q) }
+    where
+      go : (res : Result) {n : ℕ} → outcomeOf res ≡ Refused n → l ≡ wordsAfter l res
+      go (done v w t) z = absurd (refused-done (sym z))
+      go (refused n) z = refl
 
 -- ── a check that passes, a check that fails; a value that is there, one that is not ──
 pub pass : (n : ℕ) {b : Bool} {r s : Result} → b ≡ true → r ≡ s → check n b r ≡ s

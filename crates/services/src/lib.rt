@@ -1,5 +1,11 @@
+ghost use Rattle.services.specs.Rules.{bootOn};
+ghost use Rattle.services.specs.Ran.{Ran};
+ghost use Rattle.services.specs.Calls.{Answers};
+
 // The services in code, each proved equal to its rule.
 pub mod area_services;
+pub mod boot_service;
+pub mod calls;
 pub mod delete_service;
 pub mod looks;
 pub mod merge_service;
@@ -8,3 +14,49 @@ pub mod region_services;
 pub mod slot_services;
 pub mod take_service;
 pub mod who;
+
+use tables::Outcome;
+use words::Partition;
+
+// What a call answers: its outcome, beside the number that the caller had before it (0 where the table is refused).
+pub struct Answer {
+    pub caller: Partition,
+    pub outcome: Outcome,
+}
+
+// Carries out a call word. Any words, of any number and content, and any call word get an answer.
+// Refused: 1 not a sound table of 641 words; 2 not a call word; then as its service says. A refusal changes no word.
+pub fn call(t: &mut [u64], word: u64) -> Answer
+    ensures { λ r. ⌜ Answers (now (t .entry)) word r (now (t .exit)) ⌝ }
+{
+    if t.len() != 641 {
+        return Answer {
+            caller: Partition(0),
+            outcome: Outcome::Refused(1),
+        };
+    }
+    let mut a = [0u64; 641];
+    tables::copies::copy_in(t, &mut a);
+    let answer = calls::call_table(&mut a, word);
+    let outcome = answer.outcome;
+    if let Outcome::Done(_, _) = outcome {
+        tables::copies::copy_out(&a, t);
+    }
+    answer
+}
+
+// Writes a table anew, whatever it held: the root alone, which has base to end with all rights.
+// Refused: 1 not 641 words; 7 not base < end, or a number above the last line. A refusal changes no word.
+pub fn boot(t: &mut [u64], base: u64, end: u64) -> Outcome
+    ensures { λ r. ⌜ Ran (bootOn (now (t .entry)) base end) (now (t .entry)) r (now (t .exit)) ⌝ }
+{
+    if t.len() != 641 {
+        return Outcome::Refused(1);
+    }
+    let mut a = [0u64; 641];
+    let booted = boot_service::boot_table(&mut a, base, end);
+    if let Outcome::Done(_, _) = booted {
+        tables::copies::copy_out(&a, t);
+    }
+    booted
+}

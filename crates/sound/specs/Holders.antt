@@ -208,5 +208,23 @@ module _ (k : K) (l : ℕ) where
   in-memory h g = rw (le-leb (k .base) l h, lt-ltb l (k .stop) g) refl
 
 -- .. of the copy that was made of the words
-pub writes-copy : {m t : List ℕ} {l r : ℕ} {before after : List ℕ} → m ≡ t → Writes (view m .k) l before r after → Writes (view t .k) l before r after
-writes-copy {l = l} {r = r} {before = before} {after = after} e w = subst (λ (x : List ℕ). Writes (view x .k) l before r after) e w
+pub listed-copy : {m t : List ℕ} {l : ℕ} {before : List ℕ} {r : Outcome} {after : List ℕ} → m ≡ t → Listed m l before r after → Listed t l before r after
+listed-copy {l = l} {before} {r} {after} e h = subst (λ (x : List ℕ). Listed x l before r after) e h
+
+-- ── there are at most 16 ──
+trail-few : (k : K) (p n : ℕ) → length (trail k p n) ≤ n + 1
+unfolding trail climb
+trail-few k p zero = go (eqb p 0)
+  where
+    go : (b : Bool) → length {A = ℕ} (cond b (0 ∷ []) []) ≤ 1
+    go true = omega arith
+    go false = omega arith
+trail-few k p (suc n) = go (eqb p 0) (trail-few k (k .parent p) n)
+  where
+    go : (b : Bool) → length (trail k (k .parent p) n) ≤ n + 1 → length (cond b (0 ∷ []) (trail k (k .parent p) n ++ (p ∷ []))) ≤ suc n + 1
+    go true h = omega arith
+    go false h = rw (length-append) (omega (arith, h))
+
+pub holders-few : (k : K) (l : ℕ) → length (holdersOf k l) ≤ 16
+unfolding holdersOf
+holders-few k l = trail-few k (deepest k l 0 15) 15

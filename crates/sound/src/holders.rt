@@ -69,6 +69,27 @@ fn write_holders(t: &[u64; 641], l: Line, list: &mut [u8]) -> usize
     trail(t, p, 15, list)
 }
 
+// Holders of a line of a table that stands in an array: `holders` without its length and its copy.
+pub fn holders_table(t: &[u64; 641], line: u64, list: &mut [u8]) -> Outcome
+    ensures { λ r. ⌜ Listed (now (t .entry)) line (now (list .entry)) r (now (list .exit)) ⌝ }
+{
+    if !is_sound(t) {
+        return Outcome::Refused(1);
+    }
+    let f = tables::read::first(t);
+    if line < f.base.0 as u64 {
+        return Outcome::Refused(7);
+    }
+    if line >= f.end.0 as u64 {
+        return Outcome::Refused(7);
+    }
+    if list.len() < 16 {
+        return Outcome::Refused(17);
+    }
+    let n = write_holders(t, Line(line as u32), list);
+    Outcome::Done(n as u64, 0)
+}
+
 // The partitions with an entry that holds the line: their number, and their numbers in the first bytes, root first.
 // Refused: 1 not a sound table of 641 words, 7 a line outside base to end, 17 a list under 16 bytes.
 pub fn holders(t: &[u64], line: u64, list: &mut [u8]) -> Outcome
@@ -79,19 +100,5 @@ pub fn holders(t: &[u64], line: u64, list: &mut [u8]) -> Outcome
     }
     let mut a = [0u64; 641];
     tables::copies::copy_in(t, &mut a);
-    if !is_sound(&a) {
-        return Outcome::Refused(1);
-    }
-    let f = tables::read::first(&a);
-    if line < f.base.0 as u64 {
-        return Outcome::Refused(7);
-    }
-    if line >= f.end.0 as u64 {
-        return Outcome::Refused(7);
-    }
-    if list.len() < 16 {
-        return Outcome::Refused(17);
-    }
-    let n = write_holders(&a, Line(line as u32), list);
-    Outcome::Done(n as u64, 0)
+    holders_table(&a, line, list)
 }

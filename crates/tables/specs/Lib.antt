@@ -12,9 +12,11 @@ pub mod Search
 pub mod Answers
 pub mod Regions
 pub mod Store
+pub mod Fitting
 pub mod CanWrite
 pub mod Stored
 pub mod Clearing
+pub mod Empty
 pub mod Settle
 pub mod Gather
 pub mod ZeroRecord

@@ -60,6 +60,14 @@ clearRecord t p = record {
   region = upd1 (t .region) p (λ r. none);
 }
 
+-- base to end, and no partition
+abbrev pub emptyTable : ℕ → ℕ → Table
+emptyTable base end = record {
+  k = record { base = base; stop = end; current = 0; parent = λ p. 0; area = λ p j. none; slot = λ p i. none };
+  opened = λ p i. false;
+  region = λ p r. none;
+}
+
 -- ── one word written ──
 module _ {l : List ℕ} {t : Table} (was : Is l t) (t′ : Table) (fit : Fit t′) where
   sized : length l ≡ 641

@@ -1,6 +1,7 @@
 ghost use mathlib.Core.Path.{_≡_};
-ghost use Prim.Native.Nat.{_<_};
+ghost use Prim.Native.Nat.{_^_, _<_};
 ghost use lib.ListN.{length};
+ghost use Rattle.tables.specs.Fitting.{Words};
 ghost use Rattle.tables.specs.Store.{stored};
 
 // What the 641 words of a table mean. Here, and nowhere above, it is known which word holds what.
@@ -50,6 +51,22 @@ pub fn sized(t: &[u64; 641])
 }
 
 fn lent(_: &[u64]) {}
+
+// Nor that each word is below 2^64: reading it tells that. Nothing is computed, and the compiler drops the loop.
+pub fn fits(t: &[u64; 641])
+    ensures { λ _. ⌜ Words (now (t .entry)) ⌝ }
+{
+    sized(t);
+    let mut n = 0usize;
+    while n < 641 {
+        fits_word(t[n]);
+        n += 1;
+    }
+}
+
+fn fits_word(w: u64)
+    ensures { λ _. ⌜ w < 2 ^ 64 ⌝ }
+{}
 
 // The word goes to its place. A refusal stores nothing: no caller here meets one.
 fn store(t: &mut [u64; 641], at: usize, word: Written)

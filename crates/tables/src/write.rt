@@ -1,16 +1,18 @@
 ghost use mathlib.Core.Path.{_≡_};
 ghost use mathlib.Core.Bool.{false};
-ghost use Prim.Native.Nat.{_<_};
+ghost use Prim.Native.Nat.{_^_, _<_};
 ghost use Rattle.tables.specs.State.{none, some};
 ghost use Rattle.tables.specs.View.{view, entryOf};
 ghost use Rattle.tables.specs.Encode.{Is};
-ghost use Rattle.tables.specs.Write.{putSlot, putHeader, putStructure, putRegion, putCurrent, clearRecord};
+ghost use Rattle.tables.specs.Write.{putSlot, putHeader, putStructure, putRegion, putCurrent, clearRecord, emptyTable};
 ghost use Rattle.tables.specs.CanWrite.{CanClear, CanEntry, CanHeader, CanStructure, CanRegion, CanCurrent, CanRecord};
 ghost use Rattle.tables.specs.Stored.{span};
 use crate::regions::with_region;
 use crate::store;
+use words::Line;
 use words::Partition;
 use words::Slot;
+use words::first_word::FirstFields;
 use words::header_word::HeaderFields;
 use words::regions_word::Region;
 use words::slot_word::SlotFields;
@@ -106,4 +108,21 @@ pub fn clear_record(t: &mut [u64; 641], p: Partition)
         t[(1 + 40 * p.0 + o) as usize] = 0;
         o += 1;
     }
+}
+
+// Whatever the words were: base to end, and no partition.
+pub fn empty_table(t: &mut [u64; 641], base: Line, end: Line)
+    requires { ⌜ (base .0 < 2 ^ 27) × (end .0 < 2 ^ 27) ⌝ }
+    ensures { λ _. ⌜ Is (now (t .exit)) (emptyTable (base .0) (end .0)) ⌝ }
+{
+    *t = [0u64; 641];
+    store(
+        t,
+        0,
+        words::first_word::write(FirstFields {
+            base,
+            end,
+            current: Partition(0),
+        }),
+    );
 }

@@ -1,0 +1,17 @@
+use mathlib.Core.Path.{refl}
+use Rattle.tables.specs.Encode.{is-canon}
+use Rattle.services.specs.Boot.{root-words}
+use native.Mathlib.Omega.{arith}
+use borrow.Author.Needs.{needs}
+use Rattle.services.proofs.boot_service.put_root.Statement.{statement}
+use Rattle.services.proofs.boot_service.put_root.Tie as tie
+
+pub put-root-spec : {M : Type 1} → statement M
+put-root-spec =
+    tie.close
+    (tie.spec
+    (λ c κs. search needs)
+    (λ c κs. record { canon = is-canon (c .before .empty-table .ensures); inP = omega arith; present = refl; parent-small = omega arith; start-small = omega arith; end-small = omega arith })
+    (λ c κs. record { canon = is-canon (c .before .put-header .ensures); inP = omega arith; inJ = omega arith; present = refl; start-small = omega arith; end-small = omega arith })
+    (λ c κs. record { canon = is-canon (c .before .put-structure .ensures); inP = omega arith; inI = omega arith; present = refl; given-small = omega arith; start-small = c .before .before .before .before .before .before .before .pre .0; end-small = c .before .before .before .before .before .before .before .pre .1 })
+    (λ c. root-words _ _ (c .before .before .before .before .before .before .empty-table .ensures) (c .before .before .before .before .put-header .ensures) (c .before .before .put-structure .ensures) (c .put-entry .ensures)))

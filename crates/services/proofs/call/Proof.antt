@@ -1,0 +1,20 @@
+use Rattle.sound.specs.Holders.{wrong-length}
+use Rattle.services.specs.Calls.{answers-unsound, answers-done, answers-refused}
+use borrow.Author.Needs.{needs}
+use Rattle.services.proofs.call.Statement.{statement}
+use Rattle.services.proofs.call.Tie as tie
+
+pub call-spec : {M : Type 1} → statement M
+call-spec =
+    tie.close
+    (tie.spec
+    (λ c. answers-unsound _ _ (wrong-length _ (c .if1 .taken)))
+    (λ c κs. c .before .before .if1 .left)
+    (λ c κs. search needs)
+    (λ c. search needs)
+    (λ c κs. c .before .before .before .before .before .before .before .before .before .if1 .left)
+    (λ c. search needs)
+    (λ c. search needs)
+    (λ c. answers-done (c .before .before .before .before .before .before .before .before .before .copy-in .ensures) (c .before .before .before .before .before .before .before .call-table .ensures) (c .before .before .before .before .before .enum-told .given .1) (c .before .before .copy-out .ensures))
+    (λ c. search needs)
+    (λ c. answers-refused (c .before .before .before .before .copy-in .ensures) (c .before .before .call-table .ensures) (c .enum-told2 .given .1)))

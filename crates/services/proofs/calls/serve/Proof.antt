@@ -1,0 +1,16 @@
+use mathlib.Core.Path.{sym, _∙_}
+use borrow.Author.Tests.{not-true, not-false}
+use Rattle.services.specs.Ran.{ran-refused}
+use Rattle.services.specs.Calls.{serve-unknown}
+use borrow.Author.Needs.{needs}
+use Rattle.services.proofs.calls.serve.Statement.{statement}
+use Rattle.services.proofs.calls.serve.Tie as tie
+
+pub serve-spec : {M : Type 1} → statement M
+serve-spec =
+    tie.close
+    (tie.spec
+    (λ c κs. search needs)
+    (λ c. ran-refused (serve-unknown _ _ (sym (c .before .known .ensures) ∙ not-true _ (c .if1 .taken))))
+    (λ c κs. (c .before .before .before .pre .0, c .before .before .before .pre .1, sym (c .before .before .known .ensures) ∙ not-false _ (c .before .if1 .left)))
+    (λ c. c .perform .ensures))

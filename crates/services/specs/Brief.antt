@@ -1,0 +1,147 @@
+-- A first value is a slot, a structure or a partition; a refusal has one of 01's numbers.
+use mathlib.Core.Path.{_≡_, refl, sym}
+use mathlib.Core.Bool.{Bool, true, false, cond}
+use mathlib.Core.List.{List}
+use Prim.Native.Nat.{ℕ, _<_}
+use native.Mathlib.Omega.{arith}
+use lib.Dec.{eqb}
+use Rattle.words.specs.Parts.{clean}
+use Rattle.words.specs.Kind.{fieldsIn}
+use Rattle.words.specs.Words.{call}
+use Rattle.words.specs.declared.Rights.{Rights}
+use Rattle.words.specs.declared.call_word.CallFields.{CallFields}
+use Rattle.words.specs.declared.call_word.CallRead.the-variants.{Fields, Refused as Unread}
+use Rattle.tables.specs.State.{Opt, none, some, Entry, Table}
+use Rattle.tables.specs.View.{view}
+use Rattle.tables.specs.Search.{lowest, lowest-some}
+use Rattle.tables.specs.declared.Outcome.{Outcome}
+use Rattle.tables.specs.declared.Outcome.the-variants.{Done, Refused}
+use Rattle.sound.specs.Clauses.{sound}
+use Rattle.services.specs.Rules.{Result, done, refused, check, need, freeEntry, create, delete, prepare, collect, give, take, cut, merge, load, unload, readRegion, find, switch, unused, serve, serveRead, callOn, bootOn}
+use Rattle.services.specs.Ran.{outcomeOf, refused-done, done-first, refused-number}
+
+pub data Brief : Result → Type 0 where
+  brief-done : {v w : ℕ} {t : Table} → v < 32 → Brief (done v w t)
+  brief-refused : {n : ℕ} → n < 18 → Brief (refused n)
+
+-- ── by the parts of a rule ──
+checked : (n : ℕ) (b : Bool) {r : Result} → n < 18 → Brief r → Brief (check n b r)
+unfolding check
+checked n true h k = k
+checked n false h k = brief-refused h
+
+needed : {A : Type 0} (n : ℕ) (o : Opt A) {f : A → Result} → n < 18 → ((a : A) → o ≡ some a → Brief (f a)) → Brief (need n o f)
+unfolding need
+needed n none h k = brief-refused h
+needed n (some a) h k = k a refl
+
+-- .. by a number that was found
+found : (n m : ℕ) (f : ℕ → Bool) {g : ℕ → Result} → n < 18 → ((i : ℕ) → i < m → Brief (g i)) → Brief (need n (lowest m f) g)
+found n m f h k = needed n (lowest m f) h (λ i q. k i (lowest-some m f i q .below))
+
+free : (t : Table) (s : ℕ) {f : Entry → Result} → ((e : Entry) → Brief (f e)) → Brief (freeEntry t s f)
+unfolding freeEntry
+free t s k = needed 4 _ (omega arith) (λ e q. checked 5 _ (omega arith) (checked 6 _ (omega arith) (k e)))
+
+-- ── the services ──
+module _ (t : Table) where
+  create-brief : (s : ℕ) → Brief (create t s)
+  unfolding create
+  create-brief s = free t s λ e. found 8 16 _ (omega arith) λ n h. checked 9 _ (omega arith) (brief-done (omega arith))
+
+  delete-brief : (p : ℕ) → Brief (delete t p)
+  unfolding delete
+  delete-brief p = checked 3 _ (omega arith) (checked 15 _ (omega arith) (brief-done (omega arith)))
+
+  prepare-brief : (p s : ℕ) → Brief (prepare t p s)
+  unfolding prepare
+  prepare-brief p s = checked 3 _ (omega arith) (free t s λ e. found 8 4 _ (omega arith) λ j h. checked 9 _ (omega arith) (brief-done (omega arith)))
+
+  collect-brief : (p j : ℕ) → Brief (collect t p j)
+  unfolding collect
+  collect-brief p j = checked 3 _ (omega arith) (checked 4 _ (omega arith) (checked 15 _ (omega arith) (brief-done (omega arith))))
+
+  give-brief : (p s : ℕ) (r : Rights) → Brief (give t p s r)
+  unfolding give
+  give-brief p s r = checked 3 _ (omega arith) (free t s λ e. found 8 32 _ (omega arith) λ n h. checked 10 _ (omega arith) (brief-done h))
+
+  take-brief : (s : ℕ) → Brief (take t s)
+  unfolding take
+  take-brief s = needed 4 _ (omega arith) λ e q. checked 6 _ (omega arith) (found 14 32 _ (omega arith) λ i h. brief-done (omega arith))
+
+  cut-brief : (s l : ℕ) → Brief (cut t s l)
+  unfolding cut
+  cut-brief s l = free t s λ e. checked 7 _ (omega arith) (found 8 32 _ (omega arith) λ n h. brief-done h)
+
+  merge-brief : (s u : ℕ) → Brief (merge t s u)
+  unfolding merge
+  merge-brief s u =
+      needed 4 _ (omega arith) λ e q. needed 4 _ (omega arith) λ f r.
+      checked 5 _ (omega arith) (checked 6 _ (omega arith) (checked 11 _ (omega arith) (checked 12 _ (omega arith) (checked 13 _ (omega arith) (brief-done (omega arith))))))
+
+  load-brief : (p s r : ℕ) → Brief (load t p s r)
+  unfolding load
+  load-brief p s r = checked 3 _ (omega arith) (needed 4 _ (omega arith) λ e q. checked 5 _ (omega arith) (checked 16 _ (omega arith) (brief-done (omega arith))))
+
+  unload-brief : (p r : ℕ) → Brief (unload t p r)
+  unfolding unload
+  unload-brief p r = checked 3 _ (omega arith) (checked 16 _ (omega arith) (brief-done (omega arith)))
+
+  read-brief : (p r : ℕ) → Brief (readRegion t p r)
+  unfolding readRegion
+  read-brief p r = checked 3 _ (omega arith) (checked 16 _ (omega arith) (brief-done (omega arith)))
+
+  find-brief : (p l : ℕ) → Brief (find t p l)
+  unfolding find
+  find-brief p l = checked 3 _ (omega arith) (found 7 32 _ (omega arith) λ i h. brief-done h)
+
+  switch-brief : (p : ℕ) → Brief (switch t p)
+  unfolding switch
+  switch-brief p = checked 3 _ (omega arith) (brief-done (omega arith))
+
+  -- ── a call word ──
+  row : (b u : Bool) {r x : Result} → Brief r → Brief x → Brief (cond b (check 2 u r) x)
+  row true u h k = checked 2 u (omega arith) h
+  row false u h k = k
+
+  serve-brief : (f : CallFields) → Brief (serve t f)
+  unfolding serve
+  serve-brief f =
+      row (eqb (f .service) 1) (unused false true false false false f) (create-brief (f .slot .0))
+      (row (eqb (f .service) 2) (unused true false false false false f) (delete-brief (f .partition .0))
+      (row (eqb (f .service) 3) (unused true true false false false f) (prepare-brief (f .partition .0) (f .slot .0))
+      (row (eqb (f .service) 4) (unused true false true false false f) (collect-brief (f .partition .0) (f .other))
+      (row (eqb (f .service) 5) (unused true true false true false f) (give-brief (f .partition .0) (f .slot .0) (f .rights))
+      (row (eqb (f .service) 6) (unused false true false false false f) (take-brief (f .slot .0))
+      (row (eqb (f .service) 7) (unused false true false false true f) (cut-brief (f .slot .0) (f .line .0))
+      (row (eqb (f .service) 8) (unused false true true false false f) (merge-brief (f .slot .0) (f .other))
+      (row (eqb (f .service) 9) (unused true true true false false f) (load-brief (f .partition .0) (f .slot .0) (f .other))
+      (row (eqb (f .service) 10) (unused true false true false false f) (unload-brief (f .partition .0) (f .other))
+      (row (eqb (f .service) 11) (unused true false true false false f) (read-brief (f .partition .0) (f .other))
+      (row (eqb (f .service) 12) (unused true false false false true f) (find-brief (f .partition .0) (f .line .0))
+      (row (eqb (f .service) 13) (unused true false false false false f) (switch-brief (f .partition .0))
+      (brief-refused {n = 2} (omega arith))))))))))))))
+
+pub call-brief : (l : List ℕ) (w : ℕ) → Brief (callOn l w)
+unfolding callOn serveRead call
+call-brief l w = go (sound l) (clean (call .parts) w)
+  where
+    go : (a b : Bool) → Brief (cond a (serveRead (view l) (cond b (Fields (fieldsIn call w)) (Unread 2))) (refused 1))
+    go true true = serve-brief (view l) (fieldsIn call w)
+    go true false = brief-refused {n = 2} (omega arith)
+    go false b = brief-refused {n = 1} (omega arith)
+
+pub boot-brief : (l : List ℕ) (base end : ℕ) → Brief (bootOn l base end)
+unfolding bootOn
+boot-brief l base end = checked 1 _ (omega arith) (checked 7 _ (omega arith) (brief-done (omega arith)))
+
+-- ── what an outcome shows ──
+pub first-small : {res : Result} → Brief res → {v w : ℕ} → outcomeOf res ≡ Done v w → v < 32
+unfolding outcomeOf
+first-small (brief-done h) q = let e = done-first q in omega arith
+first-small (brief-refused h) q = absurd (refused-done q)
+
+pub number-small : {res : Result} → Brief res → {n : ℕ} → outcomeOf res ≡ Refused n → n < 18
+unfolding outcomeOf
+number-small (brief-done h) q = absurd (refused-done (sym q))
+number-small (brief-refused h) q = let e = refused-number q in omega arith

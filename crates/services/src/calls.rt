@@ -1,0 +1,145 @@
+ghost use mathlib.Core.Path.{_≡_};
+ghost use mathlib.Core.Bool.{true, _||_};
+ghost use Rattle.words.specs.Kind.{reading};
+ghost use Rattle.words.specs.Words.{call};
+ghost use Rattle.tables.specs.View.{view};
+ghost use Rattle.tables.specs.Encode.{Canon};
+ghost use Rattle.services.specs.Rules.{noRights, unused, serve, serveRead};
+ghost use Rattle.services.specs.Ran.{Ran};
+ghost use Rattle.services.specs.Calls.{known, InFields, Answers};
+use crate::Answer;
+use tables::Outcome;
+use words::Partition;
+use words::Rights;
+use words::Slot;
+use words::call_word::CallFields;
+use words::call_word::CallRead;
+
+fn no_rights(r: Rights) -> bool
+    ensures { λ b. ⌜ b ≡ noRights r ⌝ }
+{
+    if r.read {
+        return false;
+    }
+    if r.write {
+        return false;
+    }
+    !r.execute
+}
+
+// a field that is used, or zero
+fn in_order(used: bool, zero: bool) -> bool
+    ensures { λ b. ⌜ b ≡ used || zero ⌝ }
+{
+    if used {
+        return true;
+    }
+    zero
+}
+
+// Each field that the service doesn't use is 0.
+fn unused(p: bool, s: bool, u: bool, r: bool, l: bool, f: CallFields) -> bool
+    ensures { λ b. ⌜ b ≡ unused p s u r l f ⌝ }
+{
+    if !in_order(p, f.partition.0 == 0) {
+        return false;
+    }
+    if !in_order(s, f.slot.0 == 0) {
+        return false;
+    }
+    if !in_order(u, f.other == 0) {
+        return false;
+    }
+    let rights = f.rights;
+    if !in_order(r, no_rights(rights)) {
+        return false;
+    }
+    in_order(l, f.line.0 == 0)
+}
+
+// The service is one of the thirteen, and the fields that it doesn't use (P, S, T, R, L) are 0.
+fn known(f: CallFields) -> bool
+    ensures { λ b. ⌜ b ≡ known f ⌝ }
+{
+    let service = f.service;
+    match service {
+        1 => unused(false, true, false, false, false, f),
+        2 => unused(true, false, false, false, false, f),
+        3 => unused(true, true, false, false, false, f),
+        4 => unused(true, false, true, false, false, f),
+        5 => unused(true, true, false, true, false, f),
+        6 => unused(false, true, false, false, false, f),
+        7 => unused(false, true, false, false, true, f),
+        8 => unused(false, true, true, false, false, f),
+        9 => unused(true, true, true, false, false, f),
+        10 => unused(true, false, true, false, false, f),
+        11 => unused(true, false, true, false, false, f),
+        12 => unused(true, false, false, false, true, f),
+        13 => unused(true, false, false, false, false, f),
+        _ => false,
+    }
+}
+
+// The service of a call word whose fields are in order.
+fn perform(t: &mut [u64; 641], f: CallFields) -> Outcome
+    requires { ⌜ Canon (now t) × InFields f × (known f ≡ true) ⌝ }
+    ensures { λ r. ⌜ Ran (serve (view (now (t .entry))) f) (now (t .entry)) r (now (t .exit)) ⌝ }
+{
+    let service = f.service;
+    match service {
+        1 => crate::area_services::create(t, f.slot),
+        2 => crate::delete_service::delete(t, f.partition),
+        3 => crate::area_services::prepare(t, f.partition, f.slot),
+        4 => crate::area_services::collect(t, f.partition, f.other),
+        5 => crate::slot_services::give(t, f.partition, f.slot, f.rights),
+        6 => crate::take_service::take(t, f.slot),
+        7 => crate::slot_services::cut(t, f.slot, f.line),
+        8 => crate::merge_service::merge(t, f.slot, Slot(f.other)),
+        9 => crate::region_services::load(t, f.partition, f.slot, f.other),
+        10 => crate::region_services::unload(t, f.partition, f.other),
+        11 => crate::region_services::read_region(t, f.partition, f.other),
+        12 => crate::looks::find(t, f.partition, f.line),
+        13 => crate::looks::switch(t, f.partition),
+        _ => Outcome::Refused(2),
+    }
+}
+
+// The fields of a call word: its service, or 2 where they are not in order.
+fn serve(t: &mut [u64; 641], f: CallFields) -> Outcome
+    requires { ⌜ Canon (now t) × InFields f ⌝ }
+    ensures { λ r. ⌜ Ran (serve (view (now (t .entry))) f) (now (t .entry)) r (now (t .exit)) ⌝ }
+{
+    if !known(f) {
+        return Outcome::Refused(2);
+    }
+    perform(t, f)
+}
+
+// A call word: its service, or 2 where it is none.
+fn serve_word(t: &mut [u64; 641], word: u64) -> Outcome
+    requires { ⌜ Canon (now t) ⌝ }
+    ensures { λ r. ⌜ Ran (serveRead (view (now (t .entry))) (reading call word)) (now (t .entry)) r (now (t .exit)) ⌝ }
+{
+    let read = words::call_word::read(word);
+    match read {
+        CallRead::Fields(f) => serve(t, f),
+        CallRead::Refused(n) => Outcome::Refused(n),
+    }
+}
+
+// A call on the words of a table that stands in an array: `call` without its length and its copies.
+pub fn call_table(t: &mut [u64; 641], word: u64) -> Answer
+    ensures { λ r. ⌜ Answers (now (t .entry)) word r (now (t .exit)) ⌝ }
+{
+    if !sound::decide::is_sound(t) {
+        return Answer {
+            caller: Partition(0),
+            outcome: Outcome::Refused(1),
+        };
+    }
+    tables::fits(t);
+    let first = tables::read::first(t);
+    let caller = first.current;
+    let outcome = serve_word(t, word);
+    Answer { caller, outcome }
+}
