@@ -4,3 +4,4 @@ pub mod Kept
 pub mod Lists
 pub mod Listing
 pub mod Theorem
+pub mod LedgerRuns

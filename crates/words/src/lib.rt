@@ -12,11 +12,13 @@ pub mod regions_word;
 pub mod slot_word;
 pub mod structure_word;
 
-// Three kinds of number that are never taken for one another.
+// Three kinds of number that are never taken for one another. C sees a list of runs, and so lines and partitions.
+#[repr(C)]
 pub struct Line(pub u32);
 
 pub struct Slot(pub u32);
 
+#[repr(C)]
 pub struct Partition(pub u32);
 
 pub struct Rights {

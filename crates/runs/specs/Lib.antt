@@ -1,0 +1,10 @@
+pub mod Runs
+pub mod RunLaws
+pub mod OneList
+pub mod Bound
+pub mod Pieces
+pub mod Steps
+pub mod Counting
+pub mod Stored
+pub mod Listing
+pub mod Meaning

@@ -1,0 +1,42 @@
+-- A list whose first records are stored one by one, as a loop stores them: the first n values of a function, and then the rest of the list.
+use mathlib.Core.Path.{_≡_, refl, sym, ap, ap₂, subst, _∙_}
+use Prim.Native.Nat.{ℕ, zero, suc, _≤_, _+_}
+use native.Mathlib.Numerals.{add-one}
+use native.Mathlib.Omega.{arith}
+use mathlib.Core.List.{List, [], _∷_, _++_}
+use lib.ListN.{length, set, drop, getD, length-set, length-append}
+use lib.Seq.{drop-cons, set-append-seam, append-snoc}
+
+module _ {A : Type 0} (f : ℕ → A) where
+  -- f 0, f 1, .., f (n - 1)
+  abbrev pub firsts : ℕ → List A
+  firsts zero = []
+  firsts (suc n) = firsts n ++ (f n ∷ [])
+
+  -- xs with f 0 at 0, .., f (i - 1) at i - 1
+  abbrev pub stored : ℕ → List A → List A
+  stored zero xs = xs
+  stored (suc i) xs = set (stored i xs) i (f i)
+
+  pub length-stored : (i : ℕ) (xs : List A) → length (stored i xs) ≡ length xs
+  length-stored zero xs = refl
+  length-stored (suc i) xs = length-set (stored i xs) i (f i) ∙ length-stored i xs
+
+  length-firsts : (n : ℕ) → length (firsts n) ≡ n
+  length-firsts zero = refl
+  length-firsts (suc n) = length-append (firsts n) (f n ∷ []) ∙ ap (λ (k : ℕ). k + 1) (length-firsts n) ∙ add-one n
+
+  next : (R Z xs : List A) (n : ℕ) (y : A) → length R ≡ n → xs ≡ R ++ y ∷ Z → set xs n (f n) ≡ R ++ (f n ∷ []) ++ Z
+  next R Z xs n y l e =
+      ap (λ (ws : List A). set ws n (f n)) e ∙ subst (λ (k : ℕ). set (R ++ y ∷ Z) k (f n) ≡ R ++ f n ∷ Z) l (set-append-seam R y Z (f n)) ∙ sym (append-snoc R (f n) Z)
+
+  -- where xs is long enough: the first values, and then xs
+  pub stored-is : (i : ℕ) (xs : List A) → i ≤ length xs → stored i xs ≡ firsts i ++ drop i xs
+  stored-is zero xs l = refl
+  stored-is (suc i) xs l =
+      next (firsts i) (drop (suc i) xs) (stored i xs) i (getD xs i (f i)) (length-firsts i) (stored-is i xs (omega (arith, l)) ∙ ap (λ (r : List A). firsts i ++ r) (drop-cons xs i (f i) l))
+
+-- the first value, and then those of the function from 1 on
+pub firsts-more : {A : Type 0} (f g : ℕ → A) → ((i : ℕ) → f (suc i) ≡ g i) → (n : ℕ) → firsts f (suc n) ≡ f 0 ∷ firsts g n
+firsts-more f g h zero = refl
+firsts-more f g h (suc n) = ap₂ (λ (xs : List _) y. xs ++ (y ∷ [])) (firsts-more f g h n) (h n)

@@ -1,0 +1,21 @@
+// The runs of lines that have the same holders.
+pub mod listing;
+pub mod pieces;
+pub mod steps;
+
+use words::Line;
+use words::Partition;
+
+// Lines start to end, end excluded, whose deepest holder is the same.
+#[repr(C)]
+pub struct Run {
+    pub start: Line,
+    pub end: Line,
+    pub deepest: Partition,
+}
+
+// A run, and the piece that comes after it.
+pub struct Step {
+    pub run: Run,
+    pub next: Run,
+}
