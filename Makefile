@@ -1,5 +1,5 @@
 # make test:    the one test command. It proves every crate and runs the host tests; its last line is 'N passed, M failed'.
-# make run:     runs the program of this repository.
+# make run:     runs the program tally on the session that document 01 prints; SESSION=file on another.
 # make lib:     proves the library and puts it, with its header, into build/.
 # make example: builds and runs examples/handset.c with it.
 # make bench:   the library against the second program, as quotients of their times.
@@ -10,7 +10,7 @@ test:
 	@tests/gate
 
 run:
-	@echo "the program tally is run here once it has landed"
+	@examples/run_session '$(or $(SESSION),crates/tally/stdin)'
 
 lib: build/libulavrepit.a build/ulavrepit.h
 
@@ -28,7 +28,7 @@ example: lib
 	@bash -c '. tests/lib.sh && target_cc -std=c99 -O2 -Ibuild -o build/handset examples/handset.c build/libulavrepit.a && run_x86 build/handset'
 
 bench: lib
-	@bash -c '. tests/lib.sh && target_cc -std=c99 -O2 -Ibuild -Isecond -Itests/c -o build/bench bench/bench.c tests/c/tables.c second/kernel.c build/libulavrepit.a && run_x86 build/bench'
+	@bash -c '. tests/lib.sh && target_cc -std=c99 -O2 -Ibuild -Isecond -Itests/c -o build/bench bench/bench.c tests/c/tables.c tests/c/most_runs.c tests/c/damage.c tests/c/steer.c second/kernel.c build/libulavrepit.a && run_x86 build/bench'
 
 soak: export SEED ?= 1
 soak: export MINUTES ?= 10

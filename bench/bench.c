@@ -7,6 +7,7 @@
  */
 #define _POSIX_C_SOURCE 200809L
 #include "kernel.h"
+#include "most_runs.h"
 #include "tables.h"
 #include "ulavrepit.h"
 
@@ -17,8 +18,13 @@
 
 enum { ROUNDS = 301, BATCH_NANOSECONDS = 300000, WORDS = 2 };
 
-static const kernel library = {ulavrepit_boot, ulavrepit_call, ulavrepit_holders};
-static const kernel second = {second_boot, second_call, second_holders};
+static uint64_t second_runs_too(const uint8_t *t, uint64_t len, ulavrepit_run *list, uint64_t list_len)
+{
+    return second_runs(t, len, (second_run *)list, list_len);
+}
+
+static const kernel library = {ulavrepit_boot, ulavrepit_call, ulavrepit_holders, ulavrepit_runs};
+static const kernel second = {second_boot, second_call, second_holders, second_runs_too};
 
 /* ---- what is timed ---- */
 
@@ -54,6 +60,12 @@ static bool do_holders(const kernel *k, const job *j)
     uint8_t list[ULAVREPIT_HOLDERS_BYTES];
     uint64_t value;
     return (k->holders(table, sizeof table, j->line, list, sizeof list, &value) & 0xff) == j->refusal;
+}
+
+static bool do_runs(const kernel *k, const job *j)
+{
+    static ulavrepit_run list[ULAVREPIT_RUNS];
+    return (k->runs(table, sizeof table, list, ULAVREPIT_RUNS) & 0xff) == j->refusal;
 }
 
 /* ---- timing ---- */
@@ -113,8 +125,8 @@ static void measure(work *w, const job *j, unsigned operations)
 
 /* ---- the rows ---- */
 
-/* Holders, find, and load with unload of the entry that holds the line, on the table as it is. */
-static void measure_table(const char *const names[3], uint64_t line)
+/* Holders, find, load with unload of the entry that holds the line, and runs, on the table as it is. */
+static void measure_table(const char *const names[4], uint64_t line)
 {
     uint64_t word;
     uint32_t current = (uint32_t)(table[7] >> 6 | (table[6] & 3) << 2);
@@ -125,7 +137,9 @@ static void measure_table(const char *const names[3], uint64_t line)
     job loading = {names[2], {ulavrepit_load(current, slot, 7), ulavrepit_unload(current, 7)}, 0, ULAVREPIT_DONE};
     measure(do_holders, &listing, 1);
     measure(do_calls, &finding, WORDS);
+    job running = {names[3], {0}, 0, ULAVREPIT_DONE};
     measure(do_calls, &loading, WORDS);
+    measure(do_runs, &running, 1);
 }
 
 /* A cut and the merge that undoes it, on the table as it is; the new piece goes to the slot that is free. */
@@ -145,9 +159,11 @@ static void must(bool good, const char *what)
 
 int main(void)
 {
-    static const char *const fresh[] = {"holders, fresh", "find, fresh", "load and unload, fresh"};
-    static const char *const typical[] = {"holders, typical", "find, typical", "load and unload, typical"};
-    static const char *const densest[] = {"holders, densest", "find, densest", "load and unload, densest"};
+    static const char *const fresh[] = {"holders, fresh", "find, fresh", "load and unload, fresh", "runs, fresh"};
+    static const char *const typical[] = {"holders, typical", "find, typical", "load and unload, typical", "runs, typical"};
+    static const char *const densest[] = {"holders, densest", "find, densest", "load and unload, densest", "runs, densest"};
+    static second_table most;
+    job most_runs = {"runs, the most", {0}, 0, ULAVREPIT_DONE};
     job booting = {"boot", {0}, 1024, ULAVREPIT_DONE};
     job refused_word = {"call refused 2, typical", {0}, 0, ULAVREPIT_REFUSED_WORD};
     job refused_table = {"call refused 1, typical with the last zero bit set", {0}, 0, ULAVREPIT_REFUSED_TABLE};
@@ -167,5 +183,9 @@ int main(void)
 
     must(make_densest(&second, table), "the densest table");
     measure_table(densest, 65535);
+
+    make_most_runs(&most);
+    second_write(&most, table);
+    measure(do_runs, &most_runs, 1);
     return 0;
 }

@@ -26,7 +26,8 @@ enum {
     ULAVREPIT_LINE_BYTES = 32,
     ULAVREPIT_LAST_LINE = 134217727, /* the highest number that a boot may name as its end */
     ULAVREPIT_AREA_LINES = 16,       /* a block that is to serve the kernel has so many lines or more */
-    ULAVREPIT_HOLDERS_BYTES = 16     /* a list for holders has so many bytes or more */
+    ULAVREPIT_HOLDERS_BYTES = 16,    /* a list for holders has so many bytes or more */
+    ULAVREPIT_RUNS = 324             /* no sound table has more runs */
 };
 
 /* Rights of an entry, to be added up. */
@@ -75,7 +76,7 @@ enum {
 
 /*
  * Each answers  refusal + 2^8 * caller + 2^32 * first;  bits 16 to 31 are zero. Refusal 0: done. The caller's
- * number is the one before the call; it is 0 where refusal is 1, and for boot and holders. *second is written
+ * number is the one before the call; it is 0 where refusal is 1, and for boot, holders and runs. *second is written
  * only when done. Refused: first is 0. Pointers are never null; buffers don't overlap.
  */
 
@@ -91,6 +92,17 @@ uint64_t ulavrepit_call(uint8_t *table, uint64_t table_len, uint64_t word, uint6
  */
 uint64_t ulavrepit_holders(const uint8_t *table, uint64_t table_len, uint64_t line,
                            uint8_t *list, uint64_t list_len, uint64_t *second);
+
+/* Lines start to end, end excluded, with the same holders; the deepest of them, which decides who the others are. */
+typedef struct {
+    uint32_t start, end, deepest;
+} ulavrepit_run;
+
+/*
+ * Each longest run of lines with the same holders, in rising order: the first n records of the list, whose
+ * length is counted in records; those past them stay. First is n.
+ */
+uint64_t ulavrepit_runs(const uint8_t *table, uint64_t table_len, ulavrepit_run *list, uint64_t list_len);
 
 /* ---- the same, with a struct for an answer ---- */
 
@@ -127,6 +139,12 @@ static inline ulavrepit_answer ulavrepit_holders_answer(const uint8_t *table, ui
     uint64_t second = 0;
     uint64_t result = ulavrepit_holders(table, table_len, line, list, list_len, &second);
     return ulavrepit_unpack_answer(result, second);
+}
+
+static inline ulavrepit_answer ulavrepit_runs_answer(const uint8_t *table, uint64_t table_len,
+                                                     ulavrepit_run *list, uint64_t list_len)
+{
+    return ulavrepit_unpack_answer(ulavrepit_runs(table, table_len, list, list_len), 0);
 }
 
 /* ---- call words: service 4, P 4, S 5, T 5, R 3, L 27, zero 16 bits, most significant first ---- */

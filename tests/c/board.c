@@ -52,6 +52,16 @@ static ulavrepit_answer holders_len(uint64_t len, uint64_t line, uint64_t list_l
     return answer;
 }
 
+static ulavrepit_answer runs_len(uint64_t len, uint64_t list_len)
+{
+    memset(now.runs, PAINT, sizeof now.runs);
+    lent before = now;
+    ulavrepit_answer answer = judge(ulavrepit_runs(now.table, len, now.runs, list_len), &before);
+    if (memcmp(now.table, before.table, sizeof now.table) != 0 || now.second != before.second)
+        clean = false;
+    return answer;
+}
+
 /* ---- verdicts on one call ---- */
 
 static bool boot_is(uint64_t base, uint64_t end, unsigned refusal)
@@ -86,6 +96,21 @@ static bool holders_are(uint64_t line, uint64_t list_len, const char *names, uin
     ulavrepit_answer answer = holders_len(sizeof now.table, line, list_len);
     return answer.refusal == 0 && answer.caller == 0 && answer.first == count && answer.second == 0 &&
            memcmp(now.list, names, count) == 0 && all_painted(now.list + count, LIST - count);
+}
+
+static bool runs_refused(uint64_t list_len, unsigned number)
+{
+    ulavrepit_answer answer = runs_len(sizeof now.table, list_len);
+    return answer.refusal == number && answer.caller == 0;
+}
+
+/* The list begins with these runs, and its other records are as they were. */
+static bool runs_are(uint64_t list_len, const ulavrepit_run *runs, uint32_t count)
+{
+    ulavrepit_answer answer = runs_len(sizeof now.table, list_len);
+    return answer.refusal == 0 && answer.caller == 0 && answer.first == count &&
+           memcmp(now.runs, runs, count * sizeof *runs) == 0 &&
+           all_painted((const uint8_t *)(now.runs + count), (RUNS - count) * sizeof *runs);
 }
 
 /* ---- the two tables of document 01 ---- */
@@ -150,7 +175,8 @@ static bool length_refused(uint64_t len)
 {
     return boot_len(len, 1, 2).refusal == 1 && boot_len(len, 2, 1).refusal == 1 &&
            call_len(len, ulavrepit_find(0, 300)).refusal == 1 && call_len(len, 0).refusal == 1 &&
-           holders_len(len, 300, 16).refusal == 1 && holders_len(len, 0, 0).refusal == 1;
+           holders_len(len, 300, 16).refusal == 1 && holders_len(len, 0, 0).refusal == 1 &&
+           runs_len(len, RUNS).refusal == 1 && runs_len(len, 0).refusal == 1;
 }
 
 static void test_lengths(void)
@@ -195,6 +221,18 @@ static void test_holders(void)
     check(holders_refused(300, 16, 1) && holders_refused(1024, 0, 1) && holders_refused(300, 0, 1),
           "holders of a table not sound: 1 before 7 and 17");
     check(refused(ulavrepit_find(0, 300), 1) && refused(0, 1), "a call on a table not sound: 1 before 2");
+}
+
+static void test_runs(void)
+{
+    static const ulavrepit_run whole[] = {{256, 1024, 0}};
+    static const ulavrepit_run three[] = {{256, 288, 0}, {288, 512, 1}, {512, 1024, 0}};
+    check(make_b() && runs_are(RUNS, whole, 1) && runs_are(1, whole, 1) && runs_refused(0, 17), "B: one run");
+    check(make_x() && runs_are(RUNS, three, 3) && runs_are(3, three, 3), "X: the three runs that 01 prints");
+    check(runs_refused(2, 17) && runs_refused(0, 17), "runs with a list shorter than the runs: 17");
+    check(ulavrepit_runs_answer(now.table, sizeof now.table, now.runs, RUNS).first == 3, "runs answer a struct too");
+    now.table[7] ^= 1; /* a zero bit of word 0 */
+    check(runs_refused(RUNS, 1) && runs_refused(0, 1), "runs of a table not sound: 1 before 17");
 }
 
 /* One refusal of each number that a booted board can meet; 8, 12 and 13 need longer sessions. */
@@ -321,6 +359,7 @@ int main(void)
     test_lengths();
     test_boot();
     test_holders();
+    test_runs();
     test_refusals();
     test_rights();
     test_caller();

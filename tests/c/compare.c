@@ -1,7 +1,8 @@
 /*
  * The library against the second program, in one process and on the same bytes: sessions steered by the table,
  * near misses of every refusal, words of garbage, tables that no session makes, and damaged tables. After every
- * call the answers and all the lent memory are compared, guards included, and so are the listings of holders.
+ * call the answers and all the lent memory are compared, guards included, and so are the listings of holders
+ * and runs.
  *
  *   compare SEED CALLS
  *
@@ -23,6 +24,7 @@ static dice chance;
 
 static bool same_so_far = true;
 static unsigned long calls, accepted, damaged, odd, listings, boots;
+static unsigned long most_runs, short_lists;
 static unsigned long cells[14][18]; /* by service and refusal number */
 static unsigned long alone[CLAUSES + 1];
 static unsigned long unsound_sessions, unsound_odd;
@@ -98,6 +100,24 @@ static void list_both(uint64_t line)
     listings++;
 }
 
+/* Into a list that is long enough, or just so, or one record too short. */
+static void run_both(void)
+{
+    static second_run probe[SECOND_RUNS];
+    uint64_t count = second_runs(theirs.table, sizeof theirs.table, probe, SECOND_RUNS) >> 32, list_len = RUNS;
+    if (count > 0 && percent(&chance, 20))
+        list_len = count - below(&chance, 2);
+    memset(ours.runs, PAINT, sizeof ours.runs);
+    memset(theirs.runs, PAINT, sizeof theirs.runs);
+    lent before = ours;
+    uint64_t our = ulavrepit_runs(ours.table, sizeof ours.table, ours.runs, list_len);
+    uint64_t their = second_runs(theirs.table, sizeof theirs.table, (second_run *)theirs.runs, list_len);
+    compare("runs", list_len, our, their, &before);
+    short_lists += (their & 0xff) == ULAVREPIT_REFUSED_LIST;
+    if (count > most_runs)
+        most_runs = count;
+}
+
 /* The first and the last line of an entry and the one past it; at times a line of anywhere. */
 static void list_boundaries(void)
 {
@@ -130,6 +150,7 @@ static void step(mood m)
     unsound_sessions += refusal == 1;
     read_state();
     list_boundaries();
+    run_both();
 }
 
 /* A table handed to both, in the place of the one that they have. */
@@ -184,6 +205,7 @@ static void take_damaged_table(mood m)
     hand_over(table);
     call_both(next_word(theirs.table, &state, m, &chance));
     list_both(state.base);
+    run_both();
     hand_over(kept);
 }
 
@@ -247,7 +269,8 @@ static void print_cells(void)
     printf("\n# tables in which one clause failed alone:");
     for (unsigned clause = 1; clause <= CLAUSES; clause++)
         printf(" S%u %lu%s", clause, alone[clause], clause < CLAUSES ? "," : "\n");
-    printf("# the longest chain: %u levels below the root\n", deepest);
+    printf("# the longest chain: %u levels below the root; the most runs: %lu; lists too short: %lu\n", deepest, most_runs,
+           short_lists);
     printf("# %lu boots, %lu calls in sessions, %lu of them accepted, %lu listings, %lu odd tables, %lu damaged tables\n",
            boots, calls, accepted, listings, odd, damaged);
 }
@@ -296,6 +319,7 @@ int main(int count, char **words)
     check(every_cell_met(), "every service was done, and refused with each of its numbers, 1 and 2, and with no other");
     check(every_clause_failed_alone(last / 200), "each of S1 to S11 failed alone in many tables");
     check(deepest == SECOND_PARTITIONS - 1, "chains of 15 levels below the root were met");
+    check(most_runs == ULAVREPIT_RUNS && short_lists >= last / 100, "324 runs, and lists too short, were met");
     check(accepted > calls / 2, "more than half of the calls were accepted");
     check(calls >= last && damaged >= last / 4, "as many calls as asked for, and a damaged table for every four");
     return 0;

@@ -7,6 +7,7 @@
 #define _XOPEN_SOURCE 700
 #include "check.h"
 #include "lent.h"
+#include "most_runs.h"
 #include "session.h"
 #include "tables.h"
 
@@ -15,7 +16,7 @@
 enum { LIMIT = 16384, STACK = 65536, KNOWN = 20480, ENTERING = 1024 };
 
 static uint8_t stack[STACK];
-static const kernel library = {ulavrepit_boot, ulavrepit_call, ulavrepit_holders};
+static const kernel library = {ulavrepit_boot, ulavrepit_call, ulavrepit_holders, ulavrepit_runs};
 
 /* ---- painting ---- */
 
@@ -53,6 +54,7 @@ static bool within_limit(size_t depth)
 
 static uint8_t start[ULAVREPIT_TABLE_BYTES], table[ULAVREPIT_TABLE_BYTES];
 static uint8_t list[ULAVREPIT_HOLDERS_BYTES];
+static ulavrepit_run runs[ULAVREPIT_RUNS];
 static uint64_t argument;
 static bool accepted[ULAVREPIT_SWITCH + 1]; /* by service */
 
@@ -89,7 +91,14 @@ static void do_holders(void)
     ulavrepit_holders(table, sizeof table, argument, list, sizeof list, &second);
 }
 
-static size_t deepest[3]; /* of boot, call, holders */
+static void do_runs(void)
+{
+    memcpy(table, start, sizeof table);
+    ulavrepit_runs(table, sizeof table, runs, argument);
+}
+
+static second_table most;
+static size_t deepest[4]; /* of boot, call, holders, runs */
 
 static void measure(unsigned which, void (*work)(void), uint64_t with)
 {
@@ -111,12 +120,14 @@ static void measure_services(uint32_t p, uint32_t s, uint32_t t, uint32_t line)
         measure(1, do_call, words[i]);
 }
 
-/* All three functions, from the table in 'start'. */
+/* All functions, from the table in 'start'. */
 static void measure_table(void)
 {
     static const uint32_t lines[] = {0, 256, 300, 700, 1500, 65535};
     measure(0, do_boot, 4096);
     measure(0, do_boot, 0);
+    measure(3, do_runs, ULAVREPIT_RUNS);
+    measure(3, do_runs, 0);
     for (size_t i = 0; i < sizeof lines / sizeof *lines; i++)
         measure(2, do_holders, lines[i]);
     for (uint32_t p = 0; p < ULAVREPIT_PARTITIONS; p++)
@@ -190,9 +201,14 @@ int main(void)
     measure_both();
     check(move_up(7) && current_of(start) == 0, "called from its root");
     measure_both();
+    make_most_runs(&most);
+    second_write(&most, start);
+    check(ulavrepit_runs(start, sizeof start, runs, ULAVREPIT_RUNS) >> 32 == ULAVREPIT_RUNS, "the table with the most runs");
+    measure_both();
     check(every_service_accepted(), "each service was accepted in one of these calls");
     say_depth(0, "ulavrepit_boot");
     say_depth(1, "ulavrepit_call");
     say_depth(2, "ulavrepit_holders");
+    say_depth(3, "ulavrepit_runs");
     return 0;
 }

@@ -1,7 +1,5 @@
 #include "tables.h"
 
-#include "ulavrepit.h"
-
 /* The table being made, and whether every call so far was accepted. */
 typedef struct {
     const kernel *k;

@@ -5,14 +5,16 @@
 #ifndef TABLES_H
 #define TABLES_H
 
-#include <stdbool.h>
-#include <stdint.h>
+#include "ulavrepit.h"
 
-/* A kernel: the library's functions or the second program's, which have the same types. */
+#include <stdbool.h>
+
+/* A kernel: the library's functions or the second program's, which have the same types but for the name of a run. */
 typedef struct {
     uint64_t (*boot)(uint8_t *, uint64_t, uint64_t, uint64_t);
     uint64_t (*call)(uint8_t *, uint64_t, uint64_t, uint64_t *);
     uint64_t (*holders)(const uint8_t *, uint64_t, uint64_t, uint8_t *, uint64_t, uint64_t *);
+    uint64_t (*runs)(const uint8_t *, uint64_t, ulavrepit_run *, uint64_t);
 } kernel;
 
 /* The root alone, with one entry. */

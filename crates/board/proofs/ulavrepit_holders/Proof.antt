@@ -1,0 +1,23 @@
+use mathlib.Core.Path.{refl, sym, _∙_}
+use Rattle.board.specs.Board.{holders-first, holders-number, list-none, list-lent, list-kept}
+use native.Mathlib.Omega.{arith}
+use borrow.Author.Needs.{needs}
+use Rattle.board.proofs.ulavrepit_holders.Statement.{statement}
+use Rattle.board.proofs.ulavrepit_holders.Tie as tie
+
+pub ulavrepit-holders-spec : {M : Type 1} → statement M
+ulavrepit-holders-spec =
+    tie.close
+    (tie.spec
+    (λ c κs. (omega arith, omega arith, omega arith))
+    (λ c. list-none _ (c .before .if1 .taken) (c .packed .ensures))
+    (λ c κs. c .before .if1 .left)
+    (λ c κs. search needs)
+    (λ c. search needs)
+    (λ c κs. (omega arith, omega arith, omega (arith, holders-first _ _ _ (sym (c .before .before .before .before .before .holders-table .ensures .outcome) ∙ c .before .outcome .given .1))))
+    (λ c. search needs)
+    (λ c κs. (omega (arith, holders-number _ _ _ (sym (c .before .before .before .before .before .holders-table .ensures .outcome) ∙ c .before .outcome2 .given .1)), omega arith, omega arith))
+    (λ c. search needs)
+    (λ c. list-lent _ (c .before .before .before .before .before .before .before .before .before .before .before .if1 .left) (c .before .before .before .before .before .before .before .before .before .load .ensures) (c .before .before .before .before .before .before .holders-table .ensures) (c .before .before .outcome .given .1) (c .packed2 .ensures) refl)
+    (λ c. search needs)
+    (λ c. list-kept _ (c .before .before .before .before .before .before .before .before .before .before .before .if1 .left) (c .before .before .before .before .before .before .before .before .before .load .ensures) (c .before .before .before .before .before .before .holders-table .ensures) (c .before .before .outcome2 .given .1) (c .packed3 .ensures)))

@@ -1,0 +1,85 @@
+ghost use mathlib.Core.Path.{_≡_};
+ghost use Prim.Native.Nat.{_^_, _<_};
+ghost use Rattle.services.specs.Rules.{bootOn};
+ghost use Rattle.board.specs.Board.{handed, packed, Lent, CallLent, ListLent};
+
+// The functions for the board's firmware, which is C. include/ulavrepit.h declares them.
+pub mod lists;
+
+use tables::Outcome;
+use words::Partition;
+
+// What C gets: bits 16 to 31 are zero.
+fn packed(refusal: u64, caller: Partition, first: u64) -> u64
+    requires { ⌜ (refusal < 2 ^ 8) × (caller .0 < 16) × (first < 2 ^ 32) ⌝ }
+    ensures { λ r. ⌜ r ≡ packed refusal (caller .0) first ⌝ }
+{
+    refusal + (0x100 * caller.0 as u64 + 0x1_0000_0000 * first)
+}
+
+// Boot: `services::boot` on bytes.
+#[no_mangle]
+pub extern "C" fn ulavrepit_boot(table: &mut [u8], base: u64, end: u64) -> u64
+    ensures { λ r. ⌜ Lent 0 (bootOn (handed (now (table .entry))) base end) (now (table .entry)) r (now (table .exit)) ⌝ }
+{
+    if table.len() != 5128 {
+        return packed(1, Partition(0), 0);
+    }
+    let mut a = [0u64; 641];
+    let outcome = services::boot_service::boot_table(&mut a, base, end);
+    match outcome {
+        Outcome::Done(first, _) => {
+            tables::bytes::store(&a, table);
+            packed(0, Partition(0), first)
+        }
+        Outcome::Refused(n) => packed(n, Partition(0), 0),
+    }
+}
+
+// A call: `services::call` on bytes. The second value is written only when it is done.
+#[no_mangle]
+pub extern "C" fn ulavrepit_call(table: &mut [u8], word: u64, second: &mut u64) -> u64
+    ensures { λ r. ⌜ CallLent (now (table .entry)) word (now (second .entry)) r (now (table .exit)) (now (second .exit)) ⌝ }
+{
+    if table.len() != 5128 {
+        return packed(1, Partition(0), 0);
+    }
+    let mut a = [0u64; 641];
+    tables::bytes::load(table, &mut a);
+    let answer = services::calls::call_table(&mut a, word);
+    let caller = answer.caller;
+    let outcome = answer.outcome;
+    match outcome {
+        Outcome::Done(first, value) => {
+            tables::bytes::store(&a, table);
+            *second = value;
+            packed(0, caller, first)
+        }
+        Outcome::Refused(n) => packed(n, caller, 0),
+    }
+}
+
+// Holders: `sound::holders::holders` on bytes. The second value is written only when it is done.
+#[no_mangle]
+pub extern "C" fn ulavrepit_holders(
+    table: &[u8],
+    line: u64,
+    list: &mut [u8],
+    second: &mut u64,
+) -> u64
+    ensures { λ r. ⌜ ListLent (now (table .entry)) line (now (list .entry)) (now (second .entry)) r (now (list .exit)) (now (second .exit)) ⌝ }
+{
+    if table.len() != 5128 {
+        return packed(1, Partition(0), 0);
+    }
+    let mut a = [0u64; 641];
+    tables::bytes::load(table, &mut a);
+    let outcome = sound::holders::holders_table(&a, line, list);
+    match outcome {
+        Outcome::Done(first, value) => {
+            *second = value;
+            packed(0, Partition(0), first)
+        }
+        Outcome::Refused(n) => packed(n, Partition(0), 0),
+    }
+}
