@@ -3,13 +3,13 @@ use mathlib.Core.Path.{_≡_, refl, sym, _∙_}
 use mathlib.Core.Bool.{Bool, true, false, cond, false≢true}
 use mathlib.Core.Logic.{_⊎_, inl, inr}
 use Prim.Native.Nat.{ℕ, _^_, _<_}
-use Rattle.loops.specs.Every.{bool-ext}
 use Rattle.tables.specs.State.{Opt, none, some, Entry, Area, K, Table, some-inj, not-none}
 use Rattle.tables.specs.Update.{upd, upd-from}
 use Rattle.tables.specs.Settle.{openBit, openAt, keep, settle}
 use Rattle.sound.specs.Opens.{open-clear}
 use Rattle.sound.specs.Core.{Core}
 use Rattle.sound.specs.Whole.{Right}
+use Rattle.sound.specs.Settled.{settled-same as same, right-settled}
 
 -- ── regions ──
 -- eight regions, and no slot twice in a partition
@@ -86,18 +86,4 @@ settle-right {k} {region} h b g = record {
 
 -- a right table is settled: a service that only reads changes no word
 pub settled-same : {t : Table} → Right t → settle (t .k) (t .region) ≡ t
-unfolding settle openAt openBit keep
-settled-same {t} h = λ x. record { k = t .k; opened = λ p i. bit p i x; region = λ p r. kept p r (t .region p r) refl x }
-  where
-    at : (p i : ℕ) (y : Opt Entry) → t .k .slot p i ≡ y → openBit (t .k .area) y ≡ t .opened p i
-    at p i none u = sym (h .closed p i u)
-    at p i (some e) u =
-        let c = open-clear (t .k .area) (h .core .s2-range) e in
-        bool-ext _ _ (λ q. h .s9 p i e u .1 (c .0 q)) (λ q. c .1 (h .s9 p i e u .0 q))
-
-    bit : (p i : ℕ) → openAt (t .k) p i ≡ t .opened p i
-    bit p i = at p i (t .k .slot p i) refl
-
-    kept : (p r : ℕ) (y : Opt ℕ) → t .region p r ≡ y → keep (openAt (t .k) p) y ≡ y
-    kept p r none u = refl
-    kept p r (some i) u = rw (bit p i ∙ h .s10 p .names r i u .1) refl
+settled-same h = same (right-settled h)

@@ -3,6 +3,8 @@ pub mod listing;
 pub mod pieces;
 pub mod steps;
 
+pub use listing::runs;
+
 use words::Line;
 use words::Partition;
 

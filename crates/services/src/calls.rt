@@ -4,6 +4,7 @@ ghost use Rattle.words.specs.Kind.{reading};
 ghost use Rattle.words.specs.Words.{call};
 ghost use Rattle.tables.specs.View.{view};
 ghost use Rattle.tables.specs.Encode.{Canon};
+ghost use Rattle.sound.specs.Whole.{Right};
 ghost use Rattle.services.specs.Rules.{noRights, unused, serve, serveRead};
 ghost use Rattle.services.specs.Ran.{Ran};
 ghost use Rattle.services.specs.Calls.{known, InFields, Answers};
@@ -82,7 +83,7 @@ fn known(f: CallFields) -> bool
 
 // The service of a call word whose fields are in order.
 fn perform(t: &mut [u64; 641], f: CallFields) -> Outcome
-    requires { ⌜ Canon (now t) × InFields f × (known f ≡ true) ⌝ }
+    requires { ⌜ Canon (now t) × InFields f × (known f ≡ true) × Right (view (now t)) ⌝ }
     ensures { λ r. ⌜ Ran (serve (view (now (t .entry))) f) (now (t .entry)) r (now (t .exit)) ⌝ }
 {
     let service = f.service;
@@ -106,7 +107,7 @@ fn perform(t: &mut [u64; 641], f: CallFields) -> Outcome
 
 // The fields of a call word: its service, or 2 where they are not in order.
 fn serve(t: &mut [u64; 641], f: CallFields) -> Outcome
-    requires { ⌜ Canon (now t) × InFields f ⌝ }
+    requires { ⌜ Canon (now t) × InFields f × Right (view (now t)) ⌝ }
     ensures { λ r. ⌜ Ran (serve (view (now (t .entry))) f) (now (t .entry)) r (now (t .exit)) ⌝ }
 {
     if !known(f) {
@@ -117,7 +118,7 @@ fn serve(t: &mut [u64; 641], f: CallFields) -> Outcome
 
 // A call word: its service, or 2 where it is none.
 fn serve_word(t: &mut [u64; 641], word: u64) -> Outcome
-    requires { ⌜ Canon (now t) ⌝ }
+    requires { ⌜ Canon (now t) × Right (view (now t)) ⌝ }
     ensures { λ r. ⌜ Ran (serveRead (view (now (t .entry))) (reading call word)) (now (t .entry)) r (now (t .exit)) ⌝ }
 {
     let read = words::call_word::read(word);

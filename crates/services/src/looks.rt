@@ -1,6 +1,7 @@
 ghost use Prim.Native.Nat.{_<_};
 ghost use Rattle.tables.specs.View.{view};
 ghost use Rattle.tables.specs.Encode.{Canon};
+ghost use Rattle.sound.specs.Whole.{Right};
 ghost use Rattle.services.specs.Rules.{find, switch};
 ghost use Rattle.services.specs.Ran.{Ran};
 use crate::who::own_or_child;
@@ -10,10 +11,10 @@ use tables::Outcome;
 use words::Line;
 use words::Partition;
 
-// 12: the slot of p that holds the line, and its word
-pub fn find(t: &mut [u64; 641], p: Partition, l: Line) -> Outcome
-    requires { ⌜ Canon (now t) × (p .0 < 16) ⌝ }
-    ensures { λ r. ⌜ Ran (find (view (now (t .entry))) (p .0) (l .0)) (now (t .entry)) r (now (t .exit)) ⌝ }
+// 12: the slot of p that holds the line, and its word. A right table is settled, so nothing is written.
+pub fn find(t: &[u64; 641], p: Partition, l: Line) -> Outcome
+    requires { ⌜ Canon (now t) × (p .0 < 16) × Right (view (now t)) ⌝ }
+    ensures { λ r. ⌜ Ran (find (view (now (t .entry))) (p .0) (l .0)) (now (t .entry)) r (now (t .entry)) ⌝ }
 {
     if !own_or_child(t, p) {
         return Outcome::Refused(3);
@@ -23,19 +24,17 @@ pub fn find(t: &mut [u64; 641], p: Partition, l: Line) -> Outcome
         return Outcome::Refused(7);
     };
     let w = tables::read::entry_word(t, p, i);
-    tables::settle::settle(t);
     Outcome::Done(i.0 as u64, w)
 }
 
-// 13: p is the caller from now on
+// 13: p is the caller from now on; a right table stays settled
 pub fn switch(t: &mut [u64; 641], p: Partition) -> Outcome
-    requires { ⌜ Canon (now t) × (p .0 < 16) ⌝ }
+    requires { ⌜ Canon (now t) × (p .0 < 16) × Right (view (now t)) ⌝ }
     ensures { λ r. ⌜ Ran (switch (view (now (t .entry))) (p .0)) (now (t .entry)) r (now (t .exit)) ⌝ }
 {
     if !parent_or_child(t, p) {
         return Outcome::Refused(3);
     }
     tables::write::put_current(t, p);
-    tables::settle::settle(t);
     Outcome::Done(0, 0)
 }

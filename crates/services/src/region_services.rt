@@ -2,6 +2,7 @@ ghost use mathlib.Core.Path.{_≡_};
 ghost use Prim.Native.Nat.{_<_};
 ghost use Rattle.tables.specs.View.{view};
 ghost use Rattle.tables.specs.Encode.{Canon};
+ghost use Rattle.sound.specs.Whole.{Right};
 ghost use Rattle.services.specs.Rules.{elsewhere, load, unload, readRegion};
 ghost use Rattle.services.specs.Ran.{Ran};
 ghost use Rattle.services.specs.RegionExits.{inAnother};
@@ -42,9 +43,9 @@ fn loaded_elsewhere(t: &[u64; 641], p: Partition, s: Slot, r: u32) -> bool
     false
 }
 
-// 9: region r of p names slot s
+// 9: region r of p names slot s, which is open: a right table stays settled
 pub fn load(t: &mut [u64; 641], p: Partition, s: Slot, r: u32) -> Outcome
-    requires { ⌜ Canon (now t) × (p .0 < 16) × (s .0 < 32) ⌝ }
+    requires { ⌜ Canon (now t) × (p .0 < 16) × (s .0 < 32) × Right (view (now t)) ⌝ }
     ensures { λ o. ⌜ Ran (load (view (now (t .entry))) (p .0) (s .0) r) (now (t .entry)) o (now (t .exit)) ⌝ }
 {
     if !own_or_child(t, p) {
@@ -64,13 +65,12 @@ pub fn load(t: &mut [u64; 641], p: Partition, s: Slot, r: u32) -> Outcome
         return Outcome::Refused(16);
     }
     tables::write::put_region(t, p, r, s);
-    tables::settle::settle(t);
     Outcome::Done(0, 0)
 }
 
-// 10: region r of p names nothing
+// 10: region r of p names nothing; a right table stays settled
 pub fn unload(t: &mut [u64; 641], p: Partition, r: u32) -> Outcome
-    requires { ⌜ Canon (now t) × (p .0 < 16) ⌝ }
+    requires { ⌜ Canon (now t) × (p .0 < 16) × Right (view (now t)) ⌝ }
     ensures { λ o. ⌜ Ran (unload (view (now (t .entry))) (p .0) r) (now (t .entry)) o (now (t .exit)) ⌝ }
 {
     if !own_or_child(t, p) {
@@ -80,14 +80,13 @@ pub fn unload(t: &mut [u64; 641], p: Partition, r: u32) -> Outcome
         return Outcome::Refused(16);
     }
     tables::write::clear_region(t, p, r);
-    tables::settle::settle(t);
     Outcome::Done(0, 0)
 }
 
-// 11: the word of the slot that region r of p names, or 0
-pub fn read_region(t: &mut [u64; 641], p: Partition, r: u32) -> Outcome
-    requires { ⌜ Canon (now t) × (p .0 < 16) ⌝ }
-    ensures { λ o. ⌜ Ran (readRegion (view (now (t .entry))) (p .0) r) (now (t .entry)) o (now (t .exit)) ⌝ }
+// 11: the word of the slot that region r of p names, or 0. A right table is settled, so nothing is written.
+pub fn read_region(t: &[u64; 641], p: Partition, r: u32) -> Outcome
+    requires { ⌜ Canon (now t) × (p .0 < 16) × Right (view (now t)) ⌝ }
+    ensures { λ o. ⌜ Ran (readRegion (view (now (t .entry))) (p .0) r) (now (t .entry)) o (now (t .entry)) ⌝ }
 {
     if !own_or_child(t, p) {
         return Outcome::Refused(3);
@@ -98,11 +97,9 @@ pub fn read_region(t: &mut [u64; 641], p: Partition, r: u32) -> Outcome
     let f = tables::read::regions(t, p);
     let x = tables::regions::nth(f, r);
     if !x.loaded {
-        tables::settle::settle(t);
         return Outcome::Done(0, 0);
     }
     let i = x.slot;
     let w = tables::read::entry_word(t, p, i);
-    tables::settle::settle(t);
     Outcome::Done(0, w)
 }

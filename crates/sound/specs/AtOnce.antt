@@ -21,6 +21,14 @@ restAt l p =
     && s9 (view l) p
     && s10 (view l) p
 
+-- S2 to S5 at partition p: the shape of its record
+unfoldable pub shapeAt : List ℕ → ℕ → Bool
+shapeAt l p = s2 l (view l .k) p && (s3 l p && s4 l (view l .k) p && s5 l (view l .k) p)
+
+-- every record has its shape: this is decided first
+pub record Shaped (l : List ℕ) : Type 0 where
+  pub at : (p : ℕ) → p < 16 → shapeAt l p ≡ true
+
 -- no two areas share a line
 unfoldable pub areasApart : K → Bool
 areasApart k = all 16 (λ p. all 5 (s8Apart k p))
@@ -132,3 +140,16 @@ module _ (l : List ℕ) where
 
   pub sound-at-once : atOnce l ≡ sound l
   sound-at-once = bool-ext (atOnce l) (sound l) back to
+
+-- ── what a shape says ──
+module _ {l : List ℕ} (h : Shaped l) (p : ℕ) (b : p < 16) where
+  pub shaped-s2 : s2 l (view l .k) p ≡ true
+  unfolding shapeAt
+  shaped-s2 = and-says (s2 l (view l .k) p) _ (h .at p b) .0
+
+  pub shaped-record : s3 l p && s4 l (view l .k) p && s5 l (view l .k) p ≡ true
+  unfolding shapeAt
+  shaped-record = and-says (s2 l (view l .k) p) (s3 l p && s4 l (view l .k) p && s5 l (view l .k) p) (h .at p b) .1
+
+  pub shaped-s5 : s5 l (view l .k) p ≡ true
+  shaped-s5 = and-says (s3 l p && s4 l (view l .k) p) (s5 l (view l .k) p) shaped-record .1

@@ -2,7 +2,7 @@
 use mathlib.Core.Path.{_≡_, refl, ap, sym, _∙_}
 use mathlib.Core.Bool.{Bool, true, false, cond, not, _&&_, _||_, and-false, or-true, or-false}
 use mathlib.Core.List.{List}
-use Prim.Native.Nat.{ℕ, _+_, _-_, _*_, _/_, _%_, _<_}
+use Prim.Native.Nat.{ℕ, _+_, _-_, _*_, _/_, _%_, _≤_, _<_}
 use native.Mathlib.Omega.{arith}
 use lib.Dec.{ltb, eqb}
 use borrow.Author.Tests.{ltb-true, lt-ltb, ne-eqb}
@@ -17,6 +17,7 @@ use Rattle.tables.specs.Gather.{solid, onIf, onTwo, pairsOf}
 use Rattle.tables.specs.Areas.{solidArea, areaNumber, AreasOf, number-at, off, off-meets, empty-left, empty-right}
 use Rattle.sound.specs.Clauses.{when, has, rooted, equals, s8Backed, s8Apart, s8}
 use Rattle.sound.specs.Tests.{then-says, then-true, when-says, when-true, all-and}
+use Rattle.sound.specs.Used.{Bound}
 
 -- ── each area is an entry ──
 -- the lines from a to b
@@ -26,6 +27,10 @@ between a b = record { lo = a; hi = b }
 -- a not-given entry that equals the area
 unfoldable pub backs : Area → Opt Entry → Bool
 backs a = has (λ e. eqb (e .given) 0 && eqb (e .start) (a .lo) && eqb (e .stop) (a .hi))
+
+pub backs-empty : {l : List ℕ} {q m : ℕ} (a : Area) → Bound l q m → (i : ℕ) → m ≤ i → i < 32 → backs a (view l .k .slot q i) ≡ false
+unfolding backs has
+backs-empty a h i c d = rw (h .empty i c d) refl
 
 pub backed-rooted : (k : K) (p j : ℕ) → rooted p j ≡ true → true ≡ s8Backed k p j
 unfolding s8Backed

@@ -7,7 +7,7 @@ use native.Mathlib.Decide.{ℕ-discrete}
 use lib.ListN.{length}
 use lib.Dec.{eqb}
 use borrow.Author.Tests.{eq-eqb, ne-eqb, not-false}
-use Rattle.loops.specs.Every.{all}
+use Rattle.loops.specs.Every.{all, all-at, all-of}
 use Rattle.tables.specs.View.{view}
 use Rattle.tables.specs.Search.{present}
 use Rattle.tables.specs.ZeroRecord.{zeroRecord}
@@ -17,7 +17,7 @@ use Rattle.sound.specs.MeansEntries.{present-means}
 use Rattle.sound.specs.MeansWords.{s2-means, s5-means}
 use Rattle.sound.specs.Entries.{Solid}
 use Rattle.sound.specs.Absent.{absent-s3, absent-s4, absent-s5, absent-s6, absent-s7, absent-s8, absent-s9, absent-s10, absent-s11}
-use Rattle.sound.specs.AtOnce.{restAt, areasApart, atOnce, Passes, rest-true, rest-says, sound-at-once}
+use Rattle.sound.specs.AtOnce.{restAt, shapeAt, Shaped, areasApart, atOnce, Passes, rest-true, rest-says, sound-at-once}
 
 -- a test that cannot pass is false
 pub never : (b : Bool) → (b ≡ true → ⊥) → false ≡ b
@@ -59,6 +59,13 @@ module _ (l : List ℕ) (p : ℕ) where
             s10 = absent-s10 l p w;
           })
 
+  -- .. and has its shape
+  pub absent-shape : p < 16 → s2 l (view l .k) p ≡ true → present (view l .k) p ≡ false → true ≡ shapeAt l p
+  unfolding shapeAt
+  absent-shape b q n =
+      let h = rest-says l p (absent-rest b q n) in
+      sym (and-true _ _ q (and-true _ _ (and-true _ _ (h .s3) (h .s4)) (h .s5)))
+
   -- a clause that fails
   pub rest-no : (Passes l p → ⊥) → false ≡ restAt l p
   rest-no h = never (restAt l p) (λ q. h (rest-says l p q))
@@ -87,6 +94,23 @@ not-first l a =
     let (_, w) = and-says (eqb (length l) 641) (s1 (view l .k) && s3First l) z in
     false≢true (sym a ∙ w))
     ∙ sound-at-once l
+
+pub not-shapes : (l : List ℕ) → all 16 (shapeAt l) ≡ false → false ≡ sound l
+unfolding atOnce shapeAt
+not-shapes l a =
+    never (atOnce l) (λ q.
+    let (r, _) = and-says _ (areasApart (view l .k)) q in
+    let (_, w) = and-says (eqb (length l) 641 && (s1 (view l .k) && s3First l)) (all 16 (λ p. s2 l (view l .k) p && restAt l p)) r in
+    let at : (p : ℕ) → p < 16 → shapeAt l p ≡ true = λ p b.
+    let (x, y) = and-says (s2 l (view l .k) p) (restAt l p) (all-at 16 (λ p. s2 l (view l .k) p && restAt l p) w p b) in
+    let h = rest-says l p y in
+    and-true _ _ x (and-true _ _ (and-true _ _ (h .s3) (h .s4)) (h .s5)) in
+    false≢true (sym a ∙ all-of 16 (shapeAt l) at))
+    ∙ sound-at-once l
+
+-- the records that pass have their shape
+pub shaped : {l : List ℕ} → all 16 (shapeAt l) ≡ true → Shaped l
+shaped {l} h = record { at = all-at 16 (shapeAt l) h }
 
 pub not-partitions : (l : List ℕ) → all 16 (λ p. s2 l (view l .k) p && restAt l p) ≡ false → false ≡ sound l
 unfolding atOnce

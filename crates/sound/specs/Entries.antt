@@ -1,6 +1,6 @@
 -- S6, S7 and S11 over ranges that are gathered once: each quick test is the clause's test.
 use mathlib.Core.Path.{_≡_, refl, ap, ap₂, sym, _∙_}
-use mathlib.Core.Bool.{Bool, true, false, cond, not, _&&_, _||_, Bool·not-not, and-comm, or-true, or-false}
+use mathlib.Core.Bool.{Bool, true, false, cond, not, _&&_, _||_, Bool·not-not, and-comm, or-true, or-false, false≢true}
 use mathlib.Core.Logic.{_↔_}
 use mathlib.Core.List.{List}
 use Prim.Native.Nat.{ℕ, _+_, _-_, _≤_, _<_}
@@ -9,7 +9,7 @@ use lib.ListN.{length, getD, set}
 use lib.Dec.{leb, ltb, eqb}
 use borrow.Author.Tests.{ltb-true, ltb-false, leb-true, leb-false, lt-ltb, le-ltb, le-leb, lt-leb, eq-eqb, ne-eqb}
 use Rattle.loops.specs.Scan.{rest}
-use Rattle.loops.specs.Every.{all, any, all-at, all-ext, not-any, bool-ext}
+use Rattle.loops.specs.Every.{all, any, all-at, all-of, any-at, any-of, all-ext, not-any, bool-ext}
 use Rattle.loops.specs.Count.{Counting, count-end, count-any}
 use Rattle.words.specs.declared.Rights.{Rights}
 use Rattle.words.specs.declared.slot_word.SlotFields.{SlotFields}
@@ -18,11 +18,12 @@ use Rattle.tables.specs.View.{entryOf, entryIn, view}
 use Rattle.tables.specs.Seen.{Seen}
 use Rattle.tables.specs.Search.{present, child, holds}
 use Rattle.tables.specs.Settle.{meets}
-use Rattle.tables.specs.Gather.{onIf, onTwo, eachOf, Gathered, gather-start, gather-none, gather-some, gather-at}
+use Rattle.tables.specs.Gather.{onIf, onTwo, eachOf, Gathered, gather-start, gather-none, gather-some, gather-at, gather-skip}
 use Rattle.sound.specs.Sound.{Sub}
 use Rattle.sound.specs.Clauses.{when, has, apartE, s6, held, covered, s7Root, s7Given, grants, s7Inside, s7Cover, s7, full, within, s11}
 use Rattle.sound.specs.Tests.{and-says, and-true, or-right, then-says, then-true, every-says, every-true}
 use Rattle.sound.specs.MeansRegions.{within-means}
+use Rattle.sound.specs.Used.{Bound}
 use Rattle.sound.specs.declared.entries.Right.{Right}
 use Rattle.sound.specs.declared.entries.Right.the-variants.{Read, Write, Execute}
 use Rattle.sound.specs.declared.entries.Choice.{Choice}
@@ -108,6 +109,20 @@ outsideEach n s e m gs ge = eachOf (λ a b. not (spanned m gs ge a (b - 1))) n s
 unfoldable pub coverEach : ℕ → List ℕ → List ℕ → ℕ → List ℕ → List ℕ → Bool
 coverEach n s e m gs ge = eachOf (coveredBy n s e) m gs ge
 
+-- the first n ranges hold line lo, where lo to hi has a line; the first line of each of the m
+unfoldable pub startHeld : ℕ → List ℕ → List ℕ → ℕ → ℕ → Bool
+startHeld n s e lo hi = not (ltb lo hi) || spanned n s e lo lo
+
+unfoldable pub startsHeld : ℕ → List ℕ → List ℕ → ℕ → List ℕ → List ℕ → Bool
+startsHeld n s e m gs ge = eachOf (startHeld n s e) m gs ge
+
+-- they hold line b, unless none of the m goes on from the line before it; each line at which one of them ends
+unfoldable pub endHeld : ℕ → List ℕ → List ℕ → ℕ → List ℕ → List ℕ → ℕ → Bool
+endHeld n s e m gs ge b = spanned n s e b b || not (spanned m gs ge (b - 1) b)
+
+unfoldable pub endsHeld : ℕ → List ℕ → List ℕ → ℕ → List ℕ → List ℕ → Bool
+endsHeld n s e m gs ge = eachOf (λ a b. endHeld n s e m gs ge b) n s e
+
 -- ── what p was given ──
 -- a test of each range that p was given: the root base to end, another its parent's entries that are given to it
 unfoldable pub eachGrant : K → ℕ → (ℕ → ℕ → Bool) → Bool
@@ -149,8 +164,16 @@ fullSlot k p i = when (λ e. full (e .rights)) (k .slot p i)
 pub chosen-start : {k : K} {q : ℕ} {c : Choice} {s e : List ℕ} → length s ≡ 32 → length e ≡ 32 → ChosenTo k q c 0 0 s e
 chosen-start a b = record { ranges = gather-start a b }
 
-pub chosen-end : {k : K} {q : ℕ} {c : Choice} {i n : ℕ} {s e : List ℕ} → ChosenTo k q c i n s e → 32 ≤ i → Chosen k q c n s e
-chosen-end g h = record { ranges = gather-at (g .ranges) (omega (arith, g .ranges .within)) }
+pub chosen-end : {l : List ℕ} {q : ℕ} {c : Choice} {i n m : ℕ} {s e : List ℕ} → ChosenTo (view l .k) q c i n s e → Bound l q m → m ≤ i → Chosen (view l .k) q c n s e
+unfolding rangeIf
+chosen-end {i = i} g h b =
+    let w = g .ranges .within in
+    record { ranges = gather-at (gather-skip (g .ranges) (32 - i) (omega (arith, w)) (λ j d. rw (h .empty (i + j) (omega arith) (omega arith)) refl)) (omega (arith, w)) }
+
+-- an empty slot is given to nobody
+pub given-empty : {l : List ℕ} {p m : ℕ} → Bound l p m → (i : ℕ) → m ≤ i → i < 32 → givenSlot (view l .k) p i ≡ true
+unfolding givenSlot when
+given-empty h i a b = rw (h .empty i a b) refl
 
 module _ {l : List ℕ} {q i : ℕ} {c : Choice} {n : ℕ} {s e : List ℕ} (g : CanChoose l q i c n s e) {f : SlotFields} (v : Seen l q i f) where
   pub chosen-absent : f .present ≡ false → ChosenTo (view l .k) q c (i + 1) n s e
@@ -164,6 +187,11 @@ module _ {l : List ℕ} {q i : ℕ} {c : Choice} {n : ℕ} {s e : List ℕ} (g :
   pub chosen-more : f .present ≡ true → chooses c (entryOf f) ≡ true → ChosenTo (view l .k) q c (i + 1) (n + 1) (set s n (f .start .0)) (set e n (f .end .0))
   unfolding rangeIf entryIn
   chosen-more u h = record { ranges = gather-some (g .before .ranges) (f .start .0) (f .end .0) (g .inI) (rw (v .slot, u, h) refl) }
+
+-- .. and has all rights that there are
+pub full-empty : {l : List ℕ} {p m : ℕ} → Bound l p m → (i : ℕ) → m ≤ i → i < 32 → fullSlot (view l .k) p i ≡ true
+unfolding fullSlot when
+full-empty h i a b = rw (h .empty i a b) refl
 
 -- ── forms of tests ──
 -- to end after line b - 1 is to end at b or later
@@ -185,6 +213,27 @@ spans-meets a b c d h i =
     before-last true q = sym (lt-ltb c b (omega (arith, leb-true c (b - 1) q)))
     before-last false q = sym (le-ltb c b (omega (arith, leb-false c (b - 1) q)))
 
+-- z, where x and y; x, where y
+if-both : (x y z : Bool) → (x ≡ true → y ≡ true → z ≡ true) → not x || not y || z ≡ true
+if-both true true z f = f refl refl
+if-both true false z f = refl
+if-both false y z f = refl
+
+both-says : (x y z : Bool) → not x || not y || z ≡ true → x ≡ true → y ≡ true → z ≡ true
+both-says true true z h p q = h
+both-says true false z h p q = absurd (false≢true q)
+both-says false y z h p q = absurd (false≢true p)
+
+unless-true : (x y : Bool) → (y ≡ true → x ≡ true) → x || not y ≡ true
+unless-true true y f = refl
+unless-true false true f = f refl
+unless-true false false f = refl
+
+unless-says : (x y : Bool) → x || not y ≡ true → y ≡ true → x ≡ true
+unless-says true y h q = refl
+unless-says false true h q = h
+unless-says false false h q = absurd (false≢true q)
+
 -- tests that agree on what is there
 when-ext : {A : Type 0} (f g : A → Bool) (o : Opt A) → ((a : A) → o ≡ some a → f a ≡ g a) → when f o ≡ when g o
 unfolding when
@@ -199,6 +248,48 @@ every-ext k q f g h = all-ext 32 _ _ (λ i _. when-ext f g (k .slot q i) (h i))
 -- no number passes exactly if each fails
 not-some : (n : ℕ) (f : ℕ → Bool) → not (any n f) ≡ all n (λ k. not (f k))
 not-some n f = ap not (not-any n f) ∙ Bool·not-not _
+
+-- ── cover, by ends ──
+module _ {n : ℕ} {s e : List ℕ} (r : Ranged n s e) (m : ℕ) (gs ge : List ℕ) where
+  abbrev startAt : ℕ → Bool
+  startAt j = startHeld n s e (getD gs j 0) (getD ge j 0)
+
+  abbrev endAt : ℕ → Bool
+  endAt k = endHeld n s e m gs ge (getD e k 0)
+
+  abbrev coverAt : ℕ → Bool
+  coverAt j = coveredBy n s e (getD gs j 0) (getD ge j 0)
+
+  abbrev inAt : ℕ → ℕ → Bool
+  inAt j k = endIn n s e (getD gs j 0) (getD ge j 0) (getD e k 0)
+
+  to : startsHeld n s e m gs ge && endsHeld n s e m gs ge ≡ true → coverEach n s e m gs ge ≡ true
+  unfolding startsHeld endsHeld coverEach coveredBy endsIn endIn startHeld endHeld spanned spans
+  to h =
+      let (a, c) = and-says (all m startAt) (all n endAt) h in
+      all-of m coverAt (λ j hj. then-true (ltb (getD gs j 0) (getD ge j 0)) _ (λ q.
+      and-true _ _ (then-says (ltb (getD gs j 0) (getD ge j 0)) _ (all-at m startAt a j hj) q)
+      (all-of n (inAt j) (λ k hk. if-both (ltb (getD gs j 0) (getD e k 0)) (ltb (getD e k 0) (getD ge j 0)) _ (λ u v.
+      unless-says _ (any m (spansAt gs ge (getD e k 0 - 1) (getD e k 0))) (all-at n endAt c k hk)
+      (any-of m (spansAt gs ge (getD e k 0 - 1) (getD e k 0)) j hj
+      (and-true _ _ (le-leb (getD gs j 0) (getD e k 0 - 1) (omega (arith, ltb-true (getD gs j 0) (getD e k 0) u))) v)))))))
+
+  back : coverEach n s e m gs ge ≡ true → startsHeld n s e m gs ge && endsHeld n s e m gs ge ≡ true
+  unfolding startsHeld endsHeld coverEach coveredBy endsIn endIn startHeld endHeld spanned spans
+  back h =
+      let at : (j : ℕ) → j < m → ltb (getD gs j 0) (getD ge j 0) ≡ true → (any n (spansAt s e (getD gs j 0) (getD gs j 0)) ≡ true) × (all n (inAt j) ≡ true) = λ j hj q.
+      and-says (any n (spansAt s e (getD gs j 0) (getD gs j 0))) (all n (inAt j)) (then-says (ltb (getD gs j 0) (getD ge j 0)) _ (all-at m coverAt h j hj) q) in
+      and-true _ _
+      (all-of m startAt (λ j hj. then-true (ltb (getD gs j 0) (getD ge j 0)) _ (λ q. at j hj q .0)))
+      (all-of n endAt (λ k hk. unless-true _ (any m (spansAt gs ge (getD e k 0 - 1) (getD e k 0))) (λ q.
+      let (j, hj, w) = any-at m (spansAt gs ge (getD e k 0 - 1) (getD e k 0)) q in
+      let (x, y) = and-says (leb (getD gs j 0) (getD e k 0 - 1)) (ltb (getD e k 0) (getD ge j 0)) w in
+      let lo : getD gs j 0 < getD e k 0 = omega (arith, leb-true (getD gs j 0) (getD e k 0 - 1) x, r .lines k hk) in
+      let hi : getD gs j 0 < getD ge j 0 = omega (arith, lo, ltb-true (getD e k 0) (getD ge j 0) y) in
+      both-says (ltb (getD gs j 0) (getD e k 0)) (ltb (getD e k 0) (getD ge j 0)) _ (all-at n (inAt j) (at j hj (lt-ltb (getD gs j 0) (getD ge j 0) hi) .1) k hk) (lt-ltb (getD gs j 0) (getD e k 0) lo) y)))
+
+  pub cover-by-ends : startsHeld n s e m gs ge && endsHeld n s e m gs ge ≡ coverEach n s e m gs ge
+  cover-by-ends = bool-ext _ _ to back
 
 -- a count of the ranges that do tells whether one does
 pub spanned-end : {n k z : ℕ} (s e : List ℕ) (y x : ℕ) → Counting (spansAt s e y x) n k z → n ≤ k → not (eqb z 0) ≡ spanned n s e y x
@@ -384,7 +475,24 @@ within-each a b = (λ h. says (within-means a b .0 h), λ h. within-means a b .1
     says h Write = h .write
     says h Execute = h .execute
 
+-- all rights are more than any
+within-full : (a b : Rights) → full b ≡ true → within a b ≡ true
+unfolding full
+within-full a b h =
+    let (x, e) = and-says (b .read && b .write) (b .execute) h in
+    let (r, w) = and-says (b .read) (b .write) x in
+    within-means a b .1 (record { read = λ _. r; write = λ _. w; execute = λ _. e })
+
 module _ (k : K) (p : ℕ) where
+  -- the parent's entries have all rights
+  pub rights-full : {q : ℕ} → (p ≡ 0 → ⊥) → k .parent p ≡ q → all 32 (fullSlot k q) ≡ true → s11 k p ≡ true
+  unfolding s11 fullSlot
+  rights-full {q} z up h =
+      rw (ne-eqb p 0 z, up)
+      (every-true 32 (λ _ e. all 32 (λ j. when (λ f. not (grants p e f) || within (e .rights) (f .rights)) (k .slot q j))) (k .slot p) (λ i e _ _.
+      every-true 32 (λ _ f. not (grants p e f) || within (e .rights) (f .rights)) (k .slot q) (λ j f c v.
+      or-right (not (grants p e f)) _ (within-full (e .rights) (f .rights) (every-says 32 (λ _ f. full (f .rights)) (k .slot q) h j f c v)))))
+
   pub rights-root : p ≡ 0 → s11 k p ≡ all 32 (fullSlot k p)
   unfolding s11 fullSlot
   rights-root z = rw (eq-eqb p 0 z) refl

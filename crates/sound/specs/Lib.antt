@@ -13,7 +13,9 @@ pub mod Canonical
 pub mod Core
 pub mod Properties
 pub mod Whole
+pub mod Settled
 pub mod AtOnce
+pub mod Used
 pub mod Absent
 pub mod Records
 pub mod Opening

@@ -2,7 +2,7 @@
 use mathlib.Core.Path.{_≡_, refl, ap, sym, _∙_}
 use mathlib.Core.Bool.{Bool, true, false, not, _&&_, _||_, Bool·beq, or-true, false≢true}
 use mathlib.Core.List.{List}
-use Prim.Native.Nat.{ℕ, zero, suc, _<_}
+use Prim.Native.Nat.{ℕ, zero, suc, _≤_, _<_}
 use native.Mathlib.Omega.{arith}
 use lib.Dec.{eqb}
 use borrow.Author.Tests.{not-true}
@@ -18,11 +18,16 @@ use Rattle.tables.specs.Settle.{openBit, openAt}
 use Rattle.tables.specs.Areas.{AreasOf, clearOf, clear-quick}
 use Rattle.sound.specs.Clauses.{when, s10Names, s10Once, s10}
 use Rattle.sound.specs.Tests.{not-of, all-and}
+use Rattle.sound.specs.Used.{Bound}
 
 -- ── S9 ──
 -- the open bit of slot i of p is the one that S9 derives
 unfoldable pub openRight : Table → ℕ → ℕ → Bool
 openRight t p i = Bool·beq (t .opened p i) (openAt (t .k) p i)
+
+pub open-empty : {l : List ℕ} {p m : ℕ} → Bound l p m → (i : ℕ) → m ≤ i → i < 32 → openRight (view l) p i ≡ true
+unfolding openRight openAt openBit
+open-empty h i a b = rw (h .empty i a b, h .closed i a b) refl
 
 module _ {l : List ℕ} {p i : ℕ} {f : SlotFields} (v : Seen l p i f) where
   -- an empty slot

@@ -5,6 +5,7 @@ ghost use Rattle.tables.specs.View.{entryIn, view};
 ghost use Rattle.tables.specs.Gather.{eachOf, pairsOf};
 ghost use Rattle.tables.specs.Areas.{off};
 ghost use Rattle.sound.specs.Clauses.{equals, s8Backed};
+ghost use Rattle.sound.specs.AtOnce.{Shaped};
 ghost use Rattle.sound.specs.Backing.{between, backs};
 use crate::is_rooted;
 use tables::areas::hit;
@@ -32,11 +33,12 @@ fn backs(f: SlotFields, lo: Line, hi: Line) -> bool
 
 // q has such an entry
 fn has_equal(t: &[u64; 641], q: Partition, lo: Line, hi: Line) -> bool
-    requires { ⌜ q .0 < 16 ⌝ }
+    requires { ⌜ (q .0 < 16) × Shaped (now t) ⌝ }
     ensures { λ r. ⌜ r ≡ equals (view (now (t .entry)) .k) (q .0) (between (lo .0) (hi .0)) ⌝ }
 {
+    let used = crate::used::used_slots(t, q);
     let mut i = 0u32;
-    while i < 32 {
+    while i < used {
         let f = read::entry(t, q, Slot(i));
         if backs(f, lo, hi) {
             return true;
@@ -48,7 +50,7 @@ fn has_equal(t: &[u64; 641], q: Partition, lo: Line, hi: Line) -> bool
 
 // the header's area of p is an entry of its parent
 fn header_backed(t: &[u64; 641], p: Partition) -> bool
-    requires { ⌜ p .0 < 16 ⌝ }
+    requires { ⌜ (p .0 < 16) × Shaped (now t) ⌝ }
     ensures { λ r. ⌜ r ≡ s8Backed (view (now (t .entry)) .k) (p .0) 0 ⌝ }
 {
     if is_rooted(p, 0) {
@@ -63,7 +65,7 @@ fn header_backed(t: &[u64; 641], p: Partition) -> bool
 
 // area j of p, a structure's, is an entry of p or of its parent
 fn structure_backed(t: &[u64; 641], p: Partition, j: u32) -> bool
-    requires { ⌜ (p .0 < 16) × (0 < j) × (j < 5) ⌝ }
+    requires { ⌜ (p .0 < 16) × (0 < j) × (j < 5) × Shaped (now t) ⌝ }
     ensures { λ r. ⌜ r ≡ s8Backed (view (now (t .entry)) .k) (p .0) j ⌝ }
 {
     if is_rooted(p, j) {
@@ -82,7 +84,7 @@ fn structure_backed(t: &[u64; 641], p: Partition, j: u32) -> bool
 
 // the five areas of p are entries
 pub fn areas_backed(t: &[u64; 641], p: Partition) -> bool
-    requires { ⌜ p .0 < 16 ⌝ }
+    requires { ⌜ (p .0 < 16) × Shaped (now t) ⌝ }
     ensures { λ r. ⌜ r ≡ all 5 (s8Backed (view (now (t .entry)) .k) (p .0)) ⌝ }
 {
     if !header_backed(t, p) {

@@ -6,8 +6,10 @@ ghost use Rattle.loops.specs.Every.{all};
 ghost use Rattle.tables.specs.View.{view, entryOf};
 ghost use Rattle.tables.specs.Search.{present};
 ghost use Rattle.sound.specs.Clauses.{s6, s7Given, s7, s11};
+ghost use Rattle.sound.specs.AtOnce.{Shaped};
 ghost use Rattle.sound.specs.declared.entries.Choice.the-variants.{All};
-ghost use Rattle.sound.specs.Entries.{hasRight, chooses, CanChoose, ChosenTo, Chosen, Ranged, Solid, spans, spanned, apartEach, endIn, endsIn, coveredBy, coverEach, insideEach, outsideEach, GrantsTo, exactly, givenSlot, fullSlot, keepsRight};
+ghost use Rattle.sound.specs.Entries.{hasRight, chooses, CanChoose, ChosenTo, Chosen, Ranged, Solid, spans, spanned, apartEach, startHeld, startsHeld, endHeld, endsHeld, coverEach, insideEach, outsideEach, GrantsTo, exactly, givenSlot, fullSlot, keepsRight};
+use crate::used::used_slots;
 use tables::read;
 use words::Partition;
 use words::Rights;
@@ -89,14 +91,15 @@ fn gather_slot(
 
 // the chosen entries of q
 fn gather(t: &[u64; 641], q: Partition, c: Choice) -> Ranges
-    requires { ⌜ q .0 < 16 ⌝ }
+    requires { ⌜ (q .0 < 16) × Shaped (now t) ⌝ }
     ensures { λ r. ⌜ Chosen (view (now (t .entry)) .k) (q .0) c (r .n) (r .starts) (r .ends) ⌝ }
 {
+    let used = used_slots(t, q);
     let mut starts = [0u32; 32];
     let mut ends = [0u32; 32];
     let mut n = 0usize;
     let mut j = 0u32;
-    while j < 32 {
+    while j < used {
         n = gather_slot(t, q, Slot(j), c, n, &mut starts, &mut ends);
         j += 1;
     }
@@ -144,51 +147,19 @@ fn apart_each(n: usize, s: &[u32; 32], e: &[u32; 32]) -> bool
     true
 }
 
-// one of the first n holds line b, where that is inside lo to hi
-fn end_in(n: usize, s: &[u32; 32], e: &[u32; 32], lo: u32, hi: u32, b: u32) -> bool
+// the first n hold line lo, where lo to hi has a line
+fn start_held(n: usize, s: &[u32; 32], e: &[u32; 32], lo: u32, hi: u32) -> bool
     requires { ⌜ n ≤ 32 ⌝ }
-    ensures { λ r. ⌜ r ≡ endIn n (now (s .entry)) (now (e .entry)) lo hi b ⌝ }
-{
-    if lo >= b {
-        return true;
-    }
-    if b >= hi {
-        return true;
-    }
-    spanned(n, s, e, b, b)
-}
-
-// .. each line at which one of them ends
-fn ends_in(n: usize, s: &[u32; 32], e: &[u32; 32], lo: u32, hi: u32) -> bool
-    requires { ⌜ n ≤ 32 ⌝ }
-    ensures { λ r. ⌜ r ≡ endsIn n (now (s .entry)) (now (e .entry)) lo hi ⌝ }
-{
-    let mut k = 0usize;
-    while k < n {
-        if !end_in(n, s, e, lo, hi, e[k]) {
-            return false;
-        }
-        k += 1;
-    }
-    true
-}
-
-// the first n cover lo to hi
-fn covered_by(n: usize, s: &[u32; 32], e: &[u32; 32], lo: u32, hi: u32) -> bool
-    requires { ⌜ n ≤ 32 ⌝ }
-    ensures { λ r. ⌜ r ≡ coveredBy n (now (s .entry)) (now (e .entry)) lo hi ⌝ }
+    ensures { λ r. ⌜ r ≡ startHeld n (now (s .entry)) (now (e .entry)) lo hi ⌝ }
 {
     if lo >= hi {
         return true;
     }
-    if !spanned(n, s, e, lo, lo) {
-        return false;
-    }
-    ends_in(n, s, e, lo, hi)
+    spanned(n, s, e, lo, lo)
 }
 
-// .. each of the m ranges of gs and ge
-fn cover_each(
+// .. the first line of each of the m ranges of gs and ge
+fn starts_held(
     n: usize,
     s: &[u32; 32],
     e: &[u32; 32],
@@ -197,16 +168,75 @@ fn cover_each(
     ge: &[u32; 32],
 ) -> bool
     requires { ⌜ (n ≤ 32) × (m ≤ 32) ⌝ }
-    ensures { λ r. ⌜ r ≡ coverEach n (now (s .entry)) (now (e .entry)) m (now (gs .entry)) (now (ge .entry)) ⌝ }
+    ensures { λ r. ⌜ r ≡ startsHeld n (now (s .entry)) (now (e .entry)) m (now (gs .entry)) (now (ge .entry)) ⌝ }
 {
     let mut k = 0usize;
     while k < m {
-        if !covered_by(n, s, e, gs[k], ge[k]) {
+        if !start_held(n, s, e, gs[k], ge[k]) {
             return false;
         }
         k += 1;
     }
     true
+}
+
+// the first n hold line b, unless none of the m ranges goes on from the line before it
+fn end_held(
+    n: usize,
+    s: &[u32; 32],
+    e: &[u32; 32],
+    m: usize,
+    gs: &[u32; 32],
+    ge: &[u32; 32],
+    b: u32,
+) -> bool
+    requires { ⌜ (n ≤ 32) × (m ≤ 32) × (0 < b) ⌝ }
+    ensures { λ r. ⌜ r ≡ endHeld n (now (s .entry)) (now (e .entry)) m (now (gs .entry)) (now (ge .entry)) b ⌝ }
+{
+    if spanned(n, s, e, b, b) {
+        return true;
+    }
+    !spanned(m, gs, ge, b - 1, b)
+}
+
+// .. each line at which one of the first n ends
+fn ends_held(
+    n: usize,
+    s: &[u32; 32],
+    e: &[u32; 32],
+    m: usize,
+    gs: &[u32; 32],
+    ge: &[u32; 32],
+) -> bool
+    requires { ⌜ Ranged n (now s) (now e) × (m ≤ 32) ⌝ }
+    ensures { λ r. ⌜ r ≡ endsHeld n (now (s .entry)) (now (e .entry)) m (now (gs .entry)) (now (ge .entry)) ⌝ }
+{
+    let mut k = 0usize;
+    while k < n {
+        if !end_held(n, s, e, m, gs, ge, e[k]) {
+            return false;
+        }
+        k += 1;
+    }
+    true
+}
+
+// the first n cover each of the m ranges of gs and ge: by ends, and not range by range, so that a line is looked up once
+fn cover_each(
+    n: usize,
+    s: &[u32; 32],
+    e: &[u32; 32],
+    m: usize,
+    gs: &[u32; 32],
+    ge: &[u32; 32],
+) -> bool
+    requires { ⌜ Ranged n (now s) (now e) × (m ≤ 32) ⌝ }
+    ensures { λ r. ⌜ r ≡ coverEach n (now (s .entry)) (now (e .entry)) m (now (gs .entry)) (now (ge .entry)) ⌝ }
+{
+    if !starts_held(n, s, e, m, gs, ge) {
+        return false;
+    }
+    ends_held(n, s, e, m, gs, ge)
 }
 
 // each of the first n lies inside one of the m of gs and ge
@@ -255,7 +285,7 @@ fn outside_each(
 
 // what p was given: the root base to end, another its parent's entries that are given to it
 fn grants(t: &[u64; 641], p: Partition) -> Ranges
-    requires { ⌜ p .0 < 16 ⌝ }
+    requires { ⌜ (p .0 < 16) × Shaped (now t) ⌝ }
     ensures { λ r. ⌜ GrantsTo (view (now (t .entry)) .k) (p .0) (r .n) (r .starts) (r .ends) ⌝ }
 {
     if p.0 == 0 {
@@ -270,7 +300,7 @@ fn grants(t: &[u64; 641], p: Partition) -> Ranges
 
 // the entries of p, which are the first n, lie each inside one range that p was given, and cover those
 fn exact(t: &[u64; 641], p: Partition, n: usize, s: &[u32; 32], e: &[u32; 32]) -> bool
-    requires { ⌜ (p .0 < 16) × Solid (view (now t) .k) (p .0) × Chosen (view (now t) .k) (p .0) All n (now s) (now e) ⌝ }
+    requires { ⌜ (p .0 < 16) × Solid (view (now t) .k) (p .0) × Chosen (view (now t) .k) (p .0) All n (now s) (now e) × Shaped (now t) ⌝ }
     ensures { λ r. ⌜ r ≡ exactly (view (now (t .entry)) .k) (p .0) ⌝ }
 {
     let g = grants(t, p);
@@ -299,11 +329,12 @@ fn given_slot(t: &[u64; 641], p: Partition, i: Slot) -> bool
 
 // .. each slot
 fn given_each(t: &[u64; 641], p: Partition) -> bool
-    requires { ⌜ p .0 < 16 ⌝ }
+    requires { ⌜ (p .0 < 16) × Shaped (now t) ⌝ }
     ensures { λ r. ⌜ r ≡ s7Given (view (now (t .entry)) .k) (p .0) ⌝ }
 {
+    let used = used_slots(t, p);
     let mut i = 0u32;
-    while i < 32 {
+    while i < used {
         if !given_slot(t, p, Slot(i)) {
             return false;
         }
@@ -314,7 +345,7 @@ fn given_each(t: &[u64; 641], p: Partition) -> bool
 
 // S6 and S7 at p, which is present, where S5 holds at p
 pub fn entries_sound(t: &[u64; 641], p: Partition) -> bool
-    requires { ⌜ (p .0 < 16) × (present (view (now t) .k) (p .0) ≡ true) × Solid (view (now t) .k) (p .0) ⌝ }
+    requires { ⌜ (p .0 < 16) × (present (view (now t) .k) (p .0) ≡ true) × Solid (view (now t) .k) (p .0) × Shaped (now t) ⌝ }
     ensures { λ r. ⌜ r ≡ s6 (view (now (t .entry)) .k) (p .0) && s7 (view (now (t .entry)) .k) (p .0) ⌝ }
 {
     let g = gather(t, p, Choice::All);
@@ -350,11 +381,12 @@ fn full_slot(t: &[u64; 641], p: Partition, i: Slot) -> bool
 
 // .. each slot
 fn full_each(t: &[u64; 641], p: Partition) -> bool
-    requires { ⌜ p .0 < 16 ⌝ }
+    requires { ⌜ (p .0 < 16) × Shaped (now t) ⌝ }
     ensures { λ r. ⌜ r ≡ all 32 (fullSlot (view (now (t .entry)) .k) (p .0)) ⌝ }
 {
+    let used = used_slots(t, p);
     let mut i = 0u32;
-    while i < 32 {
+    while i < used {
         if !full_slot(t, p, Slot(i)) {
             return false;
         }
@@ -365,7 +397,7 @@ fn full_each(t: &[u64; 641], p: Partition) -> bool
 
 // where an entry of p has right x, so has the parent's entry around it
 fn right_kept(t: &[u64; 641], p: Partition, x: Right) -> bool
-    requires { ⌜ (p .0 < 16) × Solid (view (now t) .k) (p .0) ⌝ }
+    requires { ⌜ (p .0 < 16) × Solid (view (now t) .k) (p .0) × Shaped (now t) ⌝ }
     ensures { λ r. ⌜ r ≡ keepsRight x (view (now (t .entry)) .k) (p .0) ⌝ }
 {
     let h = read::header(t, p);
@@ -381,13 +413,17 @@ fn right_kept(t: &[u64; 641], p: Partition, x: Right) -> bool
     outside_each(own.n, &s, &e, g.n, &gs, &ge)
 }
 
-// S11 at p, where S5 holds at p
+// S11 at p, where S5 holds at p. Mostly all entries of the parent have all rights, and nothing is left to compare.
 pub fn rights_sound(t: &[u64; 641], p: Partition) -> bool
-    requires { ⌜ (p .0 < 16) × Solid (view (now t) .k) (p .0) ⌝ }
+    requires { ⌜ (p .0 < 16) × Solid (view (now t) .k) (p .0) × Shaped (now t) ⌝ }
     ensures { λ r. ⌜ r ≡ s11 (view (now (t .entry)) .k) (p .0) ⌝ }
 {
     if p.0 == 0 {
         return full_each(t, p);
+    }
+    let h = read::header(t, p);
+    if full_each(t, h.parent) {
+        return true;
     }
     if !right_kept(t, p, Right::Read) {
         return false;

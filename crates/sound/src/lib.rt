@@ -8,6 +8,7 @@ pub mod entries;
 pub mod holders;
 pub mod opening;
 pub mod records;
+pub mod used;
 
 use words::Partition;
 

@@ -4,6 +4,7 @@ ghost use Rattle.tables.specs.View.{view};
 ghost use Rattle.tables.specs.Seen.{SeenRegions};
 ghost use Rattle.tables.specs.Areas.{AreasOf};
 ghost use Rattle.sound.specs.Clauses.{s9, s10};
+ghost use Rattle.sound.specs.AtOnce.{Shaped};
 ghost use Rattle.sound.specs.Opening.{openRight, someLoaded, isOpen, other, others, regionRight};
 use tables::areas;
 use tables::read;
@@ -31,11 +32,12 @@ fn open_right(t: &[u64; 641], p: Partition, i: Slot, n: usize, s: &[u32; 80], e:
 
 // S9 of p, with the areas that were gathered
 pub fn opens_right(t: &[u64; 641], p: Partition, n: usize, s: &[u32; 80], e: &[u32; 80]) -> bool
-    requires { ⌜ (p .0 < 16) × AreasOf (view (now t) .k) n (now s) (now e) ⌝ }
+    requires { ⌜ (p .0 < 16) × AreasOf (view (now t) .k) n (now s) (now e) × Shaped (now t) ⌝ }
     ensures { λ r. ⌜ r ≡ s9 (view (now (t .entry))) (p .0) ⌝ }
 {
+    let used = crate::used::used_slots(t, p);
     let mut i = 0u32;
-    while i < 32 {
+    while i < used {
         if !open_right(t, p, Slot(i), n, s, e) {
             return false;
         }

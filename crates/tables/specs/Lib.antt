@@ -27,3 +27,4 @@ pub mod Kept
 pub mod Settled
 pub mod Bytes
 pub mod ByteTrips
+pub mod ByteRecords

@@ -2,7 +2,8 @@ ghost use mathlib.Core.Path.{_≡_};
 ghost use Prim.Native.Nat.{_+_, _*_, _<_};
 ghost use lib.ListN.{length};
 ghost use Rattle.tables.specs.Bytes.{wordAt, wordsOf, bytesOf, putWord};
-use crate::sized;
+ghost use Rattle.tables.specs.ByteRecords.{zeroBytes, Loading, Storing};
+use words::Partition;
 
 // Two bytes as a number. A word summed up from pairs compiles to one read of eight bytes; a sum of eight bytes does not.
 fn pair(high: u8, low: u8) -> u64
@@ -22,14 +23,48 @@ fn word(b: &[u8], k: usize) -> u64
             + (pair(b[i + 4], b[i + 5]) * 0x1_0000 + pair(b[i + 6], b[i + 7])))
 }
 
+// The 320 bytes of record p are zero. Most records are absent, and to see that is quicker than to load or store them.
+fn zero_bytes(b: &[u8], p: Partition) -> bool
+    requires { ⌜ (length (now b) ≡ 5128) × (p .0 < 16) ⌝ }
+    ensures { λ r. ⌜ r ≡ zeroBytes (now (b .entry)) (p .0) ⌝ }
+{
+    let at = (8 + 320 * p.0) as usize;
+    let mut x = 0u8;
+    let mut o = 0usize;
+    while o < 320 {
+        x |= b[at + o];
+        o += 1;
+    }
+    x == 0
+}
+
+// Record p; its words are zero so far.
+fn load_record(b: &[u8], p: Partition, t: &mut [u64; 641])
+    requires { ⌜ (length (now b) ≡ 5128) × (p .0 < 16) × Loading (now b) (1 + 40 * p .0) (now t) ⌝ }
+    ensures { λ _. ⌜ Loading (now (b .entry)) (41 + 40 * p .0) (now (t .exit)) ⌝ }
+{
+    if zero_bytes(b, p) {
+        return;
+    }
+    let mut k = (1 + 40 * p.0) as usize;
+    let end = (41 + 40 * p.0) as usize;
+    while k < end {
+        t[k] = word(b, k);
+        k += 1;
+    }
+}
+
 // The bytes as a table.
 pub fn load(b: &[u8], t: &mut [u64; 641])
     requires { ⌜ length (now b) ≡ 5128 ⌝ }
     ensures { λ _. ⌜ now (t .exit) ≡ wordsOf (now (b .entry)) ⌝ }
 {
-    sized(t);
-    for k in 0..641 {
-        t[k] = word(b, k);
+    *t = [0u64; 641];
+    t[0] = word(b, 0);
+    let mut p = 0u32;
+    while p < 16 {
+        load_record(b, Partition(p), t);
+        p += 1;
     }
 }
 
@@ -49,12 +84,33 @@ fn put(b: &mut [u8], k: usize, w: u64)
     b[i + 7] = (w % 256) as u8;
 }
 
+// Record p, unless both are zero.
+fn store_record(t: &[u64; 641], p: Partition, b: &mut [u8])
+    requires { ⌜ (p .0 < 16) × Storing (now t) (1 + 40 * p .0) (now b) ⌝ }
+    ensures { λ _. ⌜ Storing (now (t .entry)) (41 + 40 * p .0) (now (b .exit)) ⌝ }
+{
+    if crate::areas::zero_record(t, p) {
+        if zero_bytes(b, p) {
+            return;
+        }
+    }
+    let mut k = (1 + 40 * p.0) as usize;
+    let end = (41 + 40 * p.0) as usize;
+    while k < end {
+        put(b, k, t[k]);
+        k += 1;
+    }
+}
+
 // The table as bytes.
 pub fn store(t: &[u64; 641], b: &mut [u8])
     requires { ⌜ length (now b) ≡ 5128 ⌝ }
     ensures { λ _. ⌜ now (b .exit) ≡ bytesOf (now (t .entry)) ⌝ }
 {
-    for k in 0..641 {
-        put(b, k, t[k]);
+    put(b, 0, t[0]);
+    let mut p = 0u32;
+    while p < 16 {
+        store_record(t, Partition(p), b);
+        p += 1;
     }
 }

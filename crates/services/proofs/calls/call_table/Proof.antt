@@ -1,6 +1,6 @@
 use mathlib.Core.Path.{sym, _∙_}
 use borrow.Author.Tests.{not-true, not-false}
-use Rattle.sound.specs.Whole.{sound-means}
+use Rattle.sound.specs.Whole.{sound-means, sound-right}
 use Rattle.sound.specs.Canonical.{sound-canon}
 use Rattle.services.specs.Calls.{answers-unsound, answers-sound}
 use borrow.Author.Needs.{needs}
@@ -15,5 +15,8 @@ call-table-spec =
     (λ c. answers-unsound _ _ (sym (c .before .is-sound .ensures) ∙ not-true _ (c .if1 .taken)))
     (λ c κs. search needs)
     (λ c κs. search needs)
-    (λ c κs. sound-canon (c .before .before .before .before .fits2 .ensures .small) (sound-means _ .0 (sym (c .before .before .before .before .before .before .before .is-sound .ensures) ∙ not-false _ (c .before .before .before .before .before .before .if1 .left))))
+    (λ c κs.
+    let h = sound-means _ .0 (sym (c .before .before .before .before .before .before .before .is-sound .ensures) ∙ not-false _ (c .before .before .before .before .before .before .if1 .left)) in
+    let canon = sound-canon (c .before .before .before .before .fits2 .ensures .small) h in
+    (canon, sound-right canon h))
     (λ c. answers-sound _ _ (sym (c .before .before .before .before .before .before .before .before .is-sound .ensures) ∙ not-false _ (c .before .before .before .before .before .before .before .if1 .left)) (c .before .before .before .first .ensures .current) (c .serve-word .ensures)))

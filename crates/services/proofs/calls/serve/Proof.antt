@@ -12,5 +12,5 @@ serve-spec =
     (tie.spec
     (λ c κs. search needs)
     (λ c. ran-refused (serve-unknown _ _ (sym (c .before .known .ensures) ∙ not-true _ (c .if1 .taken))))
-    (λ c κs. (c .before .before .before .pre .0, c .before .before .before .pre .1, sym (c .before .before .known .ensures) ∙ not-false _ (c .before .if1 .left)))
+    (λ c κs. (c .before .before .before .pre .0, c .before .before .before .pre .1, sym (c .before .before .known .ensures) ∙ not-false _ (c .before .if1 .left), c .before .before .before .pre .2))
     (λ c. c .perform .ensures))

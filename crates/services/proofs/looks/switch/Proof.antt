@@ -1,7 +1,6 @@
 use mathlib.Core.Path.{refl, sym, _∙_}
 use borrow.Author.Tests.{not-true, not-false}
-use Rattle.tables.specs.Encode.{is-canon}
-use Rattle.tables.specs.Settled.{settled-is}
+use Rattle.sound.specs.Settled.{current-settled, settled-words}
 use Rattle.services.specs.Rules.{switch}
 use Rattle.services.specs.Ran.{ran-refused, ran-done, pass, fail}
 use borrow.Author.Needs.{needs}
@@ -16,5 +15,4 @@ switch-spec =
     (λ c κs. search needs)
     (λ c. ran-refused (fail 3 _ (sym (c .before .parent-or-child .ensures) ∙ not-true _ (c .if1 .taken))))
     (λ c κs. record { canon = c .before .before .before .before .pre .0; inC = c .before .before .before .before .pre .1 })
-    (λ c κs. is-canon (c .before .put-current .ensures))
-    (λ c. ran-done (pass 3 (sym (c .before .before .before .before .before .parent-or-child .ensures) ∙ not-false _ (c .before .before .before .before .if1 .left)) refl) (sym (settled-is (c .before .before .put-current .ensures) (c .settle .ensures) .encoded))))
+    (λ c. ran-done (pass 3 (sym (c .before .before .before .parent-or-child .ensures) ∙ not-false _ (c .before .before .if1 .left)) refl) (settled-words (c .put-current .ensures) (current-settled (c .before .before .before .before .before .pre .2) _))))

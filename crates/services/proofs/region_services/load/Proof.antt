@@ -1,7 +1,6 @@
 use mathlib.Core.Path.{sym, _∙_}
 use borrow.Author.Tests.{not-true, not-false}
-use Rattle.tables.specs.Encode.{is-canon}
-use Rattle.tables.specs.Settled.{settled-is}
+use Rattle.sound.specs.Settled.{load-settled, settled-words}
 use Rattle.services.specs.Rules.{load}
 use Rattle.services.specs.Ran.{ran-refused, ran-done, pass, fail, there, missing}
 use Rattle.services.specs.RegionExits.{entry-none, entry-there, load-high, load-twice, load-done}
@@ -23,5 +22,4 @@ load-spec =
     (λ c κs. c .before .before .before .before .before .before .before .before .before .before .before .pre .1)
     (λ c. ran-refused (load-twice (sym (c .before .before .before .before .before .before .before .before .before .before .before .own-or-child .ensures) ∙ not-false _ (c .before .before .before .before .before .before .before .before .before .before .if1 .left)) (c .before .before .before .before .before .before .before .before .entry .ensures) (not-false _ (c .before .before .before .before .before .before .if2 .left)) (not-false _ (c .before .before .before .before .if3 .left)) _ (c .before .before .before .if4 .left) (sym (c .before .loaded-elsewhere .ensures) ∙ c .if5 .taken)))
     (λ c κs. record { canon = c .before .before .before .before .before .before .before .before .before .before .before .before .before .before .pre .0; inP = c .before .before .before .before .before .before .before .before .before .before .before .before .before .before .pre .1; inR = omega (arith, c .before .before .before .before .if4 .left); inI = c .before .before .before .before .before .before .before .before .before .before .before .before .before .before .pre .2 })
-    (λ c κs. is-canon (c .before .put-region .ensures))
-    (λ c. ran-done (load-done (sym (c .before .before .before .before .before .before .before .before .before .before .before .before .before .before .before .own-or-child .ensures) ∙ not-false _ (c .before .before .before .before .before .before .before .before .before .before .before .before .before .before .if1 .left)) (c .before .before .before .before .before .before .before .before .before .before .before .before .entry .ensures) (not-false _ (c .before .before .before .before .before .before .before .before .before .before .if2 .left)) (not-false _ (c .before .before .before .before .before .before .before .before .if3 .left)) _ (c .before .before .before .before .before .before .before .if4 .left) (sym (c .before .before .before .before .before .loaded-elsewhere .ensures) ∙ c .before .before .before .before .if5 .left)) (sym (settled-is (c .before .before .put-region .ensures) (c .settle .ensures) .encoded))))
+    (λ c. ran-done (load-done (sym (c .before .before .before .before .before .before .before .before .before .before .before .before .before .own-or-child .ensures) ∙ not-false _ (c .before .before .before .before .before .before .before .before .before .before .before .before .if1 .left)) (c .before .before .before .before .before .before .before .before .before .before .entry .ensures) (not-false _ (c .before .before .before .before .before .before .before .before .if2 .left)) (not-false _ (c .before .before .before .before .before .before .if3 .left)) _ (c .before .before .before .before .before .if4 .left) (sym (c .before .before .before .loaded-elsewhere .ensures) ∙ c .before .before .if5 .left)) (settled-words (c .put-region .ensures) (load-settled (c .before .before .before .before .before .before .before .before .before .before .before .before .before .before .before .pre .3) _ _ _ (c .before .before .before .before .before .before .before .before .before .before .entry .ensures .opened ∙ not-false _ (c .before .before .before .before .before .before .if3 .left))))))

@@ -1,5 +1,7 @@
 use mathlib.Core.Path.{sym, _∙_}
 use borrow.Author.Tests.{not-true, not-false}
+use Rattle.tables.specs.Encode.{canon-is}
+use Rattle.sound.specs.Settled.{right-settled, settled-words}
 use Rattle.services.specs.Rules.{readRegion}
 use Rattle.services.specs.Ran.{ran-refused, ran-done, pass, fail, second-is}
 use Rattle.services.specs.RegionExits.{region-high, region-low, region-small, word-none, word-some}
@@ -18,8 +20,6 @@ read-region-spec =
     (λ c. ran-refused (pass 3 (sym (c .before .before .own-or-child .ensures) ∙ not-false _ (c .before .if1 .left)) (fail 16 _ (region-high _ (c .if2 .taken)))))
     (λ c κs. search needs)
     (λ c κs. search needs)
-    (λ c κs. c .before .before .before .before .before .before .before .before .before .before .pre .0)
-    (λ c. ran-done (pass 3 (sym (c .before .before .before .before .before .before .before .before .before .own-or-child .ensures) ∙ not-false _ (c .before .before .before .before .before .before .before .before .if1 .left)) (pass 16 (region-low _ (c .before .before .before .before .before .before .before .if2 .left)) (second-is (word-none (c .before .before .before .before .before .regions .ensures) _ (omega (arith, c .before .before .before .before .before .before .before .if2 .left)) (c .before .before .before .before .nth .ensures) (not-true _ (c .before .before .if3 .taken)))))) (c .settle .ensures))
-    (λ c κs. record { canon = c .before .before .before .before .before .before .before .before .before .before .before .pre .0; inP = c .before .before .before .before .before .before .before .before .before .before .before .pre .1; inI = region-small (c .before .before .before .before .before .regions .ensures) _ (omega (arith, c .before .before .before .before .before .before .before .if2 .left)) (c .before .before .before .before .nth .ensures) })
-    (λ c κs. c .before .before .before .before .before .before .before .before .before .before .before .before .before .pre .0)
-    (λ c. ran-done (pass 3 (sym (c .before .before .before .before .before .before .before .before .before .before .before .before .own-or-child .ensures) ∙ not-false _ (c .before .before .before .before .before .before .before .before .before .before .before .if1 .left)) (pass 16 (region-low _ (c .before .before .before .before .before .before .before .before .before .before .if2 .left)) (second-is (word-some (c .before .before .before .before .before .before .before .before .regions .ensures) _ (omega (arith, c .before .before .before .before .before .before .before .before .before .before .if2 .left)) (c .before .before .before .before .before .before .before .nth .ensures) (not-false _ (c .before .before .before .before .before .if3 .left)) (c .before .before .entry-word .ensures))))) (c .settle2 .ensures)))
+    (λ c. ran-done (pass 3 (sym (c .before .before .before .before .before .before .own-or-child .ensures) ∙ not-false _ (c .before .before .before .before .before .if1 .left)) (pass 16 (region-low _ (c .before .before .before .before .if2 .left)) (second-is (word-none (c .before .before .before .regions .ensures) _ (omega (arith, c .before .before .before .before .if2 .left)) (c .before .before .nth .ensures) (not-true _ (c .if3 .taken)))))) (settled-words (canon-is (c .before .before .before .before .before .before .before .pre .0)) (right-settled (c .before .before .before .before .before .before .before .pre .2))))
+    (λ c κs. record { canon = c .before .before .before .before .before .before .before .before .pre .0; inP = c .before .before .before .before .before .before .before .before .pre .1; inI = region-small (c .before .before .before .before .regions .ensures) _ (omega (arith, c .before .before .before .before .before .if2 .left)) (c .before .before .before .nth .ensures) })
+    (λ c. ran-done (pass 3 (sym (c .before .before .before .before .before .before .before .before .own-or-child .ensures) ∙ not-false _ (c .before .before .before .before .before .before .before .if1 .left)) (pass 16 (region-low _ (c .before .before .before .before .before .before .if2 .left)) (second-is (word-some (c .before .before .before .before .before .regions .ensures) _ (omega (arith, c .before .before .before .before .before .before .if2 .left)) (c .before .before .before .before .nth .ensures) (not-false _ (c .before .before .if3 .left)) (c .entry-word .ensures))))) (settled-words (canon-is (c .before .before .before .before .before .before .before .before .before .pre .0)) (right-settled (c .before .before .before .before .before .before .before .before .before .pre .2)))))

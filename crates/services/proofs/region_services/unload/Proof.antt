@@ -1,7 +1,6 @@
 use mathlib.Core.Path.{refl, sym, _∙_}
 use borrow.Author.Tests.{not-true, not-false}
-use Rattle.tables.specs.Encode.{is-canon}
-use Rattle.tables.specs.Settled.{settled-is}
+use Rattle.sound.specs.Settled.{unload-settled, settled-words}
 use Rattle.services.specs.Rules.{unload}
 use Rattle.services.specs.Ran.{ran-refused, ran-done, pass, fail}
 use Rattle.services.specs.RegionExits.{region-high, region-low}
@@ -19,5 +18,4 @@ unload-spec =
     (λ c. ran-refused (fail 3 _ (sym (c .before .own-or-child .ensures) ∙ not-true _ (c .if1 .taken))))
     (λ c. ran-refused (pass 3 (sym (c .before .before .own-or-child .ensures) ∙ not-false _ (c .before .if1 .left)) (fail 16 _ (region-high _ (c .if2 .taken)))))
     (λ c κs. record { canon = c .before .before .before .before .before .pre .0; inP = c .before .before .before .before .before .pre .1; inI = omega (arith, c .before .if2 .left) })
-    (λ c κs. is-canon (c .before .clear-region .ensures))
-    (λ c. ran-done (pass 3 (sym (c .before .before .before .before .before .before .own-or-child .ensures) ∙ not-false _ (c .before .before .before .before .before .if1 .left)) (pass 16 (region-low _ (c .before .before .before .before .if2 .left)) refl)) (sym (settled-is (c .before .before .clear-region .ensures) (c .settle .ensures) .encoded))))
+    (λ c. ran-done (pass 3 (sym (c .before .before .before .before .own-or-child .ensures) ∙ not-false _ (c .before .before .before .if1 .left)) (pass 16 (region-low _ (c .before .before .if2 .left)) refl)) (settled-words (c .clear-region .ensures) (unload-settled (c .before .before .before .before .before .before .pre .2) _ _))))

@@ -1,7 +1,8 @@
 use mathlib.Core.Path.{sym, _∙_}
-use borrow.Author.Tests.{not-true, not-false}
-use Rattle.sound.specs.Tests.{and-says, and-true}
-use Rattle.sound.specs.Decide.{never, failed, passed, absent-rest, and-is}
+use borrow.Author.Tests.{not-true}
+use Rattle.sound.specs.Tests.{and-true}
+use Rattle.sound.specs.AtOnce.{shaped-s2}
+use Rattle.sound.specs.Decide.{passed, absent-rest, and-is}
 use borrow.Author.Needs.{needs}
 use Rattle.sound.proofs.decide.partition_sound.Statement.{statement}
 use Rattle.sound.proofs.decide.partition_sound.Tie as tie
@@ -11,8 +12,6 @@ partition-sound-spec =
     tie.close
     (tie.spec
     (λ c κs. search needs)
-    (λ c. never _ (λ q. failed (c .before .family-sound .ensures) (c .if1 .taken) (and-says _ _ q .0)))
-    (λ c κs. search needs)
-    (λ c. sym (and-true _ _ (passed (c .before .before .before .family-sound .ensures) (c .before .before .if1 .left)) (absent-rest _ _ (c .before .before .before .before .pre .0) (passed (c .before .before .before .family-sound .ensures) (c .before .before .if1 .left)) (sym (c .before .is-present .ensures) ∙ not-true _ (c .if2 .taken)))))
-    (λ c κs. (c .before .before .before .before .pre .0, passed (c .before .is-present .ensures) (c .if2 .left), c .before .before .before .before .pre .1))
-    (λ c. c .present-sound .ensures ∙ and-is _ _ (passed (c .before .before .before .before .family-sound .ensures) (c .before .before .before .if1 .left))))
+    (λ c. sym (and-true _ _ (shaped-s2 (c .before .before .pre .2) _ (c .before .before .pre .0)) (absent-rest _ _ (c .before .before .pre .0) (shaped-s2 (c .before .before .pre .2) _ (c .before .before .pre .0)) (sym (c .before .is-present .ensures) ∙ not-true _ (c .if1 .taken)))))
+    (λ c κs. (c .before .before .pre .0, passed (c .before .is-present .ensures) (c .if1 .left), c .before .before .pre .1, c .before .before .pre .2))
+    (λ c. c .present-sound .ensures ∙ and-is _ _ (shaped-s2 (c .before .before .before .pre .2) _ (c .before .before .before .pre .0))))

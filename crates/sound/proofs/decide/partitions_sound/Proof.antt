@@ -24,7 +24,7 @@ partitions-sound-spec =
     Inv-loop
     μ-loop
     (λ c. seek-start)
-    (λ c κs. (omega arith, c .before .before .pre))
+    (λ c κs. (omega arith, c .before .before .pre .0, c .before .before .pre .1))
     (λ c. seek-hit (c .before .before .before .loop .inv) (omega arith) (ap not (sym (c .before .partition-sound .ensures)) ∙ c .if1 .taken))
     (λ c. search needs)
     (λ c. search needs)

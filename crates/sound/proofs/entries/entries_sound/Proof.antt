@@ -24,7 +24,7 @@ entries-sound-spec =
     (rw (s7-parts _ _ (g .before .pre .1), ← d .given-each .ensures, not-true (d .given-each .result) (c .if2 .taken)) refl))
     (λ c κs.
     let g = c .before .before .before .before .before .before .before .before .before .before in
-    (g .before .pre .0, g .before .pre .2, g .gather .ensures))
+    (g .before .pre .0, g .before .pre .2, g .gather .ensures, g .before .pre .3))
     (λ c.
     let d = c .before .before .before .before in
     let a = d .before .before in

@@ -17,7 +17,7 @@ exact-spec =
     rw (← exact-quick (d .before .pre .2) (d .before .pre .1) (d .grants .ensures), ← i .ensures, not-true (i .result) (c .if1 .taken)) refl)
     (λ c κs.
     let d = c .before .before .before .before .before .before .before .before in
-    (d .before .pre .2 .ranges .few, d .grants .ensures .few))
+    (ranged (d .before .pre .2) (d .before .pre .1), d .grants .ensures .few))
     (λ c.
     let d = c .before .before .before .before .before .before .before .before .before in
     let i = c .before .before .before .before .inside-each in

@@ -1,33 +1,29 @@
 use mathlib.Core.Path.{ap, sym, _∙_}
 use mathlib.Core.Bool.{not}
 use Prim.Native.Nat.{_-_}
-use Rattle.loops.specs.Scan.{seek-start, seek-hit, seek-on, seek-end}
+use Rattle.loops.specs.Scan.{seek-start, seek-hit, seek-on}
 use Rattle.loops.specs.Every.{Passing}
 use Rattle.tables.specs.View.{view}
 use Rattle.sound.specs.Clauses.{s7Given}
-use Rattle.sound.specs.Entries.{givenSlot}
+use Rattle.sound.specs.Entries.{givenSlot, given-empty}
+use Rattle.sound.specs.Used.{seek-bound}
 use native.Mathlib.Omega.{arith}
 use borrow.Author.Needs.{needs}
 use Rattle.sound.proofs.entries.given_each.Statement.{statement}
 use Rattle.sound.proofs.entries.given_each.Tie as tie
-
-abbrev Inv-loop : tie.InvT-loop
-Inv-loop t p i₀ i = Passing (givenSlot (view t .k) (p .0)) 32 i
-
-abbrev μ-loop : tie.MeasureT-loop
-μ-loop t p i₀ i = 32 - i
 
 pub given-each-spec : {M : Type 1} → statement M
 unfolding s7Given givenSlot
 given-each-spec =
     tie.close
     (tie.spec
-    Inv-loop
-    μ-loop
-    (λ c. seek-start)
+    (λ t p used i₀ i. Passing (givenSlot (view t .k) (p .0)) 32 i)
+    (λ t p used i₀ i. used - i)
     (λ c κs. search needs)
-    (λ c. seek-hit (c .before .before .before .loop .inv) (omega arith) (ap not (sym (c .before .given-slot .ensures)) ∙ c .if1 .taken))
+    (λ c. seek-start)
+    (λ c κs. (c .before .before .before .pre .0, omega (arith, c .before .before .used-slots .ensures .within)))
+    (λ c. seek-hit (c .before .before .before .loop .inv) (omega (arith, c .before .before .before .before .used-slots .ensures .within)) (ap not (sym (c .before .given-slot .ensures)) ∙ c .if1 .taken))
     (λ c. search needs)
     (λ c. search needs)
-    (λ c. seek-on (c .before .before .before .loop .inv) (omega arith) (ap not (sym (c .before .given-slot .ensures)) ∙ c .if1 .left))
-    (λ c. seek-end (c .before .loop .inv) (omega arith)))
+    (λ c. seek-on (c .before .before .before .loop .inv) (omega (arith, c .before .before .before .before .used-slots .ensures .within)) (ap not (sym (c .before .given-slot .ensures)) ∙ c .if1 .left))
+    (λ c. seek-bound (c .before .loop .inv) (λ j a b. ap not (given-empty (c .before .before .used-slots .ensures) j (omega arith) b))))

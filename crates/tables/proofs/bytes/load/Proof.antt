@@ -1,24 +1,22 @@
-use Prim.Native.Nat.{_-_}
+use Prim.Native.Nat.{_+_, _*_, _-_, _≤_}
+use Rattle.loops.specs.Rewrite.{fill-put}
+use Rattle.tables.specs.ByteRecords.{Loading, load-start, load-end, load-at}
 use native.Mathlib.Omega.{arith}
 use borrow.Author.Needs.{needs}
-use Rattle.loops.specs.Rewrite.{Filling, fill-start, fill-put, fill-tab}
-use Rattle.tables.specs.Bytes.{wordAt, wordsOf}
 use Rattle.tables.proofs.bytes.load.Statement.{statement}
 use Rattle.tables.proofs.bytes.load.Tie as tie
 
 pub load-spec : {M : Type 1} → statement M
-unfolding wordsOf
 load-spec =
     tie.close
     (tie.spec
-    (λ b t₀ k₀ t k. Filling (λ i x. wordAt b i) t₀ 641 k t)
-    (λ b t₀ k₀ t k. 641 - k)
-    (λ c κs. search needs)
-    (λ c. fill-start (c .sized .ensures))
+    (λ b t₀ p₀ t p. (p ≤ 16) × Loading b (1 + 40 * p) t)
+    (λ b t₀ p₀ t p. 16 - p)
     (λ c κs. search needs)
     (λ c. search needs)
+    (λ c. (omega arith, load-at _ (omega arith) (fill-put (load-start _) (omega arith) (c .word .ensures))))
+    (λ c κs. (c .before .before .before .before .before .before .pre, omega arith, c .before .before .loop .inv .1))
     (λ c. search needs)
     (λ c. search needs)
-    (λ c. search needs)
-    (λ c. fill-put (c .before .before .loop .inv) (omega arith) (c .word .ensures))
-    (λ c. fill-tab (c .before .loop .inv) (omega arith)))
+    (λ c. (omega arith, load-at _ (omega arith) (c .load-record .ensures)))
+    (λ c. load-end _ (load-at _ (omega (arith, c .before .loop .inv .0)) (c .before .loop .inv .1))))

@@ -1,0 +1,33 @@
+use mathlib.Core.Path.{sym, _∙_}
+use Prim.Native.Nat.{_-_, _≤_}
+use Rattle.tables.specs.ByteRecords.{Storing, store-word, store-skip, store-at}
+use native.Mathlib.Omega.{arith}
+use borrow.Author.Needs.{needs}
+use Rattle.tables.proofs.bytes.store_record.Statement.{statement}
+use Rattle.tables.proofs.bytes.store_record.Tie as tie
+
+pub store-record-spec : {M : Type 1} → statement M
+store-record-spec =
+    tie.close
+    (tie.spec
+    (λ t b₀ k₀ end b k. (k ≤ end) × Storing t k b)
+    (λ t b₀ k₀ end b k. end - k)
+    (λ c κs. search needs)
+    (λ c κs. (c .before .before .before .before .pre .1 .size, c .before .before .before .before .pre .0))
+    (λ c. search needs)
+    (λ c. store-skip _ (sym (c .before .before .before .before .zero-record .ensures) ∙ c .before .before .before .if1 .taken) (sym (c .before .zero-bytes .ensures) ∙ c .if2 .taken) (c .before .before .before .before .before .before .pre .1))
+    (λ c. search needs)
+    (λ c. search needs)
+    (λ c. search needs)
+    (λ c. search needs)
+    (λ c. search needs)
+    (λ c. search needs)
+    (λ c. (omega arith, c .before .before .before .before .before .pre .1))
+    (λ c. search needs)
+    (λ c. search needs)
+    (λ c κs. (c .before .before .before .loop .inv .1 .size, omega (arith, c .before .before .before .before .before .before .before .before .before .pre .0)))
+    (λ c. search needs)
+    (λ c. search needs)
+    (λ c. (omega arith, store-word (c .before .before .before .before .before .before .loop .inv .1) (omega (arith, c .before .before .before .before .before .before .before .before .before .before .before .before .pre .0)) (c .before .before .put .ensures)))
+    (λ c. search needs)
+    (λ c. store-at _ (omega (arith, c .before .loop .inv .0)) (c .before .loop .inv .1)))
