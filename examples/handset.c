@@ -1,7 +1,8 @@
 /*
  * A handset's firmware sets up its three parts with libulavrepit.a: a form store, a label reader and a
  * bought-in radio uploader, each with memory of its own. Then it makes the mistake that the kernel is
- * there for: a block that the store has is given to the uploader as well.
+ * there for: a block that the store has is given to the uploader as well. At last it replaces the reader, which
+ * has started a helper of its own by then: both go at once.
  *
  *   make example     or     cc -Iinclude examples/handset.c build/libulavrepit.a
  */
@@ -51,6 +52,21 @@ static void print_holders(uint32_t line)
     puts(answer.refusal == ULAVREPIT_DONE ? "" : " nobody: it is not the kernel's");
 }
 
+/* The reader starts a helper in its own memory, from its first line on: then it can't be deleted, but cleared out. */
+static void replace_reader(uint32_t reader, uint32_t first_line)
+{
+    uint32_t rest = 0, start = first_line;
+    call("switch", ulavrepit_switch(reader));
+    add_part("helper of the reader", &rest, &start, 32, ULAVREPIT_READ);
+    call("switch", ulavrepit_switch(0));
+    uint32_t line = start - 1; /* the last one that the helper has */
+    print_holders(line);
+    call("delete the reader", ulavrepit_delete(reader));
+    printf("the reader is cleared out: %u partitions removed\n",
+           (unsigned)call("clear out", ulavrepit_clear_out(reader)));
+    print_holders(line);
+}
+
 int main(void)
 {
     uint32_t rest = 0, start = 256, end = 4096;
@@ -76,5 +92,7 @@ int main(void)
     call("give", ulavrepit_give(3, forms, ULAVREPIT_READ));
     puts("the store's block is taken back and given to the uploader, to read");
     print_holders(400);
+
+    replace_reader(2, 1360);
     return 0;
 }

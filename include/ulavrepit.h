@@ -27,7 +27,7 @@ enum {
     ULAVREPIT_LAST_LINE = 134217727, /* the highest number that a boot may name as its end */
     ULAVREPIT_AREA_LINES = 16,       /* a block that is to serve the kernel has so many lines or more */
     ULAVREPIT_HOLDERS_BYTES = 16,    /* a list for holders has so many bytes or more */
-    ULAVREPIT_RUNS = 324             /* no sound table has more runs */
+    ULAVREPIT_RUNS = 512             /* no sound table has more runs */
 };
 
 /* Rights of an entry, to be added up. */
@@ -47,7 +47,8 @@ enum {
     ULAVREPIT_UNLOAD = 10,
     ULAVREPIT_READ_REGION = 11,
     ULAVREPIT_FIND = 12,
-    ULAVREPIT_SWITCH = 13
+    ULAVREPIT_SWITCH = 13,
+    ULAVREPIT_CLEAR_OUT = 14
 };
 
 /* Refusal numbers. Where several apply, the lowest is given. */
@@ -167,7 +168,7 @@ static inline uint64_t ulavrepit_create(uint32_t slot)
     return ulavrepit_word(ULAVREPIT_CREATE, 0, slot, 0, 0, 0);
 }
 
-/* The child goes, and what it was given is the caller's alone again. */
+/* The child goes, if it has no child itself, and what it was given is the caller's alone again. */
 static inline uint64_t ulavrepit_delete(uint32_t child)
 {
     return ulavrepit_word(ULAVREPIT_DELETE, child, 0, 0, 0, 0);
@@ -236,6 +237,16 @@ static inline uint64_t ulavrepit_find(uint32_t partition, uint32_t line)
 static inline uint64_t ulavrepit_switch(uint32_t partition)
 {
     return ulavrepit_word(ULAVREPIT_SWITCH, partition, 0, 0, 0, 0);
+}
+
+/*
+ * The child goes with all it started: its children, theirs, and so on. What it was given is the caller's alone
+ * again, and the memory in which their records and structures lay is open. First: how many partitions went,
+ * the child counted.
+ */
+static inline uint64_t ulavrepit_clear_out(uint32_t child)
+{
+    return ulavrepit_word(ULAVREPIT_CLEAR_OUT, child, 0, 0, 0, 0);
 }
 
 /* ---- entry words, as find and read region answer them ---- */

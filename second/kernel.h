@@ -1,6 +1,6 @@
 /*
  * Ulavrepit, the second program: the tables of a separation kernel in plain
- * C99, written from document 01 alone, to be compared with the first one.
+ * C99, written from documents 01 and 02 alone, to be compared with the first one.
  *
  * Every result is  refusal + 2^8 * caller + 2^32 * first.  Bits 16 to 31 are
  * zero. Refusal 0 means done. caller is 0 where refusal 1 is given, and for

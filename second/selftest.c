@@ -90,7 +90,14 @@ static uint64_t word_of(unsigned service, unsigned p, unsigned s, unsigned t, un
            (uint64_t)r << 43 | (uint64_t)l << 16;
 }
 
-enum { CREATE = 1, DELETE, PREPARE, COLLECT, GIVE, TAKE, CUT, MERGE, LOAD, UNLOAD, READ, FIND, SWITCH };
+enum {
+    CREATE = 1, DELETE, PREPARE, COLLECT, GIVE, TAKE, CUT, MERGE, LOAD, UNLOAD, READ, FIND, SWITCH, CLEAR_OUT,
+    SERVICES = CLEAR_OUT
+};
+
+/* The fields that each service uses, by its number. */
+static const char *const used[SERVICES + 1] = {"", "S", "P", "PS", "PT", "PSR", "S", "SL", "ST", "PST",
+                                               "PT", "PT", "PL", "P", "P"};
 
 #define UNTOUCHED UINT64_C(0x5a5a5a5a5a5a5a5a)
 
@@ -367,27 +374,25 @@ static void test_refusal_1_and_2(void)
     make_x();
     good = goes(SWITCH, 1, 0, 0, 0, 0); /* so that the caller is not 0 */
     for (unsigned service = 0; service < 16; service++) {
-        if (service < 1 || service > 13) {
+        if (service < 1 || service > SERVICES) {
             good = good && is_refused(service, 0, 0, 0, 0, 0, 2);
             good = good && is_refused(service, 1, 0, 0, 0, 0, 2);
         }
     }
-    check(good, "service 0, 14 and 15: 2");
+    check(good, "service 0 and 15: 2");
 
     good = true;
-    for (unsigned service = 1; service <= 13; service++)
+    for (unsigned service = 1; service <= SERVICES; service++)
         for (unsigned bit = 0; bit < 16; bit++) {
             result a = call_word_on(table, word_of(service, 0, 0, 0, 0, 0) | UINT64_C(1) << bit);
             good = good && a.clean && a.refusal == 2 && a.caller == 1;
         }
     check(good, "a zero bit set in a call word: 2");
 
-    static const char *const used[14] = {"", "S", "P", "PS", "PT", "PSR", "S", "SL", "ST", "PST",
-                                         "PT", "PT", "PL", "P"};
     static const char letters[] = "PSTRL";
     static const unsigned high[] = {60, 56, 51, 46, 43}, low[] = {56, 51, 46, 43, 16};
     good = true;
-    for (unsigned service = 1; service <= 13; service++)
+    for (unsigned service = 1; service <= SERVICES; service++)
         for (unsigned f = 0; f < 5; f++)
             for (unsigned bit = low[f]; bit < high[f]; bit++) {
                 uint8_t copy[SECOND_BYTES];
@@ -397,6 +402,15 @@ static void test_refusal_1_and_2(void)
                 good = good && a.clean && (a.refusal == 2) == !uses_it;
             }
     check(good, "a field that the service doesn't use is not 0: 2");
+}
+
+/* All 40 words of the partition are zero. */
+static bool is_blank(unsigned p)
+{
+    for (unsigned i = 0; i < 40; i++)
+        if (get_word(table, header_at(p) + i) != 0)
+            return false;
+    return true;
 }
 
 static void test_create_and_delete(void)
@@ -431,10 +445,7 @@ static void test_create_and_delete(void)
               get_word(table, slot_at(0, 3)) == UINT64_C(0xf800001200000400) &&
               get(table, slot_at(0, 0), E_OPEN) == 1 && get(table, slot_at(0, 2), E_OPEN) == 1,
           "delete takes back what was given");
-    good = true;
-    for (unsigned i = 0; i < 40; i++)
-        good = good && get_word(table, header_at(1) + i) == 0;
-    check(good, "delete zeroes the record");
+    check(is_blank(1), "delete zeroes the record");
 }
 
 static void test_full(void)
@@ -655,6 +666,120 @@ static void test_regions_find_switch(void)
     check(good && holders_are(600, "\0\2\1", 3), "holders stand root first, by depth and not by number");
     second_run runs[] = {{256, 544, 0}, {544, 576, 2}, {576, 1024, 1}};
     check(runs_are(runs, 3), "runs name the deepest holder, not the highest number");
+    check(goes(SWITCH, 0, 0, 0, 0, 0) && is_done(CLEAR_OUT, 2, 0, 0, 0, 0, 2, 0) && is_blank(1) && is_blank(2),
+          "clear out of a parent with a higher number than its child");
+}
+
+/*
+ * Z: partition 1 of X has the children 2 and 3, 2 the child 4; 5 is the root's
+ * other child. The root has given 1 two blocks, in slots 3 and 5; it has loaded
+ * slots 4 and 5, 1 its slot 4, and 4 its slot 0.
+ */
+static bool make_z(void)
+{
+    make_x();
+    return goes(SWITCH, 1, 0, 0, 0, 0) && is_done(CUT, 0, 0, 0, 0, 304, 1, 0) &&
+           is_done(CUT, 0, 1, 0, 0, 320, 2, 0) && is_done(CUT, 0, 2, 0, 0, 416, 3, 0) &&
+           is_done(CUT, 0, 3, 0, 0, 432, 4, 0) && is_done(CREATE, 0, 0, 0, 0, 0, 2, 0) &&
+           is_done(PREPARE, 2, 1, 0, 0, 0, 0, 0) && is_done(GIVE, 2, 2, 0, 6, 0, 0, 0) &&
+           is_done(CREATE, 0, 3, 0, 0, 0, 3, 0) && goes(LOAD, 1, 4, 0, 0, 0) &&
+           goes(SWITCH, 2, 0, 0, 0, 0) && is_done(CUT, 0, 0, 0, 0, 336, 1, 0) &&
+           is_done(CUT, 0, 1, 0, 0, 352, 2, 0) && is_done(CREATE, 0, 0, 0, 0, 0, 4, 0) &&
+           is_done(PREPARE, 4, 1, 0, 0, 0, 0, 0) && is_done(GIVE, 4, 2, 0, 4, 0, 0, 0) &&
+           goes(LOAD, 4, 0, 0, 0, 0) && goes(SWITCH, 1, 0, 0, 0, 0) && goes(SWITCH, 0, 0, 0, 0, 0) &&
+           is_done(CUT, 0, 1, 0, 0, 528, 4, 0) && is_done(CREATE, 0, 1, 0, 0, 0, 5, 0) &&
+           is_done(CUT, 0, 4, 0, 0, 600, 5, 0) && is_done(GIVE, 1, 5, 0, 5, 0, 5, 0) &&
+           goes(LOAD, 0, 4, 0, 0, 0) && goes(LOAD, 0, 5, 1, 0, 0);
+}
+
+static void test_clear_out_refusals(void)
+{
+    check(make_z() && is_refused(CLEAR_OUT, 0, 0, 0, 0, 0, 3) && is_refused(CLEAR_OUT, 9, 0, 0, 0, 0, 3),
+          "clear out of oneself, of an absent one: 3");
+    check(is_refused(CLEAR_OUT, 2, 0, 0, 0, 0, 3) && is_refused(CLEAR_OUT, 4, 0, 0, 0, 0, 3),
+          "clear out of a grandchild, of its child: 3");
+    check(is_refused(CLEAR_OUT, 1, 1, 0, 0, 0, 2) && is_refused(CLEAR_OUT, 1, 0, 1, 0, 0, 2) &&
+              is_refused(CLEAR_OUT, 1, 0, 0, 1, 0, 2) && is_refused(CLEAR_OUT, 1, 0, 0, 0, 1, 2) &&
+              is_refused(CLEAR_OUT, 2, 1, 0, 0, 0, 2) && is_refused(15, 1, 0, 0, 0, 0, 2),
+          "clear out with another field than P: 2, and 2 before 3; service 15 still 2");
+    check(goes(SWITCH, 1, 0, 0, 0, 0) && is_refused(CLEAR_OUT, 1, 0, 0, 0, 0, 3) &&
+              is_refused(CLEAR_OUT, 0, 0, 0, 0, 0, 3) && is_refused(CLEAR_OUT, 5, 0, 0, 0, 0, 3),
+          "clear out of oneself, of the parent, of a sibling: 3");
+}
+
+/* A branch of one: what delete does, but for the first value. */
+static void test_clear_out_of_one(void)
+{
+    static uint8_t deleted[SECOND_BYTES];
+    make_x();
+    bool good = goes(LOAD, 0, 3, 2, 0, 0) && goes(LOAD, 1, 0, 5, 0, 0) && is_done(DELETE, 1, 0, 0, 0, 0, 0, 0);
+    memcpy(deleted, table, SECOND_BYTES);
+    make_x();
+    good = good && goes(LOAD, 0, 3, 2, 0, 0) && goes(LOAD, 1, 0, 5, 0, 0);
+    check(good && is_done(CLEAR_OUT, 1, 0, 0, 0, 0, 1, 0) && memcmp(deleted, table, SECOND_BYTES) == 0,
+          "clear out of one without a child: 1, and the table as after delete");
+    check(is_refused(CLEAR_OUT, 1, 0, 0, 0, 0, 3), "clear out once more: 3");
+    check(make_z() && is_done(CLEAR_OUT, 5, 0, 0, 0, 0, 1, 0) && is_blank(5) && !is_blank(1) && !is_blank(4) &&
+              get(table, slot_at(0, 1), E_OPEN) == 1 && get(table, slot_at(0, 5), E_GIVEN) == 1 &&
+              holders_are(360, "\0\1\2\4", 4),
+          "clear out leaves the sibling's branch and what it was given");
+}
+
+static void test_clear_out_of_a_branch(void)
+{
+    check(make_z() && is_refused(DELETE, 1, 0, 0, 0, 0, 15) && holders_are(360, "\0\1\2\4", 4) &&
+              is_done(CLEAR_OUT, 1, 0, 0, 0, 0, 4, 0),
+          "clear out of a branch three deep, with siblings: 4");
+    check(is_blank(1) && is_blank(2) && is_blank(3) && is_blank(4) && !is_blank(5), "every member's record is zero");
+    check(get_word(table, slot_at(0, 3)) == UINT64_C(0xf800001200000400) &&
+              get_word(table, slot_at(0, 5)) == UINT64_C(0xf800002580000800),
+          "what the caller gave is not given and open again");
+    check(get(table, slot_at(0, 0), E_OPEN) == 1 && get(table, slot_at(0, 2), E_OPEN) == 1 &&
+              get(table, slot_at(0, 1), E_OPEN) == 0,
+          "what served the branch is open again, what serves another is not");
+    check(get_word(table, regions_at(0)) == UINT64_C(0x8485000000000000), "the caller's regions stay");
+    second_run whole = {256, 1024, 0};
+    check(runs_are(&whole, 1) && holders_are(360, "\0", 1) && is_done(CREATE, 0, 0, 0, 0, 0, 1, 0),
+          "no member holds a line; the lowest number is absent again");
+
+    check(make_z() && goes(SWITCH, 1, 0, 0, 0, 0) && is_done(CLEAR_OUT, 2, 0, 0, 0, 0, 2, 0) && is_blank(2) &&
+              is_blank(4) && !is_blank(3) && get(table, header_at(1), H_PRESENT) == 1,
+          "clear out by a child: its own child's branch, and no other");
+    check(get_word(table, slot_at(1, 2)) == UINT64_C(0xf000001400000340) && get(table, slot_at(1, 0), E_OPEN) == 1 &&
+              get(table, slot_at(1, 1), E_OPEN) == 1 && get(table, slot_at(1, 3), E_OPEN) == 0 &&
+              get(table, slot_at(0, 3), E_OPEN) == 0 && *region_byte(table, 1, 0) == 0x84,
+          "entries over the other child's area stay closed, also the ancestor's");
+    check(is_done(CLEAR_OUT, 3, 0, 0, 0, 0, 1, 0) && get(table, slot_at(0, 3), E_OPEN) == 1 &&
+              get(table, slot_at(0, 3), E_GIVEN) == 1,
+          "then the ancestor's is open, and still given");
+}
+
+/* Each the child of the one before, from 1 to 15, which is current. */
+static bool make_chain(void)
+{
+    bool good = boot_to(0, 2000);
+    for (unsigned i = 1; good && i < 16; i++)
+        good = goes(CUT, 0, 0, 0, 0, 32 * (i - 1) + 16) && goes(CUT, 0, 1, 0, 0, 32 * i) &&
+               is_done(CREATE, 0, 0, 0, 0, 0, i, 0) && goes(PREPARE, i, 1, 0, 0, 0) &&
+               goes(GIVE, i, 2, 0, 7, 0) && goes(SWITCH, i, 0, 0, 0, 0);
+    return good;
+}
+
+static void test_clear_out_of_a_chain(void)
+{
+    bool good = make_chain();
+    for (unsigned i = 15; i-- > 7;)
+        good = good && goes(SWITCH, i, 0, 0, 0, 0);
+    check(good && is_done(CLEAR_OUT, 8, 0, 0, 0, 0, 8, 0) && !is_blank(7) && is_blank(8) && is_blank(15) &&
+              holders_are(1999, "\0\1\2\3\4\5\6\7", 8),
+          "clear out of the lower half of a chain: 8");
+    good = make_chain();
+    for (unsigned i = 15; i-- > 0;)
+        good = good && goes(SWITCH, i, 0, 0, 0, 0);
+    good = good && is_done(CLEAR_OUT, 1, 0, 0, 0, 0, 15, 0);
+    for (unsigned p = 1; p < 16; p++)
+        good = good && is_blank(p);
+    check(good && holders_are(1999, "\0", 1), "clear out of a chain of 15: 15");
 }
 
 /* ======================= 4. The clauses of soundness ======================= */
@@ -806,13 +931,7 @@ static void test_clauses(void)
     set(table, slot_at(0, 2), E_OPEN, 1);
     set_word(table, regions_at(1), 0);
     check(second_unsound(table, SECOND_BYTES) == 0, "S8: structure area equals an own entry: sound");
-    /* A chain of 15 steps is sound: each the child of the one before. */
-    good = boot_to(0, 2000);
-    for (unsigned i = 1; good && i < 16; i++)
-        good = goes(CUT, 0, 0, 0, 0, 32 * (i - 1) + 16) && goes(CUT, 0, 1, 0, 0, 32 * i) &&
-               is_done(CREATE, 0, 0, 0, 0, 0, i, 0) && goes(PREPARE, i, 1, 0, 0, 0) &&
-               goes(GIVE, i, 2, 0, 7, 0) && goes(SWITCH, i, 0, 0, 0, 0);
-    check(good && holders_are(1999, "\0\1\2\3\4\5\6\7\10\11\12\13\14\15\16\17", 16),
+    check(make_chain() && holders_are(1999, "\0\1\2\3\4\5\6\7\10\11\12\13\14\15\16\17", 16),
           "a chain of 15 steps is sound, with 16 holders");
 }
 
@@ -1064,9 +1183,9 @@ static fields fields_of(uint64_t w)
 }
 
 /* The checks of each service, ended by 0. */
-static const unsigned char checks[14][8] = {
+static const unsigned char checks[SERVICES + 1][8] = {
     {0}, {4, 5, 6, 8, 9}, {3, 15}, {3, 4, 5, 6, 8, 9}, {3, 4, 15}, {3, 4, 5, 6, 8, 10}, {4, 6, 14},
-    {4, 5, 6, 7, 8}, {4, 5, 6, 11, 12, 13}, {3, 4, 5, 16}, {3, 16}, {3, 16}, {3, 7}, {3}};
+    {4, 5, 6, 7, 8}, {4, 5, 6, 11, 12, 13}, {3, 4, 5, 16}, {3, 16}, {3, 16}, {3, 7}, {3}, {3}};
 
 static unsigned m_free(const uint8_t *t, unsigned p)
 {
@@ -1096,7 +1215,7 @@ static bool m_applies(const uint8_t *t, fields f, unsigned number)
 
     switch (number) {
     case 3:
-        if (f.service == DELETE || f.service == GIVE)
+        if (f.service == DELETE || f.service == GIVE || f.service == CLEAR_OUT)
             return !m_child(t, f.p, c);
         if (f.service == SWITCH)
             return !m_child(t, f.p, c) && !m_child(t, c, f.p);
@@ -1164,6 +1283,27 @@ static uint64_t m_entry_word(unsigned rights, uint32_t start, uint32_t end)
     return UINT64_C(1) << 63 | (uint64_t)rights << 59 | (uint64_t)start << 28 | (uint64_t)end << 1;
 }
 
+/* Zeroes the records of all whose walk up to the root meets p; answers how many there were. */
+static uint32_t m_remove(uint8_t *t, unsigned p)
+{
+    bool member[16];
+    uint32_t n = 0;
+    for (unsigned q = 0; q < 16; q++) {
+        unsigned at = q;
+        while (at != 0 && at != p)
+            at = m_parent(t, at);
+        member[q] = at == p && m_present(t, q);
+    }
+    for (unsigned q = 0; q < 16; q++) {
+        if (!member[q])
+            continue;
+        for (unsigned i = 0; i < 40; i++)
+            set_word(t, header_at(q) + i, 0);
+        n++;
+    }
+    return n;
+}
+
 /* The effect of an accepted call on the words; the open bits and regions come after. */
 static void m_effect(uint8_t *t, fields f, uint32_t *first, uint64_t *second)
 {
@@ -1178,12 +1318,13 @@ static void m_effect(uint8_t *t, fields f, uint32_t *first, uint64_t *second)
         set_word(t, header_at(n), UINT64_C(1) << 63 | (uint64_t)c << 59 | (uint64_t)start << 32 | end << 5);
         *first = n;
         break;
-    case DELETE:
+    case DELETE: /* of one without a child, so the branch is it alone */
+    case CLEAR_OUT:
         for (unsigned s = 0; s < 32; s++)
             if (m_given(t, c, s) == f.p)
                 set(t, slot_at(c, s), E_GIVEN, 0);
-        for (unsigned i = 0; i < 40; i++)
-            set_word(t, header_at(f.p) + i, 0);
+        n = m_remove(t, f.p);
+        *first = f.service == CLEAR_OUT ? n : 0;
         break;
     case PREPARE:
         while (get(t, structure_at(f.p, n), T_PRESENT) == 1)
@@ -1257,15 +1398,13 @@ static void m_settle(uint8_t *t)
 /* The refusal number of a call on a sound table, or 0. */
 static unsigned m_refusal(const uint8_t *t, uint64_t word)
 {
-    static const char *const used[14] = {"", "s", "p", "ps", "pt", "psr", "s", "sl", "st", "pst",
-                                         "pt", "pt", "pl", "p"};
     fields f = fields_of(word);
-    if (f.service < 1 || f.service > 13 || (word & 0xffff) != 0 ||
-        (f.p != 0 && strchr(used[f.service], 'p') == NULL) ||
-        (f.s != 0 && strchr(used[f.service], 's') == NULL) ||
-        (f.t != 0 && strchr(used[f.service], 't') == NULL) ||
-        (f.r != 0 && strchr(used[f.service], 'r') == NULL) ||
-        (f.l != 0 && strchr(used[f.service], 'l') == NULL))
+    if (f.service < 1 || f.service > SERVICES || (word & 0xffff) != 0 ||
+        (f.p != 0 && strchr(used[f.service], 'P') == NULL) ||
+        (f.s != 0 && strchr(used[f.service], 'S') == NULL) ||
+        (f.t != 0 && strchr(used[f.service], 'T') == NULL) ||
+        (f.r != 0 && strchr(used[f.service], 'R') == NULL) ||
+        (f.l != 0 && strchr(used[f.service], 'L') == NULL))
         return 2;
     for (unsigned i = 0; checks[f.service][i] != 0; i++)
         if (m_applies(t, f, checks[f.service][i]))
@@ -1345,10 +1484,10 @@ static unsigned fit_entry(const uint8_t *t, unsigned p, bool shortest)
 }
 
 /* A call word that has some chance of being accepted. */
-static uint64_t one_word(const uint8_t *t, const unsigned char weights[14])
+static uint64_t one_word(const uint8_t *t, const unsigned char weights[SERVICES + 1])
 {
     unsigned total = 0, service = 1, c = get(t, 0, CURRENT);
-    for (unsigned i = 1; i <= 13; i++)
+    for (unsigned i = 1; i <= SERVICES; i++)
         total += weights[i];
     unsigned pick = below(total);
     while (pick >= weights[service])
@@ -1409,7 +1548,7 @@ static uint64_t one_word(const uint8_t *t, const unsigned char weights[14])
 }
 
 /* Mostly one that the model accepts, if there is one among five; at times a broken one. */
-static uint64_t likely_word(const uint8_t *t, const unsigned char weights[14])
+static uint64_t likely_word(const uint8_t *t, const unsigned char weights[SERVICES + 1])
 {
     uint64_t word = one_word(t, weights);
     for (unsigned i = 0; i < 4 && m_refusal(t, word) != 0 && chance(80); i++)
@@ -1419,7 +1558,8 @@ static uint64_t likely_word(const uint8_t *t, const unsigned char weights[14])
     return word;
 }
 
-static unsigned long met[14][18], accepted;
+static unsigned long met[SERVICES + 1][18], accepted;
+static uint32_t most_removed; /* by one clear out */
 
 /* Calls the program and the model, and compares everything. */
 static bool agree(uint64_t word)
@@ -1428,8 +1568,10 @@ static bool agree(uint64_t word)
     memcpy(model, table, SECOND_BYTES);
     result expected = m_call(model, word);
     result a = call_word_on(table, word);
-    if ((word >> 60) <= 13)
+    if ((word >> 60) <= SERVICES)
         met[word >> 60][expected.refusal]++;
+    if ((word >> 60) == CLEAR_OUT && a.first > most_removed)
+        most_removed = a.first;
     accepted += a.refusal == 0;
     return a.clean && a.refusal == expected.refusal && a.caller == expected.caller &&
            a.first == expected.first && a.second == expected.second &&
@@ -1537,11 +1679,11 @@ static void damage(uint8_t *t)
 static void test_generated(void)
 {
     /* How often each service is tried: fairly, with many partitions, with many slots, deep. */
-    static const unsigned char weights[4][14] = {
-        {0, 6, 2, 6, 3, 9, 4, 14, 8, 8, 2, 3, 3, 9},
-        {0, 14, 1, 2, 1, 2, 1, 14, 1, 3, 1, 1, 1, 2},
-        {0, 4, 1, 9, 1, 9, 1, 24, 2, 6, 1, 1, 1, 6},
-        {0, 4, 0, 8, 0, 14, 1, 9, 1, 3, 1, 1, 1, 14}};
+    static const unsigned char weights[4][SERVICES + 1] = {
+        {0, 6, 2, 6, 3, 9, 4, 14, 8, 8, 2, 3, 3, 9, 2},
+        {0, 14, 1, 2, 1, 2, 1, 14, 1, 3, 1, 1, 1, 2, 1},
+        {0, 4, 1, 9, 1, 9, 1, 24, 2, 6, 1, 1, 1, 6, 1},
+        {0, 4, 0, 8, 0, 14, 1, 9, 1, 3, 1, 1, 1, 14, 1}};
     static uint8_t kept[SECOND_BYTES];
     static unsigned long clauses[12];
     bool good_calls = true, good_sound = true, good_lists = true, good_clauses = true,
@@ -1616,7 +1758,7 @@ static void test_generated(void)
     check(good_noise, "noise: as in the model, nothing written to a table that is not sound");
 
     bool all = true;
-    for (unsigned service = 1; service <= 13; service++) {
+    for (unsigned service = 1; service <= SERVICES; service++) {
         all = all && met[service][0] > 0 && met[service][2] > 0;
         for (unsigned i = 0; checks[service][i] != 0; i++)
             if (met[service][checks[service][i]] == 0) {
@@ -1629,6 +1771,7 @@ static void test_generated(void)
         all = all && clauses[k] >= 10;
     check(all, "every clause was the lowest failing one");
     check(accepted > 10000 && deepest >= 10, "thousands of calls were accepted, ten levels deep");
+    check(most_removed >= 5, "branches of five partitions were cleared out");
 }
 
 int main(void)
@@ -1642,6 +1785,10 @@ int main(void)
     test_prepare_and_collect();
     test_give_take_cut_merge();
     test_regions_find_switch();
+    test_clear_out_refusals();
+    test_clear_out_of_one();
+    test_clear_out_of_a_branch();
+    test_clear_out_of_a_chain();
     test_clauses();
     test_generated();
     printf("%u passed, %u failed\n", passed, failed);

@@ -238,7 +238,7 @@ static void test_runs(void)
 /* One refusal of each number that a booted board can meet; 8, 12 and 13 need longer sessions. */
 static void test_refusals(void)
 {
-    check(make_x() && refused(0, 2) && refused(UINT64_C(14) << 60, 2) && refused(UINT64_MAX, 2) &&
+    check(make_x() && refused(0, 2) && refused(UINT64_C(15) << 60, 2) && refused(UINT64_MAX, 2) &&
               refused(ulavrepit_cut(1, 600) | 1, 2) && refused(ulavrepit_word(ULAVREPIT_CUT, 1, 1, 0, 0, 600), 2),
           "refused 2: no service, a zero bit, a field not used");
     check(refused(ulavrepit_delete(0), 3) && refused(ulavrepit_give(2, 1, 0), 3), "refused 3");
@@ -290,6 +290,79 @@ static void test_regions(void)
           "a region of a block that was taken is empty");
 }
 
+/* ---- clear out ---- */
+
+/* The caller's entry makes a child with a structure and a block: 16 lines, 16 lines, and the rest but for 16. */
+static bool start_child(uint32_t slot, uint32_t child)
+{
+    ulavrepit_entry own = ulavrepit_unpack_entry(table_word(now.table, slot_at(current_of(now.table), slot)));
+    uint32_t area = call_len(sizeof now.table, ulavrepit_cut(slot, own.start + 16)).first;
+    uint32_t block = call_len(sizeof now.table, ulavrepit_cut(area, own.start + 32)).first;
+    return call_len(sizeof now.table, ulavrepit_cut(block, own.end - 16)).refusal == 0 &&
+           done(ulavrepit_create(slot), child, 0) && done(ulavrepit_prepare(child, area), 0, 0) &&
+           done(ulavrepit_give(child, block, ULAVREPIT_READ), 0, 0);
+}
+
+/* X with a branch under partition 1: its children 2 and 3, and 4, the child of 2; and the root's other child, 5. */
+static bool make_branch(void)
+{
+    return make_x() && done(ulavrepit_switch(1), 0, 0) && start_child(0, 2) && done(ulavrepit_create(3), 3, 0) &&
+           done(ulavrepit_switch(2), 0, 0) && start_child(0, 4) && done(ulavrepit_switch(1), 0, 0) &&
+           done(ulavrepit_switch(0), 0, 0) && start_child(1, 5);
+}
+
+/* No word of the partition's record is set. */
+static bool is_gone(unsigned partition)
+{
+    for (unsigned i = 0; i < 40; i++)
+        if (table_word(now.table, 1 + 40 * partition + i) != 0)
+            return false;
+    return true;
+}
+
+static void test_clear_out(void)
+{
+    static const ulavrepit_run kept[] = {{256, 544, 0}, {544, 1008, 5}, {1008, 1024, 0}};
+    check(make_x() && done(ulavrepit_clear_out(1), 1, 0) && is_gone(1) && holders_are(300, 16, "\0", 1),
+          "clear out of a child alone: 1, and the root holds its block alone");
+    check(refused(ulavrepit_clear_out(1), 3) && done(ulavrepit_create(3), 1, 0),
+          "it is no child then, and its block is open");
+    check(make_branch() && holders_are(360, 16, "\0\1\2\4", 4) && holders_are(600, 16, "\0\5", 2),
+          "a branch three deep: a line held by 0, 1, 2, 4");
+    check(refused(ulavrepit_delete(1), 15) && refused(ulavrepit_clear_out(0), 3) &&
+              refused(ulavrepit_clear_out(2), 3) && refused(ulavrepit_clear_out(4), 3) &&
+              refused(ulavrepit_clear_out(6), 3),
+          "clear out of no child (oneself, grandchild, its child, an absent one): 3");
+    check(refused(ulavrepit_word(ULAVREPIT_CLEAR_OUT, 1, 1, 0, 0, 0), 2) &&
+              refused(ulavrepit_word(ULAVREPIT_CLEAR_OUT, 1, 0, 1, 0, 0), 2) &&
+              refused(ulavrepit_word(ULAVREPIT_CLEAR_OUT, 1, 0, 0, 1, 0), 2) &&
+              refused(ulavrepit_word(ULAVREPIT_CLEAR_OUT, 2, 0, 0, 0, 1), 2) && refused(ulavrepit_clear_out(1) | 1, 2),
+          "clear out with a field not used, or a zero bit: 2");
+    check(done(ulavrepit_load(0, 6, 3), 0, 0) && done(ulavrepit_clear_out(1), 4, 0) &&
+              done(ulavrepit_read_region(0, 3), 0, UINT64_C(0xf800003f00000800)),
+          "clear out of the branch: 4, and the root's region stays");
+    check(is_gone(1) && is_gone(2) && is_gone(3) && is_gone(4) && !is_gone(5),
+          "each record of the branch is zero, no other");
+    check(table_word(now.table, slot_at(0, 3)) == UINT64_C(0xf800001200000400) &&
+              table_word(now.table, slot_at(0, 0)) == UINT64_C(0xf800001000000220),
+          "what was given and what served it are the root's, open");
+    check(runs_are(RUNS, kept, 3) && holders_are(360, 16, "\0", 1),
+          "the branch holds no line; the other child holds its own");
+    check(done(ulavrepit_switch(5), 0, 0) && start_child(0, 1) && done(ulavrepit_switch(0), 0, 0) &&
+              done(ulavrepit_clear_out(5), 2, 0) && is_gone(5) && is_gone(1),
+          "clear out of a child with a higher number than its own child: 2");
+}
+
+static void test_clear_out_by_a_child(void)
+{
+    check(make_branch() && done(ulavrepit_switch(1), 0, 0) && refused(ulavrepit_clear_out(0), 3) &&
+              refused(ulavrepit_clear_out(1), 3) && refused(ulavrepit_clear_out(5), 3),
+          "clear out of the parent, oneself, a sibling: 3");
+    check(done(ulavrepit_clear_out(2), 2, 0) && is_gone(2) && is_gone(4) && !is_gone(1) && !is_gone(3) &&
+              holders_are(360, 16, "\0\1", 2),
+          "clear out by a child: 2, and its other child stays");
+}
+
 static void test_places(void)
 {
     static uint8_t bytes[ULAVREPIT_TABLE_BYTES + 8];
@@ -323,7 +396,9 @@ static void test_packing(void)
               ulavrepit_take(3) == UINT64_C(0x6018000000000000) && ulavrepit_merge(1, 2) == UINT64_C(0x8008800000000000) &&
               ulavrepit_load(1, 2, 3) == UINT64_C(0x9110c00000000000) && ulavrepit_unload(1, 3) == UINT64_C(0xa100c00000000000) &&
               ulavrepit_read_region(1, 3) == UINT64_C(0xb100c00000000000) &&
-              ulavrepit_find(1, 300) == UINT64_C(0xc1000000012c0000) && ulavrepit_switch(1) == UINT64_C(0xd100000000000000),
+              ulavrepit_find(1, 300) == UINT64_C(0xc1000000012c0000) &&
+              ulavrepit_switch(1) == UINT64_C(0xd100000000000000) &&
+              ulavrepit_clear_out(1) == UINT64_C(0xe100000000000000),
           "the packers of the other services");
     check(make_b() && refused(ulavrepit_word(16, 0, 0, 0, 0, 0), 2) && refused(ulavrepit_switch(16), 2) &&
               refused(ulavrepit_create(32), 2) && refused(ulavrepit_merge(0, 32), 2) &&
@@ -364,6 +439,8 @@ int main(void)
     test_rights();
     test_caller();
     test_regions();
+    test_clear_out();
+    test_clear_out_by_a_child();
     test_places();
     test_packing();
     test_unpacking();

@@ -25,7 +25,8 @@ static dice chance;
 static bool same_so_far = true;
 static unsigned long calls, accepted, damaged, odd, listings, boots;
 static unsigned long most_runs, short_lists;
-static unsigned long cells[14][18]; /* by service and refusal number */
+static unsigned long cells[LAST_SERVICE + 1][18]; /* by service and refusal number */
+static unsigned long cleared[SECOND_PARTITIONS];  /* clear outs, by the number of partitions removed */
 static unsigned long alone[CLAUSES + 1];
 static unsigned long unsound_sessions, unsound_odd;
 static unsigned deepest;
@@ -84,8 +85,10 @@ static unsigned call_both(uint64_t word)
     uint64_t our = ulavrepit_call(ours.table, sizeof ours.table, word, &ours.second);
     uint64_t their = second_call(theirs.table, sizeof theirs.table, word, &theirs.second);
     compare("call", word, our, their, &before);
-    if (word >> 60 >= ULAVREPIT_CREATE && word >> 60 <= ULAVREPIT_SWITCH)
+    if (word >> 60 >= ULAVREPIT_CREATE && word >> 60 <= LAST_SERVICE)
         cells[word >> 60][their & 0xff]++;
+    if (word >> 60 == ULAVREPIT_CLEAR_OUT && (their & 0xff) == 0)
+        cleared[their >> 32 & 15]++;
     return (unsigned)(their & 0xff);
 }
 
@@ -253,19 +256,23 @@ static void session(unsigned long last)
 
 /* ---- what was met ---- */
 
-static const char *const names[14] = {"", "create", "delete", "prepare", "collect", "give", "take", "cut", "merge",
-                                      "load", "unload", "read region", "find", "switch"};
+static const char *const names[LAST_SERVICE + 1] = {"", "create", "delete", "prepare", "collect", "give", "take", "cut",
+                                                    "merge", "load", "unload", "read region", "find", "switch",
+                                                    "clear out"};
 
 static void print_cells(void)
 {
     printf("# calls by service and answer: 0 done, 1 to 16 refused\n#            ");
     for (unsigned refusal = 0; refusal < 17; refusal++)
         printf("%7u", refusal);
-    for (unsigned service = 1; service <= 13; service++) {
+    for (unsigned service = 1; service <= LAST_SERVICE; service++) {
         printf("\n# %-11s", names[service]);
         for (unsigned refusal = 0; refusal < 17; refusal++)
             printf("%7lu", cells[service][refusal]);
     }
+    printf("\n# clear outs by the number of partitions removed:");
+    for (unsigned size = 1; size < SECOND_PARTITIONS; size++)
+        printf(" %u: %lu%s", size, cleared[size], size < SECOND_PARTITIONS - 1 ? "," : "");
     printf("\n# tables in which one clause failed alone:");
     for (unsigned clause = 1; clause <= CLAUSES; clause++)
         printf(" S%u %lu%s", clause, alone[clause], clause < CLAUSES ? "," : "\n");
@@ -279,7 +286,7 @@ static void print_cells(void)
 static bool every_cell_met(void)
 {
     bool good = true;
-    for (unsigned service = 1; service <= 13; service++)
+    for (unsigned service = 1; service <= LAST_SERVICE; service++)
         for (unsigned refusal = 0; refusal < 18; refusal++) {
             bool own = refusal <= 2;
             for (unsigned i = 0; service_checks[service][i] != 0; i++)
@@ -290,6 +297,15 @@ static bool every_cell_met(void)
             good = false;
         }
     return good;
+}
+
+/* From a child alone to all but the root. */
+static bool every_branch_cleared(void)
+{
+    for (unsigned size = 1; size < SECOND_PARTITIONS; size++)
+        if (cleared[size] == 0)
+            return false;
+    return true;
 }
 
 static bool every_clause_failed_alone(unsigned long least)
@@ -318,8 +334,9 @@ int main(int count, char **words)
     check(unsound_odd == 0, "every odd table is sound");
     check(every_cell_met(), "every service was done, and refused with each of its numbers, 1 and 2, and with no other");
     check(every_clause_failed_alone(last / 200), "each of S1 to S11 failed alone in many tables");
+    check(every_branch_cleared(), "branches of 1 to 15 partitions were cleared out");
     check(deepest == SECOND_PARTITIONS - 1, "chains of 15 levels below the root were met");
-    check(most_runs == ULAVREPIT_RUNS && short_lists >= last / 100, "324 runs, and lists too short, were met");
+    check(most_runs == MOST_RUNS && short_lists >= last / 100, "324 runs, and lists too short, were met");
     check(accepted > calls / 2, "more than half of the calls were accepted");
     check(calls >= last && damaged >= last / 4, "as many calls as asked for, and a damaged table for every four");
     return 0;

@@ -56,7 +56,7 @@ static uint8_t start[ULAVREPIT_TABLE_BYTES], table[ULAVREPIT_TABLE_BYTES];
 static uint8_t list[ULAVREPIT_HOLDERS_BYTES];
 static ulavrepit_run runs[ULAVREPIT_RUNS];
 static uint64_t argument;
-static bool accepted[ULAVREPIT_SWITCH + 1]; /* by service */
+static bool accepted[ULAVREPIT_CLEAR_OUT + 1]; /* by service */
 
 static void do_nothing(void)
 {
@@ -115,7 +115,7 @@ static void measure_services(uint32_t p, uint32_t s, uint32_t t, uint32_t line)
         ulavrepit_create(s), ulavrepit_delete(p), ulavrepit_prepare(p, s), ulavrepit_collect(p, t),
         ulavrepit_give(p, s, t & 7), ulavrepit_take(s), ulavrepit_cut(s, line), ulavrepit_merge(s, t),
         ulavrepit_load(p, s, t), ulavrepit_unload(p, t), ulavrepit_read_region(p, t), ulavrepit_find(p, line),
-        ulavrepit_switch(p), 0};
+        ulavrepit_switch(p), ulavrepit_clear_out(p), 0};
     for (size_t i = 0; i < sizeof words / sizeof *words; i++)
         measure(1, do_call, words[i]);
 }
@@ -159,7 +159,7 @@ static void measure_script(void)
 
 static bool every_service_accepted(void)
 {
-    for (unsigned service = ULAVREPIT_CREATE; service <= ULAVREPIT_SWITCH; service++)
+    for (unsigned service = ULAVREPIT_CREATE; service <= ULAVREPIT_CLEAR_OUT; service++)
         if (!accepted[service])
             return false;
     return true;
@@ -203,7 +203,7 @@ int main(void)
     measure_both();
     make_most_runs(&most);
     second_write(&most, start);
-    check(ulavrepit_runs(start, sizeof start, runs, ULAVREPIT_RUNS) >> 32 == ULAVREPIT_RUNS, "the table with the most runs");
+    check(ulavrepit_runs(start, sizeof start, runs, ULAVREPIT_RUNS) >> 32 == MOST_RUNS, "the table with the most runs");
     measure_both();
     check(every_service_accepted(), "each service was accepted in one of these calls");
     say_depth(0, "ulavrepit_boot");

@@ -4,18 +4,19 @@
 
 #include <string.h>
 
-const uint8_t service_checks[14][8] = {
+const uint8_t service_checks[LAST_SERVICE + 1][8] = {
     {0}, {4, 5, 6, 8, 9}, {3, 15}, {3, 4, 5, 6, 8, 9}, {3, 4, 15}, {3, 4, 5, 6, 8, 10}, {4, 6, 14},
-    {4, 5, 6, 7, 8}, {4, 5, 6, 11, 12, 13}, {3, 4, 5, 16}, {3, 16}, {3, 16}, {3, 7}, {3}};
+    {4, 5, 6, 7, 8}, {4, 5, 6, 11, 12, 13}, {3, 4, 5, 16}, {3, 16}, {3, 16}, {3, 7}, {3}, {3}};
 
 /* How often each service is tried, by mood. */
-static const uint8_t weights[MOODS][14] = {
-    [MIXED] = {0, 7, 1, 8, 3, 12, 5, 14, 8, 8, 2, 2, 3, 12},
-    [DEEP] = {0, 6, 1, 6, 1, 12, 3, 12, 4, 4, 1, 1, 2, 12},
-    [WIDE] = {0, 20, 1, 6, 2, 6, 1, 18, 2, 3, 1, 1, 1, 6},
-    [DENSE] = {0, 3, 0, 12, 1, 16, 2, 30, 2, 4, 1, 1, 2, 10},
-    [LENDING] = {0, 5, 0, 10, 1, 26, 6, 18, 10, 3, 1, 1, 2, 16},
-    [REGIONS] = {0, 5, 1, 7, 3, 10, 6, 10, 6, 24, 5, 5, 3, 10}};
+static const uint8_t weights[MOODS][LAST_SERVICE + 1] = {
+    [MIXED] = {0, 7, 1, 8, 3, 12, 5, 14, 8, 8, 2, 2, 3, 12, 1},
+    [DEEP] = {0, 6, 1, 6, 1, 12, 3, 12, 4, 4, 1, 1, 2, 12, 0},
+    [WIDE] = {0, 20, 1, 6, 2, 6, 1, 18, 2, 3, 1, 1, 1, 6, 0},
+    [DENSE] = {0, 3, 0, 12, 1, 16, 2, 30, 2, 4, 1, 1, 2, 10, 0},
+    [LENDING] = {0, 5, 0, 10, 1, 26, 6, 18, 10, 3, 1, 1, 2, 16, 0},
+    [REGIONS] = {0, 5, 1, 7, 3, 10, 6, 10, 6, 24, 5, 5, 3, 10, 1},
+    [CLEARING] = {0, 14, 0, 8, 0, 12, 1, 12, 2, 8, 1, 1, 2, 14, 1}};
 
 /* ---- the tree ---- */
 
@@ -201,6 +202,7 @@ static bool suits(const second_table *t, uint8_t service, uint8_t p)
     switch (service) {
     case ULAVREPIT_DELETE:
     case ULAVREPIT_GIVE:
+    case ULAVREPIT_CLEAR_OUT:
         return child_of(t, p, t->current);
     case ULAVREPIT_SWITCH:
         return child_of(t, p, t->current) || child_of(t, t->current, p);
@@ -399,6 +401,15 @@ static uint64_t switch_to(const second_table *t, uint8_t refusal, dice *d)
     return ulavrepit_switch(p);
 }
 
+/* Rather a child that has children; to be refused, rather a present one: the caller, its parent, another's child. */
+static uint64_t clear_out(const second_table *t, uint8_t refusal, dice *d)
+{
+    uint8_t p = some_partition(t, ULAVREPIT_CLEAR_OUT, refusal, d);
+    for (unsigned tries = 0; tries < 3 && !(refusal == 3 ? t->partitions[p].present : has_child(t, p)); tries++)
+        p = some_partition(t, ULAVREPIT_CLEAR_OUT, refusal, d);
+    return ulavrepit_clear_out(p);
+}
+
 /* A word that is meant to be refused with the number, or accepted (0). */
 static uint64_t word_for(const second_table *t, uint8_t service, uint8_t refusal, dice *d)
 {
@@ -425,6 +436,8 @@ static uint64_t word_for(const second_table *t, uint8_t service, uint8_t refusal
         return unload_or_read(t, service, refusal, d);
     case ULAVREPIT_FIND:
         return find(t, refusal, d);
+    case ULAVREPIT_CLEAR_OUT:
+        return clear_out(t, refusal, d);
     default:
         return switch_to(t, refusal, d);
     }
@@ -454,20 +467,42 @@ static uint64_t deepen(const second_table *t, dice *d)
     return ulavrepit_switch(child);
 }
 
-/* Any bits; bits of a service with its zero bits zero; a good word with one bit turned. */
-static uint64_t garbage(uint64_t good, dice *d)
+static bool every_partition_present(const second_table *t)
 {
-    switch (below(d, 3)) {
-    case 0: return roll(d);
-    case 1: return roll(d) & ~UINT64_C(0xffff);
-    default: return good ^ UINT64_C(1) << below(d, 64);
-    }
+    for (unsigned p = 0; p < SECOND_PARTITIONS; p++)
+        if (!t->partitions[p].present)
+            return false;
+    return true;
+}
+
+/* Up the tree, and at some level a branch goes: so branches of all sizes do, up to all but the root. */
+static uint64_t climb_or_clear(const second_table *t, dice *d)
+{
+    if (t->current == 0 || (has_child(t, t->current) && percent(d, 15)))
+        return clear_out(t, 0, d);
+    return ulavrepit_switch(t->partitions[t->current].parent);
+}
+
+/* The next step of what a mood builds up, or clears out; 0, which is no call, if it leaves that to chance. */
+static uint64_t planned(const second_table *t, mood m, dice *d)
+{
+    if (m == CLEARING && every_partition_present(t))
+        return climb_or_clear(t, d);
+    if ((m == DEEP && percent(d, 80)) || (m == CLEARING && percent(d, 60)))
+        return deepen(t, d);
+    return 0;
+}
+
+/* Any bits, at times with the zero bits zero. */
+static uint64_t garbage(dice *d)
+{
+    return percent(d, 50) ? roll(d) : roll(d) & ~UINT64_C(0xffff);
 }
 
 static uint8_t some_service(mood m, dice *d)
 {
     uint32_t total = 0;
-    for (unsigned i = 1; i <= 13; i++)
+    for (unsigned i = 1; i <= LAST_SERVICE; i++)
         total += weights[m][i];
     uint32_t pick = below(d, total);
     uint8_t service = 1;
@@ -509,6 +544,13 @@ static const uint8_t seldom[][2] = {
     {ULAVREPIT_CREATE, 8}, {ULAVREPIT_DELETE, 15}, {ULAVREPIT_PREPARE, 8}, {ULAVREPIT_GIVE, 10}, {ULAVREPIT_TAKE, 14},
     {ULAVREPIT_CUT, 8}, {ULAVREPIT_MERGE, 6}, {ULAVREPIT_MERGE, 11}, {ULAVREPIT_MERGE, 12}, {ULAVREPIT_MERGE, 13}};
 
+/* A good word of any service with one bit turned: often in a field that the service doesn't use, or a zero bit. */
+static uint64_t bit_turned(const second_table *t, dice *d)
+{
+    uint8_t service = (uint8_t)(1 + below(d, LAST_SERVICE));
+    return word_for(t, service, 0, d) ^ UINT64_C(1) << below(d, 64);
+}
+
 /*
  * Every refusal of every service is as welcome, whatever the mood. Some words are taken untried: if the second
  * program were wrong about them, trying would shun the very words that show it.
@@ -516,8 +558,10 @@ static const uint8_t seldom[][2] = {
 static uint64_t near_miss(const uint8_t *table, const second_table *t, dice *d)
 {
     uint64_t word = 0;
+    if (percent(d, 15))
+        return bit_turned(t, d);
     for (unsigned tries = 0; tries < 8; tries++) {
-        uint8_t service = (uint8_t)(1 + below(d, 13)), refusal = some_check(service, d);
+        uint8_t service = (uint8_t)(1 + below(d, LAST_SERVICE)), refusal = some_check(service, d);
         if (percent(d, 50)) {
             const uint8_t *cell = seldom[below(d, sizeof seldom / sizeof *seldom)];
             service = cell[0];
@@ -532,17 +576,17 @@ static uint64_t near_miss(const uint8_t *table, const second_table *t, dice *d)
 
 uint64_t next_word(const uint8_t *table, const second_table *t, mood m, dice *d)
 {
-    uint64_t word = 0;
-    if (percent(d, m == DEEP ? 5 : 25))
+    if (percent(d, m == DEEP || m == CLEARING ? 5 : 25))
         return near_miss(table, t, d);
-    if (m == DEEP && percent(d, 80) && tried(table, word = deepen(t, d)) == 0)
+    uint64_t word = planned(t, m, d);
+    if (word != 0 && tried(table, word) == 0)
         return word;
     for (unsigned tries = 0; tries < 6; tries++) {
         word = unless_stuck(t, word_for(t, some_service(m, d), 0, d), d);
         if (tried(table, word) == 0)
             break;
     }
-    return percent(d, 3) ? garbage(word, d) : word;
+    return percent(d, 2) ? garbage(d) : word;
 }
 
 range next_boot(dice *d)

@@ -9,11 +9,17 @@
 #include "dice.h"
 #include "kernel.h"
 
-/* What a session is after: everything in turn, a long chain, many children, many entries, grants, or regions. */
-typedef enum { MIXED, DEEP, WIDE, DENSE, LENDING, REGIONS, MOODS } mood;
+/*
+ * What a session is after: everything in turn, a long chain, many children, many entries, grants, regions, or
+ * branches that grow until every partition is present and are then cleared out.
+ */
+typedef enum { MIXED, DEEP, WIDE, DENSE, LENDING, REGIONS, CLEARING, MOODS } mood;
 
-/* The refusal numbers of each service, from 01's column Checks, ended by 0. */
-extern const uint8_t service_checks[14][8];
+/* The services are 1 to this number. */
+enum { LAST_SERVICE = 14 };
+
+/* The refusal numbers of each service, from 01's column Checks and from 02, ended by 0. */
+extern const uint8_t service_checks[LAST_SERVICE + 1][8];
 
 /* A call word for the table's current partition. The table is handed over as bytes and read. */
 uint64_t next_word(const uint8_t *table, const second_table *t, mood m, dice *d);

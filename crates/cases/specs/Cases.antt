@@ -11,8 +11,11 @@ use borrow.Author.Tests.{eq-eqb, eqb-true}
 use Rattle.loops.specs.Scan.{rest}
 use Rattle.loops.specs.Rewrite.{tabFrom}
 use Rattle.loops.specs.Climb.{climb}
+use Rattle.loops.specs.Carry.{done as carried}
+use Rattle.loops.specs.Count.{sum}
 use Rattle.words.specs.Kind.{wordOf}
 use Rattle.words.specs.Words.{first, header, structure, regions, slot, call}
+use Rattle.tables.specs.State.{Opt, none, some, Entry, Area}
 use Rattle.tables.specs.View.{view, viewK, entryIn, headerArea, structureArea, areaIn, nth, named, inside, parentAt, slotPlace}
 use Rattle.tables.specs.Encode.{encode, slotWord, headerWord, structureWord, regionFor, regionsWord, partWord, wordFor}
 use Rattle.tables.specs.Update.{pick, upd, upd1, both?}
@@ -21,9 +24,10 @@ use Rattle.tables.specs.Settle.{meets, apart, clear, openBit, openAt, keep, set
 use Rattle.tables.specs.ZeroRecord.{zeroRecord}
 use Rattle.tables.specs.declared.Outcome.{Outcome}
 use Rattle.tables.specs.declared.Outcome.the-variants.{Done, Refused}
+use Rattle.sound.specs.Sound.{allRights}
 use Rattle.sound.specs.Clauses.{when, has, isNowhere, long, s1, s2Root, s2Other, s2, blankRegion, s3Word, s3First, s3, rooted, s4Area, s4Absent, s4, s5Slot, s5, apartE, s6, held, covered, s7Root, s7Given, grants, s7Inside, s7Cover, s7, equals, s8Backed, s8Apart, s8, s9, s10Names, s10Once, s10, full, within, s11, sound}
 use Rattle.sound.specs.Holders.{givenTo, givenBy, heir, deepest, trail, holdersOf, inMemory, holdersOutcome, holdersBytes}
-use Rattle.services.specs.Rules.{Result, done, refused, check, need, ownOrChild, parentOrChild, freeEntry, long as longEntry, create, prepare, vacant, collect, give, returned, take, cut, merge, elsewhere, load, switch, noRights, unused, serve, serveRead, callOn, bootOn, wordsAfter}
+use Rattle.services.specs.Rules.{Result, done, refused, check, need, ownOrChild, parentOrChild, freeEntry, long as longEntry, create, prepare, vacant, collect, give, returned, take, cut, merge, elsewhere, load, switch, ungive, branch, clearOut, noRights, unused, serve, serveRead, callOn, bootOn, wordsAfter}
 
 -- ── a case: what is computed, and what 01 says ──
 abbrev pub Case : Type 0
@@ -111,6 +115,37 @@ printed =
 unfoldable pub session : List ℕ × List ℕ
 session = run B calls
 
+-- ── D: X with a branch three deep: 1 has child 2, which has loaded a region, and 2 has child 3 ──
+abbrev piece : ℕ → ℕ → ℕ → Opt Entry
+piece start stop given = some (record { start = start; stop = stop; given = given; rights = allRights })
+
+abbrev area : ℕ → ℕ → Opt Area
+area lo hi = some (record { lo = lo; hi = hi })
+
+-- the first things of a partition, from number 0 on
+abbrev row : {A : Type 0} → List (Opt A) → ℕ → Opt A
+row os i = getD os i none
+
+-- the rows of partitions 0 to 3
+abbrev rows : {A : Type 0} → List (Opt A) → List (Opt A) → List (Opt A) → List (Opt A) → ℕ → ℕ → Opt A
+rows a b c d p = row (getD (a ∷ b ∷ c ∷ d ∷ []) p [])
+
+unfoldable pub D : List ℕ
+D = encode (settle (record {
+  base = 256;
+  stop = 1024;
+  current = 0;
+  parent = λ p. getD (0 ∷ 0 ∷ 1 ∷ 2 ∷ []) p 0;
+  area = rows (area 0 0 ∷ area 0 0 ∷ []) (area 256 272 ∷ area 272 288 ∷ []) (area 288 304 ∷ area 304 320 ∷ []) (area 320 336 ∷ []);
+  slot =
+      rows (piece 256 272 0 ∷ piece 512 1024 0 ∷ piece 272 288 0 ∷ piece 288 512 1 ∷ []) (piece 288 304 0 ∷ piece 304 320 0 ∷ piece 320 512 2 ∷ [])
+      (piece 320 336 0 ∷ piece 336 512 0 ∷ []) [];
+}) (rows [] [] (some 1 ∷ []) []))
+
+-- ── A: the root alone, with the session's cuts ──
+unfoldable pub A : List ℕ
+A = run B (0x7000000002000000 ∷ 0x7000000001100000 ∷ 0x7010000001200000 ∷ []) .1
+
 -- ── the cases, in 01's order; a star as there ──
 abbrev pub casesOf : List ℕ → List ℕ × List ℕ → List Case
 casesOf B (lines, X) =
@@ -153,8 +188,24 @@ casesOf B (lines, X) =
     ∷ (run B (word 7 0 0 0 272 ∷ word 1 0 0 0 0 ∷ []) .0, 0 ∷ 1 ∷ 0 ∷ 0 ∷ 1 ∷ 0 ∷ [])
     ∷ []
 
+-- ── request 101 of 02: X, D and A as above ──
+abbrev pub clearCases : List ℕ → List ℕ → List ℕ → List Case
+clearCases X D A =
+    let one = run X (word 14 1 0 0 0 ∷ []) in
+    let three = run D (word 14 1 0 0 0 ∷ []) in
+    -- X, clear out 1, a branch of one: done, 1; afterwards every word is as if nobody had ever been created
+    (one .0, 0 ∷ 1 ∷ 0 ∷ [])
+    ∷ (one .1, A)
+    -- D, clear out 1, a branch three deep: done, 3; afterwards likewise
+    ∷ (three .0, 0 ∷ 3 ∷ 0 ∷ [])
+    ∷ (three .1, A)
+    -- P no child: 3. D, clear out 2, a grandchild; X, clear out 2, absent
+    ∷ refuses D (word 14 2 0 0 0) 3
+    ∷ refuses X (word 14 2 0 0 0) 3
+    ∷ []
+
 abbrev pub cases : List Case
-cases = casesOf B session
+cases = casesOf B session ++ clearCases (session .1) D A
 
 -- ── a test that every case is right: the list is then computed once, not once for each side ──
 abbrev equal : List ℕ → List ℕ → Bool
@@ -181,7 +232,21 @@ right-says (c ∷ cs) h =
     let z = and-eq-true-iff (equal (c .0) (c .1)) (right cs) .0 h in
     ap₂ _∷_ (equal-says (c .0) (c .1) (z .0)) (right-says cs (z .1))
 
--- ── the statement: in every case, what is computed is what 01 says ──
+right-both : (bs cs : List Case) → right bs ≡ true → right cs ≡ true → right (bs ++ cs) ≡ true
+right-both [] cs g h = h
+right-both (c ∷ bs) cs g h =
+    let z = and-eq-true-iff (equal (c .0) (c .1)) (right bs) .0 g in
+    rw (z .0) (right-both bs cs (z .1) h)
+
+-- each part is computed by itself: a declaration has so many steps and no more
+base-right : right (casesOf B session) ≡ true
+unfolding B session D A carried rest tabFrom climb first header structure regions slot call view viewK entryIn headerArea structureArea areaIn nth named inside parentAt encode slotWord headerWord structureWord regionFor regionsWord partWord wordFor pick upd upd1 both? ℕ-discrete lowest present absent absentChild child noStructure free holds meets apart clear openBit openAt keep settle zeroRecord when has isNowhere long s1 s2Root s2Other s2 blankRegion s3Word s3First s3 rooted s4Area s4Absent s4 s5Slot s5 apartE s6 held covered s7Root s7Given grants s7Inside s7Cover s7 equals s8Backed s8Apart s8 s9 s10Names s10Once s10 full within s11 sound givenTo givenBy heir deepest trail holdersOf inMemory holdersOutcome holdersBytes check need ownOrChild parentOrChild freeEntry longEntry create prepare vacant collect give returned take cut merge elsewhere load switch ungive branch clearOut sum noRights unused serve serveRead callOn bootOn wordsAfter
+base-right = refl
+
+clear-right : right (clearCases (session .1) D A) ≡ true
+unfolding B session D A carried rest tabFrom climb first header structure regions slot call view viewK entryIn headerArea structureArea areaIn nth named inside parentAt encode slotWord headerWord structureWord regionFor regionsWord partWord wordFor pick upd upd1 both? ℕ-discrete lowest present absent absentChild child noStructure free holds meets apart clear openBit openAt keep settle zeroRecord when has isNowhere long s1 s2Root s2Other s2 blankRegion s3Word s3First s3 rooted s4Area s4Absent s4 s5Slot s5 apartE s6 held covered s7Root s7Given grants s7Inside s7Cover s7 equals s8Backed s8Apart s8 s9 s10Names s10Once s10 full within s11 sound givenTo givenBy heir deepest trail holdersOf inMemory holdersOutcome holdersBytes check need ownOrChild parentOrChild freeEntry longEntry create prepare vacant collect give returned take cut merge elsewhere load switch ungive branch clearOut sum noRights unused serve serveRead callOn bootOn wordsAfter
+clear-right = refl
+
+-- ── the statement: in every case, what is computed is what 01 and 02 say ──
 pub every-case : computed cases ≡ expected cases
-unfolding B session rest tabFrom climb first header structure regions slot call view viewK entryIn headerArea structureArea areaIn nth named inside parentAt encode slotWord headerWord structureWord regionFor regionsWord partWord wordFor pick upd upd1 both? ℕ-discrete lowest present absent absentChild child noStructure free holds meets apart clear openBit openAt keep settle zeroRecord when has isNowhere long s1 s2Root s2Other s2 blankRegion s3Word s3First s3 rooted s4Area s4Absent s4 s5Slot s5 apartE s6 held covered s7Root s7Given grants s7Inside s7Cover s7 equals s8Backed s8Apart s8 s9 s10Names s10Once s10 full within s11 sound givenTo givenBy heir deepest trail holdersOf inMemory holdersOutcome holdersBytes check need ownOrChild parentOrChild freeEntry longEntry create prepare vacant collect give returned take cut merge elsewhere load switch noRights unused serve serveRead callOn bootOn wordsAfter
-every-case = right-says cases refl
+every-case = right-says cases (right-both (casesOf B session) (clearCases (session .1) D A) base-right clear-right)

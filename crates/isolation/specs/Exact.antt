@@ -32,6 +32,7 @@ use Rattle.isolation.specs.Merge.{mergeLadder, merge-exact}
 use Rattle.isolation.specs.Regions.{loadLadder, load-exact, unloadLadder, unload-exact, readRegionLadder, readRegion-exact}
 use Rattle.isolation.specs.Find.{findLadder, find-exact}
 use Rattle.isolation.specs.Switch.{switchLadder, switch-exact}
+use Rattle.isolation.specs.ClearOut.{clearLadder, clear-exact}
 
 -- ── 2: fields that a service doesn't use are zero ──
 abbrev pub Rightless : Rights → Type 0
@@ -87,7 +88,8 @@ serveLadder t f =
     (cond (eqb n 11) (must 2 (Unused true false true false false f) (readRegionLadder t p u))
     (cond (eqb n 12) (must 2 (Unused true false false false true f) (findLadder t p l))
     (cond (eqb n 13) (must 2 (Unused true false false false false f) (switchLadder t p))
-    (must 2 ⊥ (finish 0 0 t))))))))))))))
+    (cond (eqb n 14) (must 2 (Unused true false false false false f) (clearLadder t p))
+    (must 2 ⊥ (finish 0 0 t)))))))))))))))
 
 -- 1: a sound table; 2: zero bits that are zero, a service's number, unused fields that are zero; then the service's own
 abbrev pub callLadder : List ℕ → ℕ → Ladder
@@ -121,7 +123,8 @@ module _ {t : Table} (h : Right t) (f : CallFields) where
       (service (eqb n 11) (unused-means true false true false false f) (readRegion-exact h p u)
       (service (eqb n 12) (unused-means true false false false true f) (find-exact h p l)
       (service (eqb n 13) (unused-means true false false false false f) (switch-exact h p)
-      (fails (λ z. z))))))))))))))
+      (service (eqb n 14) (unused-means true false false false false f) (clear-exact h p)
+      (fails (λ z. z)))))))))))))))
 
 module _ (l : List ℕ) (w : ℕ) (small : (n : ℕ) → getD l n 0 < 2 ^ 64) where
   pub call-exact : Answers (callLadder l w) (callOn l w)

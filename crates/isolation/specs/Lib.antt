@@ -10,6 +10,7 @@ pub mod Slots
 pub mod Written
 pub mod NewArea
 pub mod Create
+pub mod Remove
 pub mod Delete
 pub mod Prepare
 pub mod Collect
@@ -20,6 +21,7 @@ pub mod Merge
 pub mod Regions
 pub mod Find
 pub mod Switch
+pub mod ClearOut
 pub mod Boot
 pub mod Whole
 pub mod Exact

@@ -32,6 +32,7 @@ use Rattle.isolation.specs.Merge.{merge-right}
 use Rattle.isolation.specs.Regions.{load-right, unload-right, readRegion-same}
 use Rattle.isolation.specs.Find.{find-same}
 use Rattle.isolation.specs.Switch.{switch-right}
+use Rattle.isolation.specs.ClearOut.{clear-right}
 use Rattle.isolation.specs.Boot.{boot-right}
 
 -- ── one call ──
@@ -67,6 +68,7 @@ serve-right h f z =
     service (eqb n 11) _ z (λ z. rw (readRegion-same h p u z) h) λ z.
     service (eqb n 12) _ z (λ z. rw (find-same h p l z) h) λ z.
     service (eqb n 13) _ z (switch-right h p) λ z.
+    service (eqb n 14) _ z (clear-right h p) λ z.
     not-done z
 
 -- services 11 and 12, read region and find

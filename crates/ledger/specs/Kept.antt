@@ -1,17 +1,18 @@
 -- The ledger is who holds what: after boot, and after any list of calls, done or refused.
-use mathlib.Core.Path.{_≡_, refl, sym, _∙_}
-use mathlib.Core.Bool.{Bool, true, false, cond, _&&_}
+use mathlib.Core.Path.{_≡_, refl, ap, sym, subst, _∙_}
+use mathlib.Core.Bool.{Bool, true, false, cond, not, _&&_}
 use mathlib.Core.List.{List, [], _∷_}
 use mathlib.Core.Logic.{_↔_, Iff·rfl, Iff·symm, Iff·trans}
 use Prim.Native.Nat.{ℕ}
 use lib.Dec.{eqb}
-use borrow.Author.Tests.{eqb-true}
+use borrow.Author.Tests.{eqb-true, not-true}
 use Rattle.words.specs.Kind.{fieldsIn}
 use Rattle.words.specs.Parts.{clean}
 use Rattle.words.specs.Words.{call}
 use Rattle.words.specs.declared.Rights.{Rights}
 use Rattle.words.specs.declared.call_word.CallFields.{CallFields}
 use Rattle.tables.specs.State.{Opt, some, Entry, K, Table, some-inj}
+use Rattle.tables.specs.Update.{upd1}
 use Rattle.tables.specs.View.{view}
 use Rattle.tables.specs.Encode.{encode}
 use Rattle.tables.specs.Back.{view-encode}
@@ -24,11 +25,12 @@ use Rattle.sound.specs.Means.{eq-means, le-means, lt-means, and-means, or-means
 use Rattle.sound.specs.MeansEntries.{holds-means}
 use Rattle.sound.specs.Whole.{Right, sound-means, sound-right}
 use Rattle.sound.specs.Holders.{givenTo}
-use Rattle.services.specs.Rules.{Result, done, refused, check, delete, give, take, serve, serveRead, callOn, bootOn, wordsAfter}
+use Rattle.services.specs.Rules.{Result, done, refused, check, zeroed, remove, branch, create, delete, give, take, clearOut, serve, serveRead, callOn, bootOn, wordsAfter}
 use Rattle.isolation.specs.Ladder.{not-done, Ends, ends}
 use Rattle.isolation.specs.Fits.{Good, right-fit, right-good}
 use Rattle.isolation.specs.Create.{create-done, create-holds}
-use Rattle.isolation.specs.Delete.{delete-done, delete-holds}
+use Rattle.isolation.specs.Remove.{Goes, remove-holds}
+use Rattle.isolation.specs.Delete.{delete-done}
 use Rattle.isolation.specs.Prepare.{prepare-done, prepare-holds}
 use Rattle.isolation.specs.Collect.{collect-done, collect-holds}
 use Rattle.isolation.specs.Give.{give-done, give-holds}
@@ -38,15 +40,17 @@ use Rattle.isolation.specs.Merge.{merge-done, merge-holds}
 use Rattle.isolation.specs.Regions.{load-done, unload-done, readRegion-same}
 use Rattle.isolation.specs.Find.{find-same}
 use Rattle.isolation.specs.Switch.{switch-done}
+use Rattle.isolation.specs.ClearOut.{branch-goes, clear-done}
 use Rattle.isolation.specs.Boot.{boot-exact, boot-holds, boot-right}
 use Rattle.isolation.specs.Whole.{afterAll, call-right}
-use Rattle.ledger.specs.Ledger.{Ledger, opening, enter, strike, strikeAll, accepted, noted, keptOn}
+use Rattle.ledger.specs.Ledger.{Ledger, opening, enter, strike, adopt, strikeAll, accepted, noted, keptOn}
 
--- g is the ledger of a table of base to end: its partitions are those that hold the line
+-- g is the ledger of a table of base to end: its partitions are those that hold the line, its tree is the table's
 pub record Keeps (base end : ℕ) (g : Ledger) (k : K) : Type 0 where
   pub base-is : k .base ≡ base
   pub end-is : k .stop ≡ end
-  pub holders : (p l : ℕ) → (g p l ≡ true) ↔ Holds (k .slot) p l
+  pub tree : g .parent ≡ k .parent
+  pub holders : (p l : ℕ) → (g .stands p l ≡ true) ↔ Holds (k .slot) p l
 
 -- ── one call ──
 -- p is c, and the entry has line l
@@ -69,34 +73,52 @@ service {C} n m a {x} {y} {v} {w} {t′} z f g = go (eqb n m) a refl z
 
 module _ {base end : ℕ} {g : Ledger} {t : Table} (h : Right t) (s : Keeps base end g (t .k)) where
   -- base and end stay
-  kept : {new : Ledger} {k : K} → k .base ≡ t .k .base → k .stop ≡ t .k .stop → ((p l : ℕ) → (new p l ≡ true) ↔ Holds (k .slot) p l) → Keeps base end new k
-  kept b e f = record { base-is = b ∙ s .base-is; end-is = e ∙ s .end-is; holders = f }
+  kept : {new : Ledger} {k : K} → k .base ≡ t .k .base → k .stop ≡ t .k .stop → new .parent ≡ k .parent
+      → ((p l : ℕ) → (new .stands p l ≡ true) ↔ Holds (k .slot) p l) → Keeps base end new k
+  kept b e u f = record { base-is = b ∙ s .base-is; end-is = e ∙ s .end-is; tree = u; holders = f }
 
   -- nobody is entered, nobody struck
-  quiet : {k : K} → k .base ≡ t .k .base → k .stop ≡ t .k .stop → ((p l : ℕ) → Holds (k .slot) p l ↔ Holds (t .k .slot) p l) → Keeps base end g k
-  quiet b e f = kept b e (λ p l. Iff·trans (s .holders p l) (Iff·symm (f p l)))
+  quiet : {k : K} → k .base ≡ t .k .base → k .stop ≡ t .k .stop → k .parent ≡ t .k .parent
+      → ((p l : ℕ) → Holds (k .slot) p l ↔ Holds (t .k .slot) p l) → Keeps base end g k
+  quiet b e u f = kept b e (s .tree ∙ sym u) (λ p l. Iff·trans (s .holders p l) (Iff·symm (f p l)))
+
+  create-kept : (i : ℕ) {v w : ℕ} {t′ : Table} → create t i ≡ done v w t′ → Keeps base end (adopt v (t .k .current) g) (t′ .k)
+  unfolding adopt settle
+  create-kept i {v} x =
+      let (_, ok, z) = create-done h i x in
+      rw z (kept refl refl (ap (λ (u : ℕ → ℕ). upd1 u v (t .k .current)) (s .tree))
+      (λ p l. Iff·trans (s .holders p l) (Iff·symm (create-holds (h .core) ok p l))))
 
   give-kept : (c i : ℕ) (r : Rights) {v w : ℕ} {t′ : Table} → give t c i r ≡ done v w t′ → Keeps base end (enter c (t .k .slot (t .k .current) i) g) (t′ .k)
   unfolding enter settle
   give-kept c i r x =
       let (e, ok, z) = give-done h c i r x in
-      rw z (kept refl refl λ p l. Iff·trans (or-means (s .holders p l) (at-line c p l (ok .entry .at))) (Iff·symm (give-holds (h .core) ok p l)))
+      rw z (kept refl refl (s .tree) λ p l. Iff·trans (or-means (s .holders p l) (at-line c p l (ok .entry .at))) (Iff·symm (give-holds (h .core) ok p l)))
 
   take-kept : (i : ℕ) {v w : ℕ} {t′ : Table} → take t i ≡ done v w t′ → let o = t .k .slot (t .k .current) i in Keeps base end (strike (givenTo o) o g) (t′ .k)
   unfolding strike settle givenTo
   take-kept i x =
       let (j, e, f, ok, z) = take-done h i x in
       let q : givenTo (t .k .slot (t .k .current) i) ≡ e .given = rw (ok .at) refl in
-      rw (z, q) (kept refl refl λ p l. Iff·trans (and-means (s .holders p l) (not-means (at-line (e .given) p l (ok .at)))) (Iff·symm (take-holds (h .core) ok p l)))
+      rw (z, q) (kept refl refl (s .tree) λ p l. Iff·trans (and-means (s .holders p l) (not-means (at-line (e .given) p l (ok .at)))) (Iff·symm (take-holds (h .core) ok p l)))
 
-  delete-kept : (c : ℕ) {v w : ℕ} {t′ : Table} → delete t c ≡ done v w t′ → Keeps base end (strikeAll c g) (t′ .k)
+  -- who goes is struck
+  remove-kept : {c : ℕ} {m : ℕ → Bool} → Goes (t .k) c m → Keeps base end (strikeAll m g) (remove t c m .k)
   unfolding strikeAll settle
-  delete-kept c x =
-      let (ok, z) = delete-done h c x in
-      rw z (kept refl refl λ p l. Iff·trans (and-means (s .holders p l) (not-means (eq-means p c))) (Iff·symm (delete-holds (h .core) ok p l)))
+  remove-kept {c} {m} ok =
+      kept refl refl (ap (zeroed m 0) (s .tree))
+      (λ p l. Iff·trans (and-means (s .holders p l) (not-true (m p), λ q. ap not q)) (Iff·symm (remove-holds (h .core) ok p l)))
+
+  delete-kept : (c : ℕ) {v w : ℕ} {t′ : Table} → delete t c ≡ done v w t′ → Keeps base end (strikeAll (λ q. eqb q c) g) (t′ .k)
+  delete-kept c x = let (ok, z) = delete-done h c x in rw z (remove-kept ok)
+
+  clear-kept : (c : ℕ) {v w : ℕ} {t′ : Table} → clearOut t c ≡ done v w t′ → Keeps base end (strikeAll (branch (g .parent) c) g) (t′ .k)
+  clear-kept c x =
+      let (ok, _, z) = clear-done h c x in
+      rw z (subst (λ (u : ℕ → ℕ). Keeps base end (strikeAll (branch u c) g) (remove t c (branch (t .k .parent) c) .k)) (sym (s .tree)) (remove-kept (branch-goes (h .core) ok)))
 
   -- each service, with what the ledger notes of it
-  pub serve-kept : (f : CallFields) {v w : ℕ} {t′ : Table} → serve t f ≡ done v w t′ → Keeps base end (accepted t f g) (t′ .k)
+  pub serve-kept : (f : CallFields) {v w : ℕ} {t′ : Table} → serve t f ≡ done v w t′ → Keeps base end (accepted t f v g) (t′ .k)
   unfolding serve accepted settle
   serve-kept f z =
       let n = f .service in
@@ -104,19 +126,20 @@ module _ {base end : ℕ} {g : Ledger} {t : Table} (h : Right t) (s : Keeps base
       let i = f .slot .0 in
       let u = f .other in
       let m = f .line .0 in
-      service n 1 _ z (λ y x. let (_, ok, q) = create-done h i x in rw (y, q) (quiet refl refl (create-holds (h .core) ok))) λ z.
+      service n 1 _ z (λ y x. rw y (create-kept i x)) λ z.
       service n 2 _ z (λ y x. rw y (delete-kept p x)) λ z.
-      service n 3 _ z (λ y x. let (_, ok, q) = prepare-done h p i x in rw (y, q) (quiet refl refl (prepare-holds (h .core) ok))) λ z.
-      service n 4 _ z (λ y x. let (ok, q) = collect-done h p u x in rw (y, q) (quiet refl refl (collect-holds (h .core) ok))) λ z.
+      service n 3 _ z (λ y x. let (_, ok, q) = prepare-done h p i x in rw (y, q) (quiet refl refl refl (prepare-holds (h .core) ok))) λ z.
+      service n 4 _ z (λ y x. let (ok, q) = collect-done h p u x in rw (y, q) (quiet refl refl refl (collect-holds (h .core) ok))) λ z.
       service n 5 _ z (λ y x. rw y (give-kept p i (f .rights) x)) λ z.
       service n 6 _ z (λ y x. rw y (take-kept i x)) λ z.
-      service n 7 _ z (λ y x. let (_, ok, q) = cut-done h i m x in rw (y, q) (quiet refl refl (cut-holds (h .core) ok))) λ z.
-      service n 8 _ z (λ y x. let (_, _, ok, q) = merge-done h i u x in rw (y, q) (quiet refl refl (merge-holds (h .core) ok))) λ z.
+      service n 7 _ z (λ y x. let (_, ok, q) = cut-done h i m x in rw (y, q) (quiet refl refl refl (cut-holds (h .core) ok))) λ z.
+      service n 8 _ z (λ y x. let (_, _, ok, q) = merge-done h i u x in rw (y, q) (quiet refl refl refl (merge-holds (h .core) ok))) λ z.
       service n 9 _ z (λ y x. let (_, _, q) = load-done h p i u x in rw (y, q) s) λ z.
       service n 10 _ z (λ y x. let (_, _, q) = unload-done h p u x in rw (y, q) s) λ z.
       service n 11 _ z (λ y x. rw (y, readRegion-same h p u x) s) λ z.
       service n 12 _ z (λ y x. rw (y, find-same h p m x) s) λ z.
-      service n 13 _ z (λ y x. let (_, q) = switch-done h p x in rw (y, q) (quiet refl refl (λ p l. Iff·rfl))) λ z.
+      service n 13 _ z (λ y x. let (_, q) = switch-done h p x in rw (y, q) (quiet refl refl refl (λ p l. Iff·rfl))) λ z.
+      service n 14 _ z (λ y x. rw y (clear-kept p x)) λ z.
       not-done z
 
 -- ── any list of calls ──
@@ -147,6 +170,7 @@ module _ {base end : ℕ} where
   boot-kept l = ends (λ _ _ t′. Keeps base end (opening base end) (t′ .k)) (boot-exact l base end) (λ _ _. record {
     base-is = refl;
     end-is = refl;
+    tree = refl;
     holders = λ p m.
         let q = and-means (eq-means p 0) (and-means (le-means base m) (lt-means m end)) in
         Iff·trans q (Iff·symm (boot-holds base end p m));

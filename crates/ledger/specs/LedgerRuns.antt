@@ -28,7 +28,7 @@ use Rattle.ledger.specs.Listing.{holders-list}
 
 -- the same names stand for two lines
 abbrev pub SameNames : Ledger → ℕ → ℕ → Type 0
-SameNames g l m = (p : ℕ) → g p l ≡ g p m
+SameNames g l m = (p : ℕ) → g .stands p l ≡ g .stands p m
 
 -- the longest runs of lines of base to end with the same names, in rising order
 pub record LedgerRuns (base end : ℕ) (g : Ledger) (rs : List Run) : Type 0 where
@@ -73,7 +73,7 @@ module _ {base end : ℕ} {g : Ledger} {t : List ℕ} (h : Sound t) (s : Keeps b
   abbrev k : K
   k = view t .k
 
-  lists : (l : ℕ) → base ≤ l → l < end → Lists (λ p. g p l ≡ true) (k .parent) (holdersOf k l)
+  lists : (l : ℕ) → base ≤ l → l < end → Lists (λ p. g .stands p l ≡ true) (k .parent) (holdersOf k l)
   lists l a b = lists-same (λ p. Iff·symm (s .holders p l)) (holders-list (sound-core t h) (rw (s .base-is) a, rw (s .end-is) b))
 
   -- two lines have the same names exactly if they have the same holders
@@ -82,7 +82,7 @@ module _ {base end : ℕ} {g : Ledger} {t : List ℕ} (h : Sound t) (s : Keeps b
     same-names q p =
         let v = lists l (a .0) (a .1) .exactly p in
         let w = lists m (b .0) (b .1) .exactly p in
-        same-bool (g p l) (g p m) (Iff·trans (rw q at (Iff·symm v)) w)
+        same-bool (g .stands p l) (g .stands p m) (Iff·trans (rw q at (Iff·symm v)) w)
 
     same-holders : SameNames g l m → holdersOf k l ≡ holdersOf k m
     same-holders q = one-list (lists-same (λ p. (λ x. sym (q p) ∙ x, λ x. q p ∙ x)) (lists l (a .0) (a .1))) (lists m (b .0) (b .1))

@@ -27,13 +27,13 @@ use Rattle.ledger.specs.Listing.{holders-list}
 
 -- What demand 3 says of a ledger g and the words t of a table of base to end. Listed is what holders promises.
 pub record Demand3 (base end : ℕ) (g : Ledger) (t : List ℕ) : Type 0 where
-  -- the partitions of the ledger for a line, and no other, are listed: root first, each the parent of the next, each once
-  pub listing : (m : ℕ) → base ≤ m → m < end → Lists (λ p. g p m ≡ true) (view t .k .parent) (holdersOf (view t .k) m)
+  -- the partitions of the ledger for a line, and no other, are listed: root first, each in the ledger's tree the parent of the next, each once
+  pub listing : (m : ℕ) → base ≤ m → m < end → Lists (λ p. g .stands p m ≡ true) (g .parent) (holdersOf (view t .k) m)
   -- holders is done with their number, and the first bytes become their names
   pub answer : {m : ℕ} {before after : List ℕ} {r : Outcome} → base ≤ m → m < end → 16 ≤ length before → Listed t m before r after
-      → (r ≡ Done (count 16 (λ p. g p m)) 0) × (after ≡ over (holdersOf (view t .k) m) before)
+      → (r ≡ Done (count 16 (λ p. g .stands p m)) 0) × (after ≡ over (holdersOf (view t .k) m) before)
   -- a line that is not in base to end has nobody in the ledger, and is refused
-  pub nobody : (p m : ℕ) → g p m ≡ true → (base ≤ m) × (m < end)
+  pub nobody : (p m : ℕ) → g .stands p m ≡ true → (base ≤ m) × (m < end)
   pub outside : {m : ℕ} {before after : List ℕ} {r : Outcome} → ((base ≤ m) × (m < end) → ⊥) → Listed t m before r after → (r ≡ Refused 7) × (after ≡ before)
 
 -- holders promises one answer
@@ -42,14 +42,14 @@ one-answer x y = (x .outcome ∙ sym (y .outcome), x .bytes ∙ sym (y .bytes))
 
 -- ── a sound table whose ledger is right ──
 module _ {base end : ℕ} {g : Ledger} {t : List ℕ} (h : Sound t) (s : Keeps base end g (view t .k)) where
-  lists : (m : ℕ) → base ≤ m → m < end → Lists (λ p. g p m ≡ true) (view t .k .parent) (holdersOf (view t .k) m)
-  lists m a b = lists-same (λ p. Iff·symm (s .holders p m)) (holders-list (sound-core t h) (rw (s .base-is) a, rw (s .end-is) b))
+  lists : (m : ℕ) → base ≤ m → m < end → Lists (λ p. g .stands p m ≡ true) (g .parent) (holdersOf (view t .k) m)
+  lists m a b = rw (s .tree) (lists-same (λ p. Iff·symm (s .holders p m)) (holders-list (sound-core t h) (rw (s .base-is) a, rw (s .end-is) b)))
 
-  number : (m : ℕ) → base ≤ m → m < end → length (holdersOf (view t .k) m) ≡ count 16 (λ p. g p m)
+  number : (m : ℕ) → base ≤ m → m < end → length (holdersOf (view t .k) m) ≡ count 16 (λ p. g .stands p m)
   number m a b =
       let c = sound-core t h in
       let w = lists m a b in
-      counted 16 (λ p. g p m) (holdersOf (view t .k) m) (w .exactly)
+      counted 16 (λ p. g .stands p m) (holdersOf (view t .k) m) (w .exactly)
       (λ p x. let (a, u) = holder-present c (s .holders p m .0 (w .exactly p .0 x)) in c .s2-range p 0 a u .0)
       (w .once)
 

@@ -1,6 +1,6 @@
 -- Sums and counts over the numbers below n. A loop that adds up meets them.
 use mathlib.Core.Path.{_≡_, refl, ap, ap₂, sym, subst, _∙_}
-use mathlib.Core.Bool.{Bool, true, false, not, _&&_, and-true, and-false, Bool·not-not}
+use mathlib.Core.Bool.{Bool, true, false, not, _&&_, _||_, and-true, and-false, true≢false, false≢true, Bool·not-not}
 use Prim.Native.Nat.{ℕ, zero, suc, _+_, _*_, _≤_, _<_}
 use native.Mathlib.Decide.{ℕ-discrete}
 use native.Mathlib.Nat.{suc-mul}
@@ -90,6 +90,29 @@ module _ (n : ℕ) (f : ℕ → Bool) where
   pub count-any : not (eqb (count n f) 0) ≡ any n f
   count-any = ap not count-none ∙ sym (not-any n f)
 
+-- numbers of two kinds that exclude each other
+pub count-apart : (n : ℕ) (f g : ℕ → Bool) → ((k : ℕ) → f k ≡ true → g k ≡ false) → count n (λ k. f k || g k) ≡ count n f + count n g
+unfolding sum done
+count-apart zero f g h = refl
+count-apart (suc n) f g h = omega (arith, count-apart n f g h, bits (f n) (g n) (h n))
+  where
+    bits : (a b : Bool) → (a ≡ true → b ≡ false) → bitOf (a || b) ≡ bitOf a + bitOf b
+    bits true true q = absurd (true≢false (q refl))
+    bits true false q = refl
+    bits false true q = refl
+    bits false false q = refl
+
+-- of fewer numbers
+pub count-fewer : (n : ℕ) (f g : ℕ → Bool) → ((k : ℕ) → f k ≡ true → g k ≡ true) → count n f ≤ count n g
+unfolding sum done
+count-fewer zero f g h = omega arith
+count-fewer (suc n) f g h = omega (arith, count-fewer n f g h, bits (f n) (g n) (h n))
+  where
+    bits : (a b : Bool) → (a ≡ true → b ≡ true) → bitOf a ≤ bitOf b
+    bits true true q = omega arith
+    bits true false q = absurd (false≢true (q refl))
+    bits false b q = omega arith
+
 -- ── one number left out ──
 -- f, but not of x
 abbrev pub without : (ℕ → Bool) → ℕ → ℕ → Bool
@@ -114,6 +137,16 @@ count-without f x (suc n) h q = go (ℕ-discrete x n) (count-without f x n)
         let below = count-ext n (without f x) f (λ k b. without-other f x k (λ e. omega arith)) in
         omega (arith, here, gone, below)
     go (no z) ih = omega (arith, ih (omega arith) q, ap bitOf (without-other f x n (λ e. omega arith)))
+
+-- one number equals x
+pub count-one : (n x : ℕ) → x < n → count n (λ k. eqb k x) ≡ 1
+count-one n x h =
+    let none = sum-le n (λ k. bitOf (without (λ k. eqb k x) x k)) 0 (λ k b. omega (arith, ap bitOf (no k (eqb k x)))) in
+    omega (arith, count-without (λ k. eqb k x) x n h (eq-eqb x x refl))
+  where
+    no : (k : ℕ) (b : Bool) → b && not b ≡ false
+    no k true = refl
+    no k false = refl
 
 -- ── laws of the loops ──
 module _ {f : ℕ → ℕ} {b n : ℕ} where

@@ -4,7 +4,6 @@ pub mod pieces;
 pub mod steps;
 
 pub use listing::runs;
-
 use words::Line;
 use words::Partition;
 

@@ -1,10 +1,11 @@
--- A first value is a slot, a structure or a partition; a refusal has one of 01's numbers.
+-- A first value is a slot, a structure, a partition or a number of partitions; a refusal has one of 01's numbers.
 use mathlib.Core.Path.{_≡_, refl, sym}
 use mathlib.Core.Bool.{Bool, true, false, cond}
 use mathlib.Core.List.{List}
 use Prim.Native.Nat.{ℕ, _<_}
 use native.Mathlib.Omega.{arith}
 use lib.Dec.{eqb}
+use Rattle.loops.specs.Count.{count-le}
 use Rattle.words.specs.Parts.{clean}
 use Rattle.words.specs.Kind.{fieldsIn}
 use Rattle.words.specs.Words.{call}
@@ -17,7 +18,7 @@ use Rattle.tables.specs.Search.{lowest, lowest-some}
 use Rattle.tables.specs.declared.Outcome.{Outcome}
 use Rattle.tables.specs.declared.Outcome.the-variants.{Done, Refused}
 use Rattle.sound.specs.Clauses.{sound}
-use Rattle.services.specs.Rules.{Result, done, refused, check, need, freeEntry, create, delete, prepare, collect, give, take, cut, merge, load, unload, readRegion, find, switch, unused, serve, serveRead, callOn, bootOn}
+use Rattle.services.specs.Rules.{Result, done, refused, check, need, freeEntry, create, delete, prepare, collect, give, take, cut, merge, load, unload, readRegion, find, switch, branch, clearOut, unused, serve, serveRead, callOn, bootOn}
 use Rattle.services.specs.Ran.{outcomeOf, refused-done, done-first, refused-number}
 
 pub data Brief : Result → Type 0 where
@@ -99,6 +100,10 @@ module _ (t : Table) where
   unfolding switch
   switch-brief p = checked 3 _ (omega arith) (brief-done (omega arith))
 
+  clear-brief : (p : ℕ) → Brief (clearOut t p)
+  unfolding clearOut
+  clear-brief p = checked 3 _ (omega arith) (brief-done (omega (arith, count-le 16 (branch (t .k .parent) p))))
+
   -- ── a call word ──
   row : (b u : Bool) {r x : Result} → Brief r → Brief x → Brief (cond b (check 2 u r) x)
   row true u h k = checked 2 u (omega arith) h
@@ -120,7 +125,8 @@ module _ (t : Table) where
       (row (eqb (f .service) 11) (unused true false true false false f) (read-brief (f .partition .0) (f .other))
       (row (eqb (f .service) 12) (unused true false false false true f) (find-brief (f .partition .0) (f .line .0))
       (row (eqb (f .service) 13) (unused true false false false false f) (switch-brief (f .partition .0))
-      (brief-refused {n = 2} (omega arith))))))))))))))
+      (row (eqb (f .service) 14) (unused true false false false false f) (clear-brief (f .partition .0))
+      (brief-refused {n = 2} (omega arith)))))))))))))))
 
 pub call-brief : (l : List ℕ) (w : ℕ) → Brief (callOn l w)
 unfolding callOn serveRead call

@@ -22,7 +22,7 @@ use Rattle.tables.specs.declared.Outcome.{Outcome}
 use Rattle.tables.specs.declared.Outcome.the-variants.{Done, Refused}
 use Rattle.sound.specs.Clauses.{sound}
 use Rattle.services.specs.declared.Answer.{Answer}
-use Rattle.services.specs.Rules.{Result, refused, check, unused, create, delete, prepare, collect, give, take, cut, merge, load, unload, readRegion, find, switch, serve, serveRead, callOn}
+use Rattle.services.specs.Rules.{Result, refused, check, unused, create, delete, prepare, collect, give, take, cut, merge, load, unload, readRegion, find, switch, clearOut, serve, serveRead, callOn}
 use Rattle.services.specs.Ran.{Ran, ran-refused, ran-as, ran-copied, ran-kept, pass, fail}
 
 -- the caller's number before the call; 0 where refusal 1 is given
@@ -42,7 +42,7 @@ pub record Answers (before : List ℕ) (w : ℕ) (r : Answer) (after : List ℕ)
   pub caller : r .caller .0 ≡ callerOf before
   pub ran : Ran (callOn before w) before (r .outcome) after
 
--- 2, said apart from the services: n is one of the thirteen, and the fields that it doesn't use are 0
+-- 2, said apart from the services: n is one of the fourteen, and the fields that it doesn't use are 0
 abbrev pub inOrder : ℕ → CallFields → Bool
 inOrder n f =
     cond (eqb n 1) (unused false true false false false f)
@@ -58,7 +58,8 @@ inOrder n f =
     (cond (eqb n 11) (unused true false true false false f)
     (cond (eqb n 12) (unused true false false false true f)
     (cond (eqb n 13) (unused true false false false false f)
-    false))))))))))))
+    (cond (eqb n 14) (unused true false false false false f)
+    false)))))))))))))
 
 unfoldable pub known : CallFields → Bool
 known f = inOrder (f .service) f
@@ -89,12 +90,12 @@ pub known-at : (n : ℕ) (f : CallFields) → f .service ≡ n → inOrder n f �
 unfolding known
 known-at n f q = ap (λ (m : ℕ). inOrder m f) (sym q)
 
-pub known-not : (f : CallFields) → NoneOf (f .service) 13 → false ≡ known f
+pub known-not : (f : CallFields) → NoneOf (f .service) 14 → false ≡ known f
 unfolding known
-known-not f h = rw (no 1 (omega arith) (omega arith), no 2 (omega arith) (omega arith), no 3 (omega arith) (omega arith), no 4 (omega arith) (omega arith), no 5 (omega arith) (omega arith), no 6 (omega arith) (omega arith), no 7 (omega arith) (omega arith), no 8 (omega arith) (omega arith), no 9 (omega arith) (omega arith), no 10 (omega arith) (omega arith), no 11 (omega arith) (omega arith), no 12 (omega arith) (omega arith), no 13 (omega arith) (omega arith)) refl
+known-not f h = rw (no 1 (omega arith) (omega arith), no 2 (omega arith) (omega arith), no 3 (omega arith) (omega arith), no 4 (omega arith) (omega arith), no 5 (omega arith) (omega arith), no 6 (omega arith) (omega arith), no 7 (omega arith) (omega arith), no 8 (omega arith) (omega arith), no 9 (omega arith) (omega arith), no 10 (omega arith) (omega arith), no 11 (omega arith) (omega arith), no 12 (omega arith) (omega arith), no 13 (omega arith) (omega arith), no 14 (omega arith) (omega arith)) refl
   where
-    no : (k : ℕ) → 0 < k → k ≤ 13 → eqb (f .service) k ≡ false
-    no k a b = ne-eqb (f .service) k (none-of-at (f .service) 13 k h a b)
+    no : (k : ℕ) → 0 < k → k ≤ 14 → eqb (f .service) k ≡ false
+    no k a b = ne-eqb (f .service) k (none-of-at (f .service) 14 k h a b)
 
 -- ── 2: a row of the table of services ──
 row : (b u : Bool) {v : Bool} (r : Result) {x : Result} → (v ≡ false → x ≡ refused 2) → cond b u v ≡ false → cond b (check 2 u r) x ≡ refused 2
@@ -118,7 +119,8 @@ module _ (t : Table) (f : CallFields) where
       (row (eqb (f .service) 11) (unused true false true false false f) (readRegion t (f .partition .0) (f .other))
       (row (eqb (f .service) 12) (unused true false false false true f) (find t (f .partition .0) (f .line .0))
       (row (eqb (f .service) 13) (unused true false false false false f) (switch t (f .partition .0))
-      (λ _. refl))))))))))))) h
+      (row (eqb (f .service) 14) (unused true false false false false f) (clearOut t (f .partition .0))
+      (λ _. refl)))))))))))))) h
 
 -- ── the service of a call whose fields are in order ──
 module _ (t : Table) (f : CallFields) (h : known f ≡ true) where
@@ -173,6 +175,10 @@ module _ (t : Table) (f : CallFields) (h : known f ≡ true) where
   pub serve-13 : f .service ≡ 13 → serve t f ≡ switch t (f .partition .0)
   unfolding serve known
   serve-13 q = rw q (pass 2 (rw q at h) refl)
+
+  pub serve-14 : f .service ≡ 14 → serve t f ≡ clearOut t (f .partition .0)
+  unfolding serve known
+  serve-14 q = rw q (pass 2 (rw q at h) refl)
 
 -- ── fields that were read ──
 -- the fields of an answer; of a refusal, d

@@ -4,6 +4,7 @@ use mathlib.Core.Bool.{true, false, not}
 use mathlib.Core.List.{List}
 use Prim.Native.Nat.{ℕ, _+_, _≤_, _<_}
 use native.Mathlib.Omega.{arith}
+use lib.Dec.{eqb}
 use borrow.Author.Tests.{eq-eqb, ne-eqb}
 use Rattle.words.specs.declared.slot_word.SlotFields.{SlotFields}
 use Rattle.tables.specs.State.{Opt, none, some, Entry, Table, none-of}
@@ -20,6 +21,7 @@ use Rattle.tables.specs.Settle.{settled}
 use Rattle.tables.specs.Settled.{settled-is}
 use Rattle.tables.specs.declared.Outcome.the-variants.{Done, Refused}
 use Rattle.services.specs.Rules.{givenTo, ungive, delete}
+use Rattle.services.specs.Zeroed.{zeroRecords, zero-one}
 use Rattle.services.specs.Ran.{Ran, ran-refused, ran-done, pass, fail}
 use Rattle.services.specs.RegionExits.{entry-none, entry-there}
 use Rattle.services.specs.SlotExits.{child-now}
@@ -128,5 +130,6 @@ module _ {l : List ℕ} {c : ℕ} (p : ℕ) (now : view l .k .current ≡ c) (is
   unfolding delete
   delete-done {m} {o} q was clear e =
       let put : Is m (ungiven (view l) (view l .k .current) p) = subst (λ (c : ℕ). Is m (ungiven (view l) c p)) (sym now) was in
+      let gone : Is o (zeroRecords (view m) (λ q. eqb q p)) = subst (Is o) (zero-one (view m) p) clear in
       ran-done (pass 3 (child-now _ _ now is) (pass 15 (ap not q) refl))
-      (sym (settled-is (is-then (λ (t : Table). clearRecord t p) put clear) e .encoded))
+      (sym (settled-is (is-then (λ (t : Table). zeroRecords t (λ q. eqb q p)) put gone) e .encoded))

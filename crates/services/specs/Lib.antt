@@ -1,4 +1,6 @@
 pub mod Rules
+pub mod Branch
+pub mod Zeroed
 pub mod Ran
 pub mod Who
 pub mod Pick
@@ -8,6 +10,7 @@ pub mod RegionExits
 pub mod TakeExits
 pub mod MergeExits
 pub mod DeleteExits
+pub mod ClearExits
 pub mod Calls
 pub mod Boot
 pub mod Brief

@@ -1,10 +1,12 @@
--- The rules of boot and of the thirteen services, in 01's order and words: the checks with their numbers, then the effect and the values.
+-- The rules of boot and of the fourteen services, in 01's order and words: the checks with their numbers, then the effect and the values.
 use mathlib.Core.Bool.{Bool, true, false, cond, not, _&&_, _||_, Bool·beq}
 use mathlib.Core.List.{List}
 use Prim.Native.Nat.{ℕ, _+_, _*_, _/_, _^_}
 use lib.ListN.{length}
 use lib.Dec.{leb, ltb, eqb}
 use Rattle.loops.specs.Every.{any, all}
+use Rattle.loops.specs.Count.{count}
+use Rattle.loops.specs.Climb.{climb}
 use Rattle.words.specs.Kind.{reading}
 use Rattle.words.specs.Words.{call}
 use Rattle.words.specs.declared.Rights.{Rights}
@@ -92,21 +94,29 @@ unfoldable pub ungive : ℕ → Opt Entry → Opt Entry
 ungive p none = none
 ungive p (some e) = some (cond (eqb (e .given) p) (givenTo e 0) e)
 
-abbrev pub deleteK : K → ℕ → K
-deleteK k p = record {
+-- the records of m are zero
+abbrev pub zeroed : {A : Type 0} → (ℕ → Bool) → A → (ℕ → A) → ℕ → A
+zeroed m zero f q = cond (m q) zero (f q)
+
+-- .. and what the caller gave to p is given to nobody
+abbrev pub removeK : K → ℕ → (ℕ → Bool) → K
+removeK k p m = record {
   base = k .base;
   stop = k .stop;
   current = k .current;
-  parent = upd1 (k .parent) p 0;
-  area = upd1 (k .area) p (λ j. none);
-  slot = upd1 (upd1 (k .slot) (k .current) (λ i. ungive p (k .slot (k .current) i))) p (λ i. none);
+  parent = zeroed m 0 (k .parent);
+  area = zeroed m (λ j. none) (k .area);
+  slot = zeroed m (λ i. none) (upd1 (k .slot) (k .current) (λ i. ungive p (k .slot (k .current) i)));
 }
+
+abbrev pub remove : Table → ℕ → (ℕ → Bool) → Table
+remove t p m = settle (removeK (t .k) p m) (zeroed m (λ r. none) (t .region))
 
 unfoldable pub delete : Table → ℕ → Result
 delete t p =
     check 3 (child (t .k) (t .k .current) p)
     (check 15 (not (hasChild (t .k) p))
-    (done 0 0 (settle (deleteK (t .k) p) (upd1 (t .region) p (λ r. none)))))
+    (done 0 0 (remove t p (λ q. eqb q p))))
 
 -- ── 3 prepare: P own or child, S; 3 4 5 6 8 9; lowest absent structure of P gets area = entry S; its number, 0 ──
 abbrev pub prepareK : K → ℕ → ℕ → Entry → K
@@ -239,6 +249,16 @@ switch t p =
     check 3 (parentOrChild (t .k) p)
     (done 0 0 (settle (withCurrent (t .k) p) (t .region)))
 
+-- ── 14 clear out: P a child; 3; caller's given = P become 0, records of P and of every descendant zero; their number, 0 ──
+-- q is p or a descendant of it: the walk from q up to the root meets p
+unfoldable pub branch : (ℕ → ℕ) → ℕ → ℕ → Bool
+branch parent p q = climb parent (λ n. false) false (λ r above. eqb r p || above) q 15
+
+unfoldable pub clearOut : Table → ℕ → Result
+clearOut t p =
+    check 3 (child (t .k) (t .k .current) p)
+    (done (count 16 (branch (t .k .parent) p)) 0 (remove t p (branch (t .k .parent) p)))
+
 -- ── a call word ──
 unfoldable pub noRights : Rights → Bool
 noRights r = not (r .read) && not (r .write) && not (r .execute)
@@ -268,7 +288,8 @@ serve t f =
     (cond (eqb n 11) (check 2 (unused true false true false false f) (readRegion t p u))
     (cond (eqb n 12) (check 2 (unused true false false false true f) (find t p l))
     (cond (eqb n 13) (check 2 (unused true false false false false f) (switch t p))
-    (refused 2)))))))))))))
+    (cond (eqb n 14) (check 2 (unused true false false false false f) (clearOut t p))
+    (refused 2))))))))))))))
 
 unfoldable pub serveRead : Table → CallRead → Result
 serveRead t (Fields f) = serve t f

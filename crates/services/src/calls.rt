@@ -58,7 +58,7 @@ fn unused(p: bool, s: bool, u: bool, r: bool, l: bool, f: CallFields) -> bool
     in_order(l, f.line.0 == 0)
 }
 
-// The service is one of the thirteen, and the fields that it doesn't use (P, S, T, R, L) are 0.
+// The service is one of the fourteen, and the fields that it doesn't use (P, S, T, R, L) are 0.
 fn known(f: CallFields) -> bool
     ensures { λ b. ⌜ b ≡ known f ⌝ }
 {
@@ -77,6 +77,7 @@ fn known(f: CallFields) -> bool
         11 => unused(true, false, true, false, false, f),
         12 => unused(true, false, false, false, true, f),
         13 => unused(true, false, false, false, false, f),
+        14 => unused(true, false, false, false, false, f),
         _ => false,
     }
 }
@@ -101,6 +102,7 @@ fn perform(t: &mut [u64; 641], f: CallFields) -> Outcome
         11 => crate::region_services::read_region(t, f.partition, f.other),
         12 => crate::looks::find(t, f.partition, f.line),
         13 => crate::looks::switch(t, f.partition),
+        14 => crate::clear_service::clear_out(t, f.partition),
         _ => Outcome::Refused(2),
     }
 }

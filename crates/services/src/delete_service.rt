@@ -27,7 +27,7 @@ fn ungive_slot(t: &mut [u64; 641], c: Partition, i: Slot, p: Partition)
 }
 
 // .. every slot of c
-fn ungive(t: &mut [u64; 641], c: Partition, p: Partition)
+pub fn ungive(t: &mut [u64; 641], c: Partition, p: Partition)
     requires { ⌜ Canon (now t) × (c .0 < 16) ⌝ }
     ensures { λ _. ⌜ Is (now (t .exit)) (ungiven (view (now (t .entry))) (c .0) (p .0)) ⌝ }
 {

@@ -6,6 +6,7 @@ ghost use Rattle.services.specs.Calls.{Answers};
 pub mod area_services;
 pub mod boot_service;
 pub mod calls;
+pub mod clear_service;
 pub mod delete_service;
 pub mod looks;
 pub mod merge_service;

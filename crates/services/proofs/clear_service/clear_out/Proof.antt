@@ -1,0 +1,23 @@
+use mathlib.Core.Path.{sym, _∙_}
+use borrow.Author.Tests.{not-true, not-false}
+use Rattle.tables.specs.Encode.{is-canon}
+use Rattle.services.specs.Rules.{clearOut}
+use Rattle.services.specs.Ran.{ran-refused, fail}
+use Rattle.services.specs.SlotExits.{child-now}
+use Rattle.services.specs.ClearExits.{ungiven-child, clear-done}
+use borrow.Author.Needs.{needs}
+use Rattle.services.proofs.clear_service.clear_out.Statement.{statement}
+use Rattle.services.proofs.clear_service.clear_out.Tie as tie
+
+pub clear-out-spec : {M : Type 1} → statement M
+unfolding clearOut
+clear-out-spec =
+    tie.close
+    (tie.spec
+    (λ c κs. search needs)
+    (λ c κs. search needs)
+    (λ c. ran-refused (fail 3 _ (child-now _ _ (c .before .before .before .before .first .ensures .current) (sym (c .before .is-child .ensures) ∙ not-true _ (c .if1 .taken)))))
+    (λ c κs. search needs)
+    (λ c κs. let (n, there) = ungiven-child _ _ (c .before .before .before .before .before .before .before .first .ensures .current) (sym (c .before .before .before .before .is-child .ensures) ∙ not-false _ (c .before .before .before .if1 .left)) (c .before .ungive .ensures) in (is-canon (c .before .ungive .ensures), c .before .before .before .before .before .before .before .before .before .pre .1, n, there))
+    (λ c κs. is-canon (c .before .clear-partition .ensures .is))
+    (λ c. clear-done _ _ (c .before .before .before .before .before .before .before .before .before .before .first .ensures .current) (sym (c .before .before .before .before .before .before .before .is-child .ensures) ∙ not-false _ (c .before .before .before .before .before .before .if1 .left)) (c .before .before .before .before .ungive .ensures) (c .before .before .clear-partition .ensures) (c .settle .ensures)))
