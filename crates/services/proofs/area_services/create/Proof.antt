@@ -27,7 +27,7 @@ create-spec =
     (λ c. omega (arith, picked-is (c .before .before .before .before .before .before .before .before .before .e .given .1) (c .before .before .before .before .before .before .before .before .before .before .before .free-entry .ensures) .seen .start-small))
     (λ c. ran-refused (picked-is (c .before .before .before .before .before .before .before .before .before .before .before .e .given .1) (c .before .before .before .before .before .before .before .before .before .before .before .before .before .free-entry .ensures) .rule _ ∙ there 8 _ _ (which-is _ (sym (c .before .before .before .before .which .given .1) ∙ c .before .before .before .before .before .before .absent-partition .ensures)) (fail 9 _ (lt-leb _ _ (c .if1 .taken)))))
     (λ c κs. search needs)
-    (λ c κs. let v = picked-is (c .before .before .before .before .before .before .before .before .before .before .before .before .before .before .before .e .given .1) (c .before .before .before .before .before .before .before .before .before .before .before .before .before .before .before .before .before .free-entry .ensures) .seen in record { canon = c .before .before .before .before .before .before .before .before .before .before .before .before .before .before .before .before .before .before .before .pre .0; inP = lowest-some 16 _ _ (which-is _ (sym (c .before .before .before .before .before .before .before .before .which .given .1) ∙ c .before .before .before .before .before .before .before .before .before .before .absent-partition .ensures)) .below; present = refl; parent-small = c .before .before .first .ensures .current-small; start-small = v .start-small; end-small = v .end-small })
+    (λ c κs. let v = picked-is (c .before .before .before .before .before .before .before .before .before .before .before .before .before .before .before .e .given .1) (c .before .before .before .before .before .before .before .before .before .before .before .before .before .before .before .before .before .free-entry .ensures) .seen in record { canon = c .before .before .before .before .before .before .before .before .before .before .before .before .before .before .before .before .before .before .before .pre .0; inP = omega (arith, lowest-some 16 _ _ (which-is _ (sym (c .before .before .before .before .before .before .before .before .which .given .1) ∙ c .before .before .before .before .before .before .before .before .before .before .absent-partition .ensures)) .below); present = refl; parent-small = c .before .before .first .ensures .current-small; start-small = v .start-small; end-small = v .end-small })
     (λ c κs. is-canon (c .before .put-header .ensures))
     (λ c. search needs)
     (λ c. ran-refused (picked-no (c .before .why .given .1) (c .before .before .before .free-entry .ensures) _))
