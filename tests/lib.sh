@@ -59,10 +59,12 @@ target_cc() {
     esac
 }
 
+# The mathematics library of Debian's cross packages names parts of itself by paths that are not there, so on Arm
+# the libraries are named one by one, without it.
 target_cxx() {
     case $(uname -m) in
     x86_64) g++ "$@" ;;
-    aarch64) x86_64-linux-gnu-g++ -static "$@" ;;
+    aarch64) x86_64-linux-gnu-g++ -static -nodefaultlibs "$@" -Wl,--start-group -lstdc++ -lc -lgcc -lgcc_eh -Wl,--end-group ;;
     *) echo "no x86-64 compiler is known for $(uname -m)" >&2; return 1 ;;
     esac
 }

@@ -4,13 +4,16 @@ use mathlib.Core.Bool.{Bool, true, false, cond}
 use mathlib.Core.List.{List, []}
 use Prim.Native.Nat.{ℕ, _+_, _*_, _^_, _≤_, _<_}
 use native.Mathlib.Omega.{arith}
-use lib.ListN.{length}
-use lib.Dec.{eqb, leb}
-use borrow.Author.Tests.{eq-eqb, ne-eqb}
+use lib.ListN.{length, getD, List·getD-eq-default}
+use lib.Dec.{eqb, leb, ltb}
+use borrow.Author.Tests.{eq-eqb, ne-eqb, ltb-true, ltb-false}
+use Rattle.loops.specs.Rewrite.{tab, tabFrom, tab-at}
+use Rattle.words.specs.Parts.{pack-lt}
 use Rattle.tables.specs.View.{view}
 use Rattle.tables.specs.Encode.{encode}
-use Rattle.tables.specs.Bytes.{wordsOf, bytesOf}
-use Rattle.tables.specs.ByteTrips.{length-wordsOf}
+use Rattle.tables.specs.Fitting.{Words}
+use Rattle.tables.specs.Bytes.{octets, wordAt, wordsOf, bytesOf}
+use Rattle.tables.specs.ByteTrips.{length-wordsOf, bytes-words}
 use Rattle.tables.specs.declared.Outcome.{Outcome}
 use Rattle.tables.specs.declared.Outcome.the-variants.{Done, Refused}
 use Rattle.sound.specs.Clauses.{sound}
@@ -20,6 +23,7 @@ use Rattle.services.specs.Ran.{outcomeOf, Ran, ran-refused, ran-as, refused-don
 use Rattle.services.specs.Boot.{boot-any, boot-length}
 use Rattle.services.specs.declared.Answer.{Answer}
 use Rattle.services.specs.Calls.{callerOf, caller-small, Answers, answers-unsound}
+use Rattle.services.specs.Reads.{onlyReads, reads-stand}
 
 -- the words that are handed over as bytes; another number of bytes is no table
 unfoldable pub handed : List ℕ → List ℕ
@@ -109,6 +113,17 @@ module _ (b : List ℕ) (base end : ℕ) {a m : List ℕ} {o : Outcome} (size : 
   pub boot-kept : {n r : ℕ} → o ≡ Refused n → r ≡ packed n 0 0 → Lent 0 (bootOn (handed b) base end) b r b
   boot-kept q p = lent-refused (ran-as any ran) b q p
 
+-- ── bytes that are read and not written back ──
+-- words of bytes are below 2^64
+module _ (b : List ℕ) (small : (i : ℕ) → getD b i 0 < 256) where
+  words-small : Words (wordsOf b)
+  unfolding wordsOf wordAt tabFrom
+  words-small = record { small = λ k. go k (ltb k 641) refl }
+    where
+      go : (k : ℕ) (x : Bool) → ltb k 641 ≡ x → getD (wordsOf b) k 0 < 2 ^ 64
+      go k true u = rw (tab-at 641 (wordAt b) k (ltb-true k 641 u)) (pack-lt octets (tab 8 (λ j. getD b (8 * k + j) 0)) (search small))
+      go k false u = rw (List·getD-eq-default (wordsOf b) 0 {n = k} (omega (arith, ltb-false k 641 u, length-wordsOf b))) (omega arith)
+
 -- ── a call ──
 pub call-none : (b : List ℕ) {w s r : ℕ} → (length b ≡ 5128 → ⊥) → r ≡ packed 1 0 0 → CallLent b w s r b s
 unfolding secondAfter outcomeOf
@@ -129,6 +144,13 @@ module _ (b : List ℕ) {a m : List ℕ} {w : ℕ} {x : Answer} (size : length b
     table = lent-done (here .ran) b q (p ∙ ap (λ (c : ℕ). packed 0 c v) (here .caller)) e;
     second = z ∙ ap (secondAfter s) (sym q ∙ here .ran .outcome);
   }
+
+  -- a call that only reads: the bytes are those of the table already
+  pub call-stands : ((i : ℕ) → getD b i 0 < 256) → onlyReads w ≡ true → b ≡ bytesOf m
+  call-stands small q =
+      sym
+      (ap bytesOf (h .ran .words ∙ reads-stand a w (subst Words (sym load) (words-small b small)) q ∙ load)
+      ∙ bytes-words b size (λ i _. small i))
 
   pub call-kept : {s r n : ℕ} → x .outcome ≡ Refused n → r ≡ packed n (x .caller .0) 0 → CallLent b w s r b s
   unfolding secondAfter

@@ -1,22 +1,20 @@
 -- The runs, for the board's firmware: the table comes as bytes, the outcome goes back as one number.
-use mathlib.Core.Path.{_≡_, refl, ap}
+use mathlib.Core.Path.{_≡_, refl, ap₂}
 use mathlib.Core.Bool.{Bool, true, false, cond}
-use mathlib.Core.List.{List, []}
+use mathlib.Core.List.{List}
 use Prim.Native.Nat.{ℕ, _^_, _<_}
 use native.Mathlib.Omega.{arith}
-use lib.Dec.{eqb, leb}
-use lib.ListN.{length}
-use borrow.Author.Tests.{eqb-true}
+use lib.Dec.{leb}
+use lib.ListN.{length, replicate}
 use Rattle.tables.specs.View.{view}
 use Rattle.tables.specs.Bytes.{wordsOf}
 use Rattle.tables.specs.declared.Outcome.{Outcome}
 use Rattle.tables.specs.declared.Outcome.the-variants.{Done, Refused}
 use Rattle.sound.specs.Clauses.{sound}
-use Rattle.sound.specs.Whole.{sound-means}
 use Rattle.runs.specs.declared.Run.{Run}
 use Rattle.runs.specs.declared.listing.Plan.{Plan}
 use Rattle.runs.specs.Runs.{runsOf, runsOutcome, runsRecords}
-use Rattle.runs.specs.Listing.{planOf, refusal, writing, plan-unsound, runs-small}
+use Rattle.runs.specs.Listing.{planOf, marksOf, refusal, writing, plan-unsound, marks-unsound, runs-small}
 use Rattle.board.specs.declared.lists.Ready.{Ready}
 use Rattle.board.specs.Board.{handed, handed-is, handed-unsound, resultOf}
 
@@ -24,11 +22,11 @@ abbrev pub Small : Outcome → Type 0
 Small (Done first second) = first < 2 ^ 32
 Small (Refused why) = why < 2 ^ 8
 
-abbrev pub readyFrom : Plan → Ready
-readyFrom p = record { number = p .number; first = p .first; answer = resultOf 0 (p .outcome) }
+abbrev pub readyFrom : Plan → List ℕ → Ready
+readyFrom p w = record { number = p .number; marks = w; answer = resultOf 0 (p .outcome) }
 
 abbrev pub readyOf : List ℕ → ℕ → Ready
-readyOf b size = readyFrom (planOf (handed b) size)
+readyOf b size = readyFrom (planOf (handed b) size) (marksOf (handed b))
 
 -- what the export promises: its answer, and every record of the list
 pub record Handed (b : List ℕ) (before : List Run) (r : ℕ) (after : List Run) : Type 0 where
@@ -36,17 +34,8 @@ pub record Handed (b : List ℕ) (before : List Run) (r : ℕ) (after : List Run
   pub records : after ≡ runsRecords (handed b) before
 
 -- ── the exits of the code ──
-module _ (b : List ℕ) where
-  pub sound-length : sound (handed b) ≡ true → length b ≡ 5128
-  unfolding handed
-  sound-length q = go (eqb (length b) 5128) refl q
-    where
-      go : (x : Bool) → eqb (length b) 5128 ≡ x → sound (cond x (wordsOf b) []) ≡ true → length b ≡ 5128
-      go true e q = eqb-true (length b) 5128 e
-      go false e q = let z = sound-means [] .0 q .size in absurd (omega arith)
-
-  pub ready-none : (size : ℕ) → (length b ≡ 5128 → ⊥) → readyFrom (refusal 1) ≡ readyOf b size
-  ready-none size h = ap readyFrom (plan-unsound (handed b) size (handed-unsound b h))
+pub ready-none : (b : List ℕ) (size : ℕ) → (length b ≡ 5128 → ⊥) → readyFrom (refusal 1) (replicate 513 0) ≡ readyOf b size
+ready-none b size h = let q = handed-unsound b h in ap₂ readyFrom (plan-unsound (handed b) size q) (marks-unsound (handed b) (replicate 513 0) q)
 
 pub plan-answers : (t : List ℕ) (size : ℕ) → Small (planOf t size .outcome)
 unfolding planOf
@@ -57,6 +46,6 @@ plan-answers t size = go (sound t) (leb (length (runsOf (view t .k))) size)
     go true false = omega arith
     go false y = omega arith
 
-pub ready-plan : (b : List ℕ) (size : ℕ) {p : Plan} {r : ℕ} → length b ≡ 5128 → p ≡ planOf (wordsOf b) size → r ≡ resultOf 0 (p .outcome)
-    → record { number = p .number; first = p .first; answer = r } ≡ readyOf b size
-ready-plan b size h q e = rw (e, q, ← handed-is b h) refl
+pub ready-plan : (b : List ℕ) (size : ℕ) {p : Plan} {w : List ℕ} {r : ℕ} → length b ≡ 5128 → p ≡ planOf (wordsOf b) size → w ≡ marksOf (wordsOf b) → r ≡ resultOf 0 (p .outcome)
+    → record { number = p .number; marks = w; answer = r } ≡ readyOf b size
+ready-plan b size h q m e = rw (e, q, m, ← handed-is b h) refl

@@ -36,7 +36,7 @@ pub extern "C" fn ulavrepit_boot(table: &mut [u8], base: u64, end: u64) -> u64
     }
 }
 
-// A call: `services::call` on bytes. The second value is written only when it is done.
+// A call: `services::call` on bytes. The second value is written only when it is done, the bytes only where it does more than read.
 #[no_mangle]
 pub extern "C" fn ulavrepit_call(table: &mut [u8], word: u64, second: &mut u64) -> u64
     ensures { λ r. ⌜ CallLent (now (table .entry)) word (now (second .entry)) r (now (table .exit)) (now (second .exit)) ⌝ }
@@ -51,7 +51,9 @@ pub extern "C" fn ulavrepit_call(table: &mut [u8], word: u64, second: &mut u64) 
     let outcome = answer.outcome;
     match outcome {
         Outcome::Done(first, value) => {
-            tables::bytes::store(&a, table);
+            if !services::calls::only_reads(word) {
+                tables::bytes::store(&a, table);
+            }
             *second = value;
             packed(0, caller, first)
         }

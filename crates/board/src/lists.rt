@@ -1,20 +1,15 @@
 ghost use mathlib.Core.Path.{_≡_};
-ghost use mathlib.Core.Bool.{true};
-ghost use Rattle.tables.specs.View.{view};
-ghost use Rattle.sound.specs.Clauses.{sound};
-ghost use Rattle.runs.specs.Steps.{stepOf};
-ghost use Rattle.board.specs.Board.{handed, resultOf};
+ghost use Rattle.board.specs.Board.{resultOf};
 ghost use Rattle.board.specs.Lists.{Small, readyOf, Handed};
 use runs::Run;
-use runs::Step;
+use runs::listing::run_between;
 use tables::Outcome;
-use words::Line;
 use words::Partition;
 
-// What is settled before a record is written.
+// What is settled before a record is written: how many runs are written, the marks that they are read from, and the answer.
 pub struct Ready {
     pub number: usize,
-    pub first: Run,
+    pub marks: [u32; 513],
     pub answer: u64,
 }
 
@@ -32,39 +27,25 @@ fn answer_word(o: Outcome) -> u64
 fn plan_bytes(table: &[u8], size: usize) -> Ready
     ensures { λ r. ⌜ r ≡ readyOf (now (table .entry)) size ⌝ }
 {
+    let mut marks = [0u32; 513];
     if table.len() != 5128 {
-        let first = Run {
-            start: Line(0),
-            end: Line(0),
-            deepest: Partition(0),
-        };
         return Ready {
             number: 0,
-            first: first,
+            marks: marks,
             answer: 1,
         };
     }
     let mut a = [0u64; 641];
     tables::bytes::load(table, &mut a);
-    let p = runs::listing::plan_of(&a, size);
+    let p = runs::listing::plan_of(&a, size, &mut marks);
     let n = p.number;
-    let first = p.first;
     let outcome = p.outcome;
     let answer = answer_word(outcome);
     Ready {
         number: n,
-        first: first,
+        marks: marks,
         answer: answer,
     }
-}
-
-fn next_bytes(table: &[u8], c: Run) -> Step
-    requires { ⌜ sound (handed (now table)) ≡ true ⌝ }
-    ensures { λ r. ⌜ r ≡ stepOf (view (handed (now (table .entry))) .k) c ⌝ }
-{
-    let mut a = [0u64; 641];
-    tables::bytes::load(table, &mut a);
-    runs::steps::lengthen(&a, c)
 }
 
 // The runs of a table, written into a list of records.
@@ -74,12 +55,9 @@ pub extern "C" fn ulavrepit_runs(table: &[u8], list: &mut [Run]) -> u64
 {
     let p = plan_bytes(table, list.len());
     let n = p.number;
-    let mut c = p.first;
     let mut i = 0;
     while i < n {
-        let s = next_bytes(table, c);
-        list[i] = s.run;
-        c = s.next;
+        list[i] = run_between(p.marks[i], p.marks[i + 1]);
         i = i + 1;
     }
     p.answer

@@ -1,10 +1,12 @@
 pub mod Runs
 pub mod RunLaws
 pub mod OneList
-pub mod Bound
 pub mod Pieces
-pub mod Steps
-pub mod Counting
+pub mod Bound
+pub mod Places
+pub mod Ways
 pub mod Stored
+pub mod Marks
 pub mod Listing
+pub mod Element
 pub mod Meaning

@@ -15,7 +15,7 @@ use Rattle.runs.specs.declared.Run.{Run}
 use Rattle.runs.specs.Runs.{runOf, runsOf, nth, Longest, over, runsOutcome, runsRecords, Listed}
 use Rattle.runs.specs.RunLaws.{runs-longest}
 use Rattle.runs.specs.Bound.{runs-bound}
-use Rattle.runs.specs.Steps.{tested}
+use Rattle.runs.specs.Pieces.{tested}
 
 -- done: the runs are as 01 says and at most 512, their number is answered, the first records are they, and the rest stay
 pub record Told (t : List ℕ) (before : List Run) (r : Outcome) (after : List Run) : Type 0 where

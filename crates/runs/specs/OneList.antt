@@ -53,7 +53,7 @@ module _ {k : K} where
       ap₂ (λ (a b : ℕ). runOf a b (r .deepest .0)) (v .chain .from ∙ sym (w .chain .from)) (same-end r s rs ss v w)
       ∙ ap (runOf (s .start .0) (s .end .0)) (head-deepest r rs v ∙ sym (head-deepest s ss w))
 
-  one-list : {l m : ℕ} (rs ss : List Run) → Runs k l m rs → Runs k l m ss → rs ≡ ss
+  pub one-list : {l m : ℕ} (rs ss : List Run) → Runs k l m rs → Runs k l m ss → rs ≡ ss
   one-list [] ss v w = absurd (omega (arith, v .chain .some))
   one-list (r ∷ rs) [] v w = absurd (omega (arith, w .chain .some))
   one-list (r ∷ []) (s ∷ []) v w = ap (λ (x : Run). x ∷ []) (same-run r s [] [] v w)

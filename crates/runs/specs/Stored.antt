@@ -1,11 +1,12 @@
 -- A list whose first records are stored one by one, as a loop stores them: the first n values of a function, and then the rest of the list.
-use mathlib.Core.Path.{_≡_, refl, sym, ap, ap₂, subst, _∙_}
-use Prim.Native.Nat.{ℕ, zero, suc, _≤_, _+_}
+use mathlib.Core.Path.{_≡_, refl, sym, ap, subst, _∙_}
+use Prim.Native.Nat.{ℕ, zero, suc, _≤_, _<_, _+_}
+use native.Mathlib.Decide.{ℕ-discrete}
 use native.Mathlib.Numerals.{add-one}
 use native.Mathlib.Omega.{arith}
 use mathlib.Core.List.{List, [], _∷_, _++_}
-use lib.ListN.{length, set, drop, getD, length-set, length-append}
-use lib.Seq.{drop-cons, set-append-seam, append-snoc}
+use lib.ListN.{length, set, drop, getD, length-set, length-append, List·getD-append}
+use lib.Seq.{drop-cons, set-append-seam, append-snoc, getD-at, ext-getD}
 
 module _ {A : Type 0} (f : ℕ → A) where
   -- f 0, f 1, .., f (n - 1)
@@ -22,7 +23,7 @@ module _ {A : Type 0} (f : ℕ → A) where
   length-stored zero xs = refl
   length-stored (suc i) xs = length-set (stored i xs) i (f i) ∙ length-stored i xs
 
-  length-firsts : (n : ℕ) → length (firsts n) ≡ n
+  pub length-firsts : (n : ℕ) → length (firsts n) ≡ n
   length-firsts zero = refl
   length-firsts (suc n) = length-append (firsts n) (f n ∷ []) ∙ ap (λ (k : ℕ). k + 1) (length-firsts n) ∙ add-one n
 
@@ -36,7 +37,15 @@ module _ {A : Type 0} (f : ℕ → A) where
   stored-is (suc i) xs l =
       next (firsts i) (drop (suc i) xs) (stored i xs) i (getD xs i (f i)) (length-firsts i) (stored-is i xs (omega (arith, l)) ∙ ap (λ (r : List A). firsts i ++ r) (drop-cons xs i (f i) l))
 
--- the first value, and then those of the function from 1 on
-pub firsts-more : {A : Type 0} (f g : ℕ → A) → ((i : ℕ) → f (suc i) ≡ g i) → (n : ℕ) → firsts f (suc n) ≡ f 0 ∷ firsts g n
-firsts-more f g h zero = refl
-firsts-more f g h (suc n) = ap₂ (λ (xs : List _) y. xs ++ (y ∷ [])) (firsts-more f g h n) (h n)
+-- ── as the list of a function's first values ──
+pub firsts-at : {A : Type 0} (f : ℕ → A) (n i : ℕ) (d : A) → i < n → getD (firsts f n) i d ≡ f i
+firsts-at f zero i d h = absurd (omega arith)
+firsts-at f (suc n) i d h = go (ℕ-discrete i n) (firsts-at f n i d)
+  where
+    go : Dec (i ≡ n) → (i < n → getD (firsts f n) i d ≡ f i) → getD (firsts f n ++ (f n ∷ [])) i d ≡ f i
+    go (yes z) _ = rw z (getD-at (firsts f n) (f n) [] d n (length-firsts f n))
+    go (no z) g = List·getD-append (firsts f n) (f n ∷ []) d i (omega (arith, length-firsts f n)) ∙ g (omega arith)
+
+-- a list is that of the function that reads it
+pub firsts-is : {A : Type 0} (f : ℕ → A) (d : A) (xs : List A) → ((i : ℕ) → i < length xs → f i ≡ getD xs i d) → firsts f (length xs) ≡ xs
+firsts-is f d xs h = ext-getD d (firsts f (length xs)) xs (length-firsts f (length xs)) (λ i b. let c : i < length xs = omega (arith, length-firsts f (length xs)) in firsts-at f (length xs) i d c ∙ h i c)

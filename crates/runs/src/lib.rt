@@ -1,7 +1,7 @@
 // The runs of lines that have the same holders.
 pub mod listing;
-pub mod pieces;
-pub mod steps;
+mod pieces;
+mod walk;
 
 pub use listing::runs;
 use words::Line;
@@ -13,10 +13,4 @@ pub struct Run {
     pub start: Line,
     pub end: Line,
     pub deepest: Partition,
-}
-
-// A run, and the piece that comes after it.
-pub struct Step {
-    pub run: Run,
-    pub next: Run,
 }

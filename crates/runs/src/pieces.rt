@@ -1,9 +1,13 @@
 ghost use mathlib.Core.Path.{_≡_};
-ghost use Prim.Native.Nat.{_<_, _^_, min};
+ghost use mathlib.Core.Bool.{true};
+ghost use Prim.Native.Nat.{_<_, min};
 ghost use Rattle.tables.specs.View.{view};
-ghost use Rattle.runs.specs.Pieces.{Hopped, pieceAt};
-use crate::Run;
-use tables::Found;
+ghost use Rattle.tables.specs.Lines.{Holds};
+ghost use Rattle.sound.specs.Clauses.{sound};
+ghost use Rattle.runs.specs.Pieces.{Hopped};
+ghost use Rattle.runs.specs.Places.{InOrder, Passed};
+ghost use Rattle.runs.specs.Ways.{Climbs, Climbed, Standing, Pieced};
+use sound::order::entry_at;
 use words::Line;
 use words::Partition;
 
@@ -13,25 +17,35 @@ pub struct Hop {
     pub end: Line,
 }
 
-// One step of the descent; where no entry holds the line, it goes to nobody and ends at the next line.
-fn hop_at(t: &[u64; 641], l: Line, p: Partition) -> Hop
-    requires { ⌜ (p .0 < 16) × (l .0 < 2 ^ 27) ⌝ }
-    ensures { λ r. ⌜ Hopped (view (now (t .entry)) .k) (l .0) (p .0) r ⌝ }
+// Where a piece ends, its deepest holder, and how many steps below the root that is.
+pub struct Piece {
+    pub end: Line,
+    pub deepest: Partition,
+    pub depth: usize,
+}
+
+// One step of the descent, at a partition that holds the line. All its entries before its place end by the line: the place moves on to the first that does not.
+fn hop_at(t: &[u64; 641], order: &[u8; 512], places: &mut [u32; 16], l: Line, p: Partition) -> Hop
+    requires { ⌜ (sound (now t) ≡ true) × InOrder (view (now t) .k) (now order) × Passed (view (now t) .k) (now order) (l .0) (now places) × Holds (view (now t) .k .slot) (p .0) (l .0) ⌝ }
+    ensures { λ r. ⌜ Hopped (view (now (t .entry)) .k) (l .0) (p .0) r × Passed (view (now (t .entry)) .k) (now (order .entry)) (l .0) (now (places .exit)) ⌝ }
 {
-    let found = tables::search::holding_slot(t, p, l);
-    let Found::At(i) = found else {
-        return Hop {
-            heir: Partition(0),
-            end: Line(l.0 + 1),
-        };
-    };
-    let f = tables::read::entry(t, p, i);
-    let heir = f.given;
-    let end = f.end;
-    Hop {
-        heir: heir,
-        end: end,
+    let at = p.0 as usize;
+    let mut a = places[at];
+    while a < 32 {
+        let f = entry_at(t, p, order, a);
+        if l.0 < f.end.0 {
+            places[at] = a;
+            let heir = f.given;
+            let end = f.end;
+            return Hop {
+                heir: heir,
+                end: end,
+            };
+        }
+        a += 1;
     }
+    // not reached: one of the entries holds the line
+    Hop { heir: p, end: l }
 }
 
 fn lower(a: Line, b: Line) -> Line
@@ -40,33 +54,56 @@ fn lower(a: Line, b: Line) -> Line
     if a.0 < b.0 { a } else { b }
 }
 
-// The piece that begins at the line: to the first end among the entries that hold it. All its lines have the same deepest holder.
-pub fn piece(t: &[u64; 641], l: Line) -> Run
-    requires { ⌜ l .0 < 2 ^ 27 ⌝ }
-    ensures { λ r. ⌜ r ≡ pieceAt (view (now (t .entry)) .k) (l .0) ⌝ }
+// Up the way that led to the piece before, to the lowest partition above which no entry has ended.
+// A step of the way is 16 times the lowest end above it, plus the partition.
+fn climb(way: &[u32; 16], depth: usize, l: Line) -> usize
+    requires { ⌜ Climbs (now way) depth (l .0) ⌝ }
+    ensures { λ r. ⌜ Climbed (now (way .entry)) depth (l .0) r ⌝ }
 {
-    let f = tables::read::first(t);
-    let mut p = Partition(0);
-    let mut end = f.end;
-    let mut left = 15u32;
-    while left > 0 {
-        let h = hop_at(t, l, p);
+    let mut d = depth;
+    while d > 0 {
+        if l.0 < way[d] / 16 {
+            return d;
+        }
+        d -= 1;
+    }
+    d
+}
+
+// The piece that begins at the line: to the first end among the entries that hold it. All its lines have the same deepest holder.
+pub fn piece_at(
+    t: &[u64; 641],
+    order: &[u8; 512],
+    places: &mut [u32; 16],
+    way: &mut [u32; 16],
+    depth: usize,
+    l: Line,
+) -> Piece
+    requires { ⌜ (sound (now t) ≡ true) × InOrder (view (now t) .k) (now order) × Standing (view (now t) .k) (now order) (l .0) depth (now places) (now way) ⌝ }
+    ensures { λ r. ⌜ Pieced (view (now (t .entry)) .k) (now (order .entry)) (l .0) r (now (places .exit)) (now (way .exit)) ⌝ }
+{
+    let mut d = climb(way, depth, l);
+    let mut p = Partition(way[d] % 16);
+    let mut end = Line(way[d] / 16);
+    while d < 15 {
+        let h = hop_at(t, order, places, l, p);
         let e = h.end;
         end = lower(end, e);
         let q = h.heir;
         if q.0 == 0 {
-            return Run {
-                start: l,
+            return Piece {
                 end: end,
                 deepest: p,
+                depth: d,
             };
         }
         p = q;
-        left -= 1;
+        d += 1;
+        way[d] = 16 * end.0 + q.0;
     }
-    Run {
-        start: l,
+    Piece {
         end: end,
         deepest: p,
+        depth: d,
     }
 }

@@ -12,5 +12,6 @@ pub mod MergeExits
 pub mod DeleteExits
 pub mod ClearExits
 pub mod Calls
+pub mod Reads
 pub mod Boot
 pub mod Brief

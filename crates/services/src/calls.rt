@@ -8,6 +8,7 @@ ghost use Rattle.sound.specs.Whole.{Right};
 ghost use Rattle.services.specs.Rules.{noRights, unused, serve, serveRead};
 ghost use Rattle.services.specs.Ran.{Ran};
 ghost use Rattle.services.specs.Calls.{known, InFields, Answers};
+ghost use Rattle.services.specs.Reads.{onlyReads};
 use crate::Answer;
 use tables::Outcome;
 use words::Partition;
@@ -145,4 +146,15 @@ pub fn call_table(t: &mut [u64; 641], word: u64) -> Answer
     let caller = first.current;
     let outcome = serve_word(t, word);
     Answer { caller, outcome }
+}
+
+// Find and read region leave every word as it was, so nothing is to be written back after them.
+pub fn only_reads(word: u64) -> bool
+    ensures { λ r. ⌜ r ≡ onlyReads word ⌝ }
+{
+    let f = words::call_word::fields(word);
+    if f.service == 11 {
+        return true;
+    }
+    f.service == 12
 }

@@ -62,29 +62,6 @@ pub fn cut(t: &mut [u64; 641], s: Slot, l: Line) -> Outcome
     }
 }
 
-// where a is set, b is
-fn right_within(a: bool, b: bool) -> bool
-    ensures { λ r. ⌜ r ≡ (not a || b) ⌝ }
-{
-    if a {
-        return b;
-    }
-    true
-}
-
-// every right of a is one of b
-fn rights_within(a: Rights, b: Rights) -> bool
-    ensures { λ r. ⌜ r ≡ within a b ⌝ }
-{
-    if !right_within(a.read, b.read) {
-        return false;
-    }
-    if !right_within(a.write, b.write) {
-        return false;
-    }
-    right_within(a.execute, b.execute)
-}
-
 // slot s of c, whose entry is f, is given to p; slot n of p has its range with rights r
 fn hand_over(
     t: &mut [u64; 641],
@@ -124,7 +101,7 @@ fn give_entry(
     let Found::At(n) = found else {
         return Outcome::Refused(8);
     };
-    if !rights_within(r, f.rights) {
+    if !sound::tiles::rights_within(r, f.rights) {
         return Outcome::Refused(10);
     }
     hand_over(t, c, s, p, n, r, f);

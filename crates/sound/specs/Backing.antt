@@ -1,11 +1,13 @@
--- S8 in two parts: each area is an entry, an area at a time, and no two of the gathered areas share a line.
+-- S8 in two parts: each area is an entry, an area at a time, and no two of the gathered areas share a line, which neighbours decide.
 use mathlib.Core.Path.{_≡_, refl, ap, sym, _∙_}
 use mathlib.Core.Bool.{Bool, true, false, cond, not, _&&_, _||_, and-false, or-true, or-false}
 use mathlib.Core.List.{List}
 use Prim.Native.Nat.{ℕ, _+_, _-_, _*_, _/_, _%_, _≤_, _<_}
+use native.Mathlib.Decide.{decLt}
 use native.Mathlib.Omega.{arith}
 use lib.Dec.{ltb, eqb}
-use borrow.Author.Tests.{ltb-true, lt-ltb, ne-eqb}
+use lib.ListN.{getD}
+use borrow.Author.Tests.{not-true, ltb-true, ltb-false, lt-ltb, ne-eqb}
 use Rattle.loops.specs.Every.{all, all-at, all-of, bool-ext}
 use Rattle.words.specs.declared.header_word.HeaderFields.{HeaderFields}
 use Rattle.words.specs.declared.structure_word.StructureFields.{StructureFields}
@@ -13,10 +15,12 @@ use Rattle.tables.specs.State.{Opt, none, some, Entry, Area, K}
 use Rattle.tables.specs.View.{headerArea, structureArea, view}
 use Rattle.tables.specs.Seen.{SeenHeader, SeenStructure}
 use Rattle.tables.specs.Settle.{meets, apart}
-use Rattle.tables.specs.Gather.{solid, onIf, onTwo, pairsOf}
-use Rattle.tables.specs.Areas.{solidArea, areaNumber, AreasOf, number-at, off, off-meets, empty-left, empty-right}
-use Rattle.sound.specs.Clauses.{when, has, rooted, equals, s8Backed, s8Apart, s8}
-use Rattle.sound.specs.Tests.{then-says, then-true, when-says, when-true, all-and}
+use Rattle.tables.specs.Gather.{solid, onIf, onTwo}
+use Rattle.tables.specs.Rising.{Apart, at-place, apart-neighbours, apart-of}
+use Rattle.tables.specs.Areas.{solidArea, areaNumber, AreasOf, Parted, number-at, areas-lined, off, off-meets, empty-left, empty-right}
+use Rattle.sound.specs.Clauses.{when, has, rooted, equals, s8Backed, s8Apart}
+use Rattle.sound.specs.Tests.{and-says, and-true, then-says, then-true, not-says, not-of, when-says, when-true}
+use Rattle.sound.specs.AtOnce.{areasApart}
 use Rattle.sound.specs.Used.{Bound}
 
 -- ── each area is an entry ──
@@ -108,10 +112,78 @@ module _ (k : K) where
           then-says (ltb (5 * (h / 5) + h % 5) n) _ (all-at 80 f (when-says _ (at h) y x u) n c) (lt-ltb _ n (omega arith)))))
 
 -- ── by the gathered areas ──
-module _ (k : K) (n : ℕ) (s e : List ℕ) (g : AreasOf k n s e) where
-  pub apart-quick : pairsOf off n s e ≡ all 16 (λ p. all 5 (s8Apart k p))
-  apart-quick = g .pairs off ∙ pairs-apart k
+-- the range at a ends by the start of the next; so do the first n
+abbrev pub endsByNext : List ℕ → List ℕ → ℕ → Bool
+endsByNext s e a = not (ltb (getD s (a + 1) 0) (getD e a 0))
 
-  pub s8-quick : all 16 (s8 k) ≡ all 16 (λ p. all 5 (s8Backed k p)) && pairsOf off n s e
-  unfolding s8
-  s8-quick = rw apart-quick (all-and 16 (λ p. all 5 (s8Backed k p)) (λ p. all 5 (s8Apart k p)))
+unfoldable pub nextApart : ℕ → List ℕ → List ℕ → Bool
+nextApart n s e = all (n - 1) (endsByNext s e)
+
+-- what that test says of the table's areas, and of those that are gathered
+pub record ApartSaid (k : K) (n : ℕ) (s e : List ℕ) (r : Bool) : Type 0 where
+  pub says : r ≡ areasApart k
+  pub parted : r ≡ true → Parted n s e
+
+module _ {k : K} {n : ℕ} {s e : List ℕ} (g : AreasOf k n s e) where
+  -- by rising start neighbours are enough
+  places : nextApart n s e ≡ true → Apart (areaNumber k) n (g .order)
+  unfolding nextApart
+  places q = apart-neighbours (g .rising) (areas-lined k) (λ a b.
+      let l = ltb-false (getD s (a + 1) 0) (getD e a 0) (not-true _ (all-at (n - 1) (endsByNext s e) q a (omega arith))) in
+      omega (arith, l, g .ends a (omega arith), g .starts (a + 1) b))
+
+  parted : nextApart n s e ≡ true → Parted n s e
+  parted q = record { ends = λ a b c d. omega (arith, places q .ends a b c d, g .ends a (omega arith), g .starts b d) }
+
+  -- areas that come one before the other share no line
+  to : nextApart n s e ≡ true → all 80 (λ n. all n (pair k n)) ≡ true
+  unfolding onTwo onIf off
+  to q = all-of 80 _ (λ j b. all-of j (pair k j) (λ h c. go j h b c (areaNumber k j) (areaNumber k h) refl refl))
+    where
+      go : (j h : ℕ) → j < 80 → h < j → (x y : Opt Area) → areaNumber k j ≡ x → areaNumber k h ≡ y → onTwo off x y ≡ true
+      go j h b c none y u v = refl
+      go j h b c (some x) none u v = refl
+      go j h b c (some x) (some y) u v = not-of _ (λ w.
+          let (l, m) = and-says (ltb (x .lo) (y .hi)) (ltb (y .lo) (x .hi)) w in
+          line (ltb-true _ _ l) (ltb-true _ _ m) (areas-lined k j x u) (areas-lined k h y v) (decLt (x .lo) (y .lo)))
+        where
+          share : (l : ℕ) → x .lo ≤ l → l < x .hi → y .lo ≤ l → l < y .hi → ⊥
+          share = apart-of (g .rising) (places q) j h x y b (omega arith) (λ z. omega arith) u v
+
+          -- the later start is a line of both
+          line : x .lo < y .hi → y .lo < x .hi → x .lo < x .hi → y .lo < y .hi → Dec (x .lo < y .lo) → ⊥
+          line l m o p (yes z) = share (y .lo) (omega arith) m (omega arith) p
+          line l m o p (no z) = share (x .lo) (omega arith) o (omega arith) l
+
+  -- a neighbour that starts before the end shares that line
+  back : all 80 (λ n. all n (pair k n)) ≡ true → nextApart n s e ≡ true
+  unfolding nextApart onTwo onIf off
+  back q = all-of (n - 1) _ (λ a b. not-of _ (λ w. near a (omega arith) (ltb-true _ _ w)))
+    where
+      -- no two numbers have such areas
+      two : (j h : ℕ) (x y : Area) → j < 80 → h < j → areaNumber k j ≡ some x → areaNumber k h ≡ some y → x .lo < y .hi → y .lo < x .hi → ⊥
+      two j h x y b c u v l m =
+          let z = all-at j (pair k j) (all-at 80 (λ n. all n (pair k n)) q j b) h c in
+          let r : not (ltb (x .lo) (y .hi) && ltb (y .lo) (x .hi)) ≡ true = rw (u, v) at z in
+          not-says _ r (and-true _ _ (lt-ltb _ _ l) (lt-ltb _ _ m))
+
+      near : (a : ℕ) → a + 1 < n → getD s (a + 1) 0 < getD e a 0 → ⊥
+      near a b w =
+          let (x, u) = g .rising .full a (omega arith) in
+          let (y, v) = g .rising .full (a + 1) b in
+          let (xl, xh) = at-place (g .rising) a (omega arith) x u in
+          let (yl, yh) = at-place (g .rising) (a + 1) b y v in
+          go x y u v
+          (omega (arith, xl, yl, areas-lined k _ y v, g .rising .rising a (a + 1) (omega arith) b))
+          (omega (arith, w, xh, yl, g .ends a (omega arith), g .starts (a + 1) b))
+          (decLt (g .order a) (g .order (a + 1))) (decLt (g .order (a + 1)) (g .order a))
+        where
+          go : (x y : Area) → areaNumber k (g .order a) ≡ some x → areaNumber k (g .order (a + 1)) ≡ some y → x .lo < y .hi → y .lo < x .hi
+              → Dec (g .order a < g .order (a + 1)) → Dec (g .order (a + 1) < g .order a) → ⊥
+          go x y u v l m (yes c) d = two (g .order (a + 1)) (g .order a) y x (g .rising .under (a + 1) b) c v u m l
+          go x y u v l m (no c) (yes d) = two (g .order a) (g .order (a + 1)) x y (g .rising .under a (omega arith)) d u v l m
+          go x y u v l m (no c) (no d) = g .rising .once a (a + 1) (omega arith) b (omega arith)
+
+  pub apart-said : {r : Bool} → r ≡ nextApart n s e → ApartSaid k n s e r
+  unfolding areasApart
+  apart-said q = record { says = q ∙ bool-ext _ _ to back ∙ pairs-apart k; parted = λ u. parted (sym q ∙ u) }

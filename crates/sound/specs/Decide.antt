@@ -7,17 +7,20 @@ use native.Mathlib.Decide.{ℕ-discrete}
 use lib.ListN.{length}
 use lib.Dec.{eqb}
 use borrow.Author.Tests.{eq-eqb, ne-eqb, not-false}
-use Rattle.loops.specs.Every.{all, all-at, all-of}
+use Rattle.loops.specs.Every.{all, all-at, all-of, bool-ext}
+use Rattle.tables.specs.State.{K}
 use Rattle.tables.specs.View.{view}
 use Rattle.tables.specs.Search.{present}
 use Rattle.tables.specs.ZeroRecord.{zeroRecord}
-use Rattle.sound.specs.Clauses.{s1, s2, s3First, s3, s4, s5, s6, s7, s8Backed, s9, s10, s11, sound}
+use Rattle.tables.specs.Areas.{AreasOf, Parted}
+use Rattle.sound.specs.Clauses.{s1, s2, s3First, s3, s4, s5, s6, s7Given, s7, s8Backed, s9, s10, s11, sound}
 use Rattle.sound.specs.Tests.{and-says, and-true, not-says}
 use Rattle.sound.specs.MeansEntries.{present-means}
 use Rattle.sound.specs.MeansWords.{s2-means, s5-means}
-use Rattle.sound.specs.Entries.{Solid}
+use Rattle.sound.specs.Entries.{Solid, exactly, s7-parts}
 use Rattle.sound.specs.Absent.{absent-s3, absent-s4, absent-s5, absent-s6, absent-s7, absent-s8, absent-s9, absent-s10, absent-s11}
-use Rattle.sound.specs.AtOnce.{restAt, shapeAt, Shaped, areasApart, atOnce, Passes, rest-true, rest-says, sound-at-once}
+use Rattle.sound.specs.AtOnce.{restAt, shapeAt, Shaped, areasApart, atOnce, Passes, rest-true, rest-says, sound-at-once, shaped-record}
+use Rattle.sound.specs.Order.{Orders}
 
 -- a test that cannot pass is false
 pub never : (b : Bool) → (b ≡ true → ⊥) → false ≡ b
@@ -80,43 +83,77 @@ module _ (l : List ℕ) (p : ℕ) where
   pub solid : p < 16 → s3 l p && s4 l (view l .k) p && s5 l (view l .k) p ≡ true → Solid (view l .k) p
   solid b q = s5-means l p b .0 (and-says (s3 l p && s4 l (view l .k) p) (s5 l (view l .k) p) q .1) .range
 
--- what the decision comes to: the length is known, the parts are
-pub decided : (l : List ℕ) → length l ≡ 641 → s1 (view l .k) && s3First l ≡ true → all 16 (λ p. s2 l (view l .k) p && restAt l p) ≡ true → areasApart (view l .k) ≡ sound l
-unfolding atOnce
-decided l h a b = and-is _ (areasApart (view l .k)) (and-true _ _ (and-true _ _ (eq-eqb (length l) 641 h) a) b) ∙ sound-at-once l
+-- ── the parts of the decision, in the order of the code ──
+-- what is known before the partitions are looked at one by one
+pub record CanDecide (l o c : List ℕ) (n : ℕ) (s e : List ℕ) : Type 0 where
+  pub shaped : Shaped l
+  pub areas : AreasOf (view l .k) n s e
+  pub parted : Parted n s e
+  pub s6 : all 16 (s6 (view l .k)) ≡ true
+  pub orders : Orders (view l .k) o c
 
-pub not-first : (l : List ℕ) → s1 (view l .k) && s3First l ≡ false → false ≡ sound l
-unfolding atOnce
-not-first l a =
-    never (atOnce l) (λ q.
-    let (r, _) = and-says _ (areasApart (view l .k)) q in
-    let (z, _) = and-says _ (all 16 (λ p. s2 l (view l .k) p && restAt l p)) r in
-    let (_, w) = and-says (eqb (length l) 641) (s1 (view l .k) && s3First l) z in
-    false≢true (sym a ∙ w))
-    ∙ sound-at-once l
+-- what it says, and how it leaves the entries
+pub record Decided (l : List ℕ) (r : Bool) (o c : List ℕ) : Type 0 where
+  pub says : r ≡ sound l
+  pub orders : r ≡ true → Orders (view l .k) o c
 
-pub not-shapes : (l : List ℕ) → all 16 (shapeAt l) ≡ false → false ≡ sound l
-unfolding atOnce shapeAt
-not-shapes l a =
-    never (atOnce l) (λ q.
-    let (r, _) = and-says _ (areasApart (view l .k)) q in
-    let (_, w) = and-says (eqb (length l) 641 && (s1 (view l .k) && s3First l)) (all 16 (λ p. s2 l (view l .k) p && restAt l p)) r in
-    let at : (p : ℕ) → p < 16 → shapeAt l p ≡ true = λ p b.
-    let (x, y) = and-says (s2 l (view l .k) p) (restAt l p) (all-at 16 (λ p. s2 l (view l .k) p && restAt l p) w p b) in
-    let h = rest-says l p y in
-    and-true _ _ x (and-true _ _ (and-true _ _ (h .s3) (h .s4)) (h .s5)) in
-    false≢true (sym a ∙ all-of 16 (shapeAt l) at))
-    ∙ sound-at-once l
+-- the clauses of present_sound, with what each check said
+module _ {l o c : List ℕ} {n : ℕ} {s e : List ℕ} (can : CanDecide l o c n s e) (p : ℕ) (b : p < 16) (here : present (view l .k) p ≡ true) where
+  abbrev k : K
+  k = view l .k
+
+  s7-says : Passes l p → (s7Given k p ≡ true) × (exactly k p ≡ true)
+  s7-says h = and-says (s7Given k p) (exactly k p) (sym (s7-parts k p here) ∙ h .s7)
+
+  pub no-given : s7Given k p ≡ false → false ≡ restAt l p
+  no-given q = rest-no l p (λ h. false≢true (sym q ∙ s7-says h .0))
+
+  pub no-cover : exactly k p && s11 k p ≡ false → false ≡ restAt l p
+  no-cover q = rest-no l p (λ h. false≢true (sym q ∙ and-true _ _ (s7-says h .1) (h .s11)))
+
+  pub rest-regions : s7Given k p ≡ true → exactly k p && s11 k p ≡ true → all 5 (s8Backed k p) ≡ true → s9 (view l) p ≡ true → s10 (view l) p ≡ restAt l p
+  rest-regions g x d q =
+      let (y, z) = and-says (exactly k p) (s11 k p) x in
+      rest-last l p (shaped-record (can .shaped) p b) (and-true _ _ (all-at 16 (s6 k) (can .s6) p b) (s7-parts k p here ∙ and-true _ _ g y)) z d q
+
+module _ (l : List ℕ) where
+  -- the sound tables pass each part
+  pub record Parts : Type 0 where
+    pub first : s1 (view l .k) && s3First l ≡ true
+    pub shapes : all 16 (shapeAt l) ≡ true
+    pub apart : areasApart (view l .k) ≡ true
+    pub s6 : all 16 (s6 (view l .k)) ≡ true
+    pub partitions : all 16 (λ p. s2 l (view l .k) p && restAt l p) ≡ true
+
+  pub parts : sound l ≡ true → Parts
+  unfolding atOnce shapeAt
+  parts q =
+      let (r, w) = and-says _ (areasApart (view l .k)) (sound-at-once l ∙ q) in
+      let (z, u) = and-says (eqb (length l) 641 && (s1 (view l .k) && s3First l)) (all 16 (λ p. s2 l (view l .k) p && restAt l p)) r in
+      let at : (p : ℕ) → p < 16 → (s2 l (view l .k) p ≡ true) × Passes l p = λ p b.
+      let (x, y) = and-says (s2 l (view l .k) p) (restAt l p) (all-at 16 (λ p. s2 l (view l .k) p && restAt l p) u p b) in
+      (x, rest-says l p y) in
+      record {
+        first = and-says (eqb (length l) 641) (s1 (view l .k) && s3First l) z .1;
+        shapes = all-of 16 (shapeAt l) (λ p b. let (x, h) = at p b in and-true _ _ x (and-true _ _ (and-true _ _ (h .s3) (h .s4)) (h .s5)));
+        apart = w;
+        s6 = all-of 16 (s6 (view l .k)) (λ p b. at p b .1 .s6);
+        partitions = u;
+      }
+
+  -- a part that fails: nothing is left to do, and no order is promised
+  pub not-sound : {o c : List ℕ} → (Parts → ⊥) → Decided l false o c
+  not-sound h = record { says = never (sound l) (λ q. h (parts q)); orders = λ q. absurd (false≢true q) }
+
+  -- the last part decides
+  pub decided : {r : Bool} {o c : List ℕ} → length l ≡ 641 → s1 (view l .k) && s3First l ≡ true → areasApart (view l .k) ≡ true → Orders (view l .k) o c
+      → r ≡ all 16 (λ p. s2 l (view l .k) p && restAt l p) → Decided l r o c
+  unfolding atOnce
+  decided h a d orders e = record {
+    says = e ∙ bool-ext _ _ (λ q. sym (sound-at-once l) ∙ and-true _ _ (and-true _ _ (and-true _ _ (eq-eqb (length l) 641 h) a) q) d) (λ q. parts q .partitions);
+    orders = λ _. orders;
+  }
 
 -- the records that pass have their shape
 pub shaped : {l : List ℕ} → all 16 (shapeAt l) ≡ true → Shaped l
 shaped {l} h = record { at = all-at 16 (shapeAt l) h }
-
-pub not-partitions : (l : List ℕ) → all 16 (λ p. s2 l (view l .k) p && restAt l p) ≡ false → false ≡ sound l
-unfolding atOnce
-not-partitions l a =
-    never (atOnce l) (λ q.
-    let (r, _) = and-says _ (areasApart (view l .k)) q in
-    let (_, w) = and-says (eqb (length l) 641 && (s1 (view l .k) && s3First l)) (all 16 (λ p. s2 l (view l .k) p && restAt l p)) r in
-    false≢true (sym a ∙ w))
-    ∙ sound-at-once l

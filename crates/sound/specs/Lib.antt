@@ -15,6 +15,7 @@ pub mod Properties
 pub mod Whole
 pub mod Settled
 pub mod AtOnce
+pub mod Order
 pub mod Used
 pub mod Absent
 pub mod Records
@@ -22,4 +23,6 @@ pub mod Opening
 pub mod Backing
 pub mod Entries
 pub mod Decide
+pub mod Arrange
+pub mod Tiles
 pub mod Holders

@@ -177,7 +177,7 @@ module _ (k : K) (slots : Slots32 k) where
   )
 
   -- where each entry has a line
-  root-means : (p : ℕ) → ((i : ℕ) (e : Entry) → k .slot p i ≡ some e → e .start < e .stop)
+  pub root-means : (p : ℕ) → ((i : ℕ) (e : Entry) → k .slot p i ≡ some e → e .start < e .stop)
       → (s7Root k p ≡ true) ↔ ((l : ℕ) → Holds (k .slot) p l ↔ ((k .base ≤ l) × (l < k .stop)))
   unfolding s7Root
   root-means p ranged = (
@@ -197,7 +197,7 @@ module _ (k : K) (slots : Slots32 k) where
         and-true _ _ (le-leb (k .base) (e .start) (x .0)) (le-leb (e .stop) (k .stop) (omega arith)))),
   )
 
-  inside-means : (p : ℕ) → (s7Inside k p ≡ true) ↔ ((i : ℕ) (e : Entry) → k .slot p i ≡ some e → (j : ℕ) × (f : Entry) × Granted k p e j f)
+  pub inside-means : (p : ℕ) → (s7Inside k p ≡ true) ↔ ((i : ℕ) (e : Entry) → k .slot p i ≡ some e → (j : ℕ) × (f : Entry) × Granted k p e j f)
   unfolding s7Inside
   inside-means p = (
     λ q i e u.
@@ -209,7 +209,7 @@ module _ (k : K) (slots : Slots32 k) where
         some-means _ (k .parent p) .1 (j, f, g .at, grants-means p e f .1 (g .given, g .around))),
   )
 
-  cover-means : (p : ℕ) → (s7Cover k p ≡ true)
+  pub cover-means : (p : ℕ) → (s7Cover k p ≡ true)
       ↔ ((i : ℕ) (f : Entry) → k .slot (k .parent p) i ≡ some f → f .given ≡ p → (l : ℕ) → In l f → Holds (k .slot) p l)
   unfolding s7Cover
   cover-means p = (

@@ -2,13 +2,10 @@ ghost use mathlib.Core.Path.{_≡_};
 ghost use Prim.Native.Nat.{_≤_, _<_};
 ghost use Rattle.loops.specs.Every.{all};
 ghost use Rattle.tables.specs.View.{entryIn, view};
-ghost use Rattle.tables.specs.Gather.{eachOf, pairsOf};
-ghost use Rattle.tables.specs.Areas.{off};
 ghost use Rattle.sound.specs.Clauses.{equals, s8Backed};
 ghost use Rattle.sound.specs.AtOnce.{Shaped};
-ghost use Rattle.sound.specs.Backing.{between, backs};
+ghost use Rattle.sound.specs.Backing.{between, backs, nextApart};
 use crate::is_rooted;
-use tables::areas::hit;
 use tables::read;
 use words::Line;
 use words::Partition;
@@ -100,28 +97,14 @@ pub fn areas_backed(t: &[u64; 641], p: Partition) -> bool
     true
 }
 
-// a to b shares no line with one of the first n. The loop has no early way out, so that it works on several at once.
-fn off_first(n: usize, s: &[u32; 80], e: &[u32; 80], a: u32, b: u32) -> bool
-    requires { ⌜ n ≤ 80 ⌝ }
-    ensures { λ r. ⌜ r ≡ eachOf (off a b) n (now (s .entry)) (now (e .entry)) ⌝ }
-{
-    let mut x = 0u32;
-    let mut k = 0usize;
-    while k < n {
-        x += hit(a, b, s[k], e[k]);
-        k += 1;
-    }
-    x == 0
-}
-
-// no two of the gathered areas share a line
+// No two of the gathered areas share a line: they stand by rising start, so neighbours decide.
 pub fn areas_apart(n: usize, s: &[u32; 80], e: &[u32; 80]) -> bool
     requires { ⌜ n ≤ 80 ⌝ }
-    ensures { λ r. ⌜ r ≡ pairsOf off n (now (s .entry)) (now (e .entry)) ⌝ }
+    ensures { λ r. ⌜ r ≡ nextApart n (now (s .entry)) (now (e .entry)) ⌝ }
 {
     let mut k = 0usize;
-    while k < n {
-        if !off_first(k, s, e, s[k], e[k]) {
+    while k + 1 < n {
+        if s[k + 1] < e[k] {
             return false;
         }
         k += 1;

@@ -1,16 +1,19 @@
 ghost use mathlib.Core.Path.{_≡_};
 ghost use mathlib.Core.Bool.{true, _&&_};
 ghost use Prim.Native.Nat.{_<_};
+ghost use lib.ListN.{length};
 ghost use Rattle.loops.specs.Every.{all};
 ghost use Rattle.tables.specs.View.{view};
 ghost use Rattle.tables.specs.Search.{present};
-ghost use Rattle.tables.specs.Areas.{AreasOf};
 ghost use Rattle.sound.specs.Clauses.{s2, sound};
-ghost use Rattle.sound.specs.AtOnce.{restAt, shapeAt, Shaped};
+ghost use Rattle.sound.specs.AtOnce.{restAt, shapeAt};
+ghost use Rattle.sound.specs.Decide.{CanDecide, Decided};
+use crate::arrange::arrange;
 use crate::backing;
 use crate::entries;
 use crate::opening;
 use crate::records;
+use crate::tiles;
 use words::Partition;
 
 // S2 to S5 at p: an absent partition costs only the test that it is zero
@@ -41,44 +44,68 @@ fn shapes_sound(t: &[u64; 641]) -> bool
     true
 }
 
-// The clauses from S6 on at a present partition, but for areas that share a line. The areas are gathered.
-fn present_sound(t: &[u64; 641], p: Partition, n: usize, s: &[u32; 80], e: &[u32; 80]) -> bool
-    requires { ⌜ (p .0 < 16) × (present (view (now t) .k) (p .0) ≡ true) × AreasOf (view (now t) .k) n (now s) (now e) × Shaped (now t) ⌝ }
+// The clauses from S7 on at a present partition, but for areas that share a line.
+fn present_sound(
+    t: &[u64; 641],
+    p: Partition,
+    order: &[u8; 512],
+    counts: &[u32; 16],
+    n: usize,
+    s: &[u32; 80],
+    e: &[u32; 80],
+) -> bool
+    requires { ⌜ (p .0 < 16) × (present (view (now t) .k) (p .0) ≡ true) × CanDecide (now t) (now order) (now counts) n (now s) (now e) ⌝ }
     ensures { λ r. ⌜ r ≡ restAt (now (t .entry)) (p .0) ⌝ }
 {
-    if !entries::entries_sound(t, p) {
+    if !entries::given_each(t, p) {
         return false;
     }
-    if !entries::rights_sound(t, p) {
+    if !tiles::covers(t, p, order, counts) {
         return false;
     }
     if !backing::areas_backed(t, p) {
         return false;
     }
-    if !opening::opens_right(t, p, n, s, e) {
+    let c = counts[p.0 as usize];
+    if !opening::opens_right(t, p, order, c, n, s, e) {
         return false;
     }
     opening::regions_right(t, p)
 }
 
 // where p is present
-fn partition_sound(t: &[u64; 641], p: Partition, n: usize, s: &[u32; 80], e: &[u32; 80]) -> bool
-    requires { ⌜ (p .0 < 16) × AreasOf (view (now t) .k) n (now s) (now e) × Shaped (now t) ⌝ }
+fn partition_sound(
+    t: &[u64; 641],
+    p: Partition,
+    order: &[u8; 512],
+    counts: &[u32; 16],
+    n: usize,
+    s: &[u32; 80],
+    e: &[u32; 80],
+) -> bool
+    requires { ⌜ (p .0 < 16) × CanDecide (now t) (now order) (now counts) n (now s) (now e) ⌝ }
     ensures { λ r. ⌜ r ≡ s2 (now (t .entry)) (view (now (t .entry)) .k) (p .0) && restAt (now (t .entry)) (p .0) ⌝ }
 {
     if !tables::search::is_present(t, p) {
         return true;
     }
-    present_sound(t, p, n, s, e)
+    present_sound(t, p, order, counts, n, s, e)
 }
 
-fn partitions_sound(t: &[u64; 641], n: usize, s: &[u32; 80], e: &[u32; 80]) -> bool
-    requires { ⌜ AreasOf (view (now t) .k) n (now s) (now e) × Shaped (now t) ⌝ }
+fn partitions_sound(
+    t: &[u64; 641],
+    order: &[u8; 512],
+    counts: &[u32; 16],
+    n: usize,
+    s: &[u32; 80],
+    e: &[u32; 80],
+) -> bool
+    requires { ⌜ CanDecide (now t) (now order) (now counts) n (now s) (now e) ⌝ }
     ensures { λ r. ⌜ r ≡ all 16 (λ p. s2 (now (t .entry)) (view (now (t .entry)) .k) p && restAt (now (t .entry)) p) ⌝ }
 {
     let mut p = 0u32;
     while p < 16 {
-        if !partition_sound(t, Partition(p), n, s, e) {
+        if !partition_sound(t, Partition(p), order, counts, n, s, e) {
             return false;
         }
         p += 1;
@@ -86,9 +113,10 @@ fn partitions_sound(t: &[u64; 641], n: usize, s: &[u32; 80], e: &[u32; 80]) -> b
     true
 }
 
-// Exactly the sound tables pass.
-pub fn is_sound(t: &[u64; 641]) -> bool
-    ensures { λ r. ⌜ r ≡ sound (now (t .entry)) ⌝ }
+// Exactly the sound tables pass. Of such a table the entries are left in order, for who lists its runs.
+pub fn is_ordered(t: &[u64; 641], order: &mut [u8; 512], counts: &mut [u32; 16]) -> bool
+    requires { ⌜ (length (now order) ≡ 512) × (length (now counts) ≡ 16) ⌝ }
+    ensures { λ r. ⌜ Decided (now (t .entry)) r (now (order .exit)) (now (counts .exit)) ⌝ }
 {
     tables::sized(t);
     if !records::first_sound(t) {
@@ -101,8 +129,20 @@ pub fn is_sound(t: &[u64; 641]) -> bool
     let n = a.n;
     let s = a.starts;
     let e = a.ends;
-    if !partitions_sound(t, n, &s, &e) {
+    if !backing::areas_apart(n, &s, &e) {
         return false;
     }
-    backing::areas_apart(n, &s, &e)
+    if !arrange(t, order, counts) {
+        return false;
+    }
+    partitions_sound(t, order, counts, n, &s, &e)
+}
+
+// Exactly the sound tables pass.
+pub fn is_sound(t: &[u64; 641]) -> bool
+    ensures { λ r. ⌜ r ≡ sound (now (t .entry)) ⌝ }
+{
+    let mut order = [0u8; 512];
+    let mut counts = [0u32; 16];
+    is_ordered(t, &mut order, &mut counts)
 }

@@ -2,12 +2,15 @@ ghost use mathlib.Core.Path.{_≡_};
 ghost use Rattle.sound.specs.Clauses.{rooted};
 
 // When a table is sound, and who holds a line of it.
+pub mod arrange;
 pub mod backing;
 pub mod decide;
 pub mod entries;
 pub mod holders;
 pub mod opening;
+pub mod order;
 pub mod records;
+pub mod tiles;
 pub mod used;
 
 use words::Partition;

@@ -1,12 +1,10 @@
 ghost use mathlib.Core.Path.{_≡_};
-ghost use Prim.Native.Nat.{_<_};
+ghost use Prim.Native.Nat.{_≤_, _<_};
 ghost use Rattle.tables.specs.View.{view};
 ghost use Rattle.tables.specs.Seen.{SeenRegions};
-ghost use Rattle.tables.specs.Areas.{AreasOf};
 ghost use Rattle.sound.specs.Clauses.{s9, s10};
-ghost use Rattle.sound.specs.AtOnce.{Shaped};
-ghost use Rattle.sound.specs.Opening.{openRight, someLoaded, isOpen, other, others, regionRight};
-use tables::areas;
+ghost use Rattle.sound.specs.Opening.{Skipped, noneBefore, CanOpen, someLoaded, isOpen, other, others, regionRight};
+use crate::order::entry_at;
 use tables::read;
 use tables::regions;
 use words::Partition;
@@ -14,34 +12,54 @@ use words::Slot;
 use words::regions_word::Region;
 use words::regions_word::RegionsFields;
 
-// the open bit of slot i of p is what S9 derives; an empty slot has none set
-fn open_right(t: &[u64; 641], p: Partition, i: Slot, n: usize, s: &[u32; 80], e: &[u32; 80]) -> bool
-    requires { ⌜ (p .0 < 16) × (i .0 < 32) × AreasOf (view (now t) .k) n (now s) (now e) ⌝ }
-    ensures { λ r. ⌜ r ≡ openRight (view (now (t .entry))) (p .0) (i .0) ⌝ }
+// The first area from number a on that ends after the line. Those before it are done with: the entries come by rising start.
+fn skip_areas(n: usize, e: &[u32; 80], a: usize, line: u32) -> usize
+    requires { ⌜ (n ≤ 80) × (a ≤ n) ⌝ }
+    ensures { λ r. ⌜ Skipped n (now (e .entry)) a line r ⌝ }
 {
-    let f = read::entry(t, p, i);
-    if !f.present {
-        return !f.opened;
+    let mut b = a;
+    while b < n {
+        if e[b] > line {
+            return b;
+        }
+        b += 1;
     }
-    let clear = areas::clear_of(n, s, e, f.start.0, f.end.0);
-    if f.opened {
-        return clear;
-    }
-    !clear
+    b
 }
 
-// S9 of p, with the areas that were gathered
-pub fn opens_right(t: &[u64; 641], p: Partition, n: usize, s: &[u32; 80], e: &[u32; 80]) -> bool
-    requires { ⌜ (p .0 < 16) × AreasOf (view (now t) .k) n (now s) (now e) × Shaped (now t) ⌝ }
+// no area from number a on starts before the line
+fn none_before(n: usize, s: &[u32; 80], a: usize, line: u32) -> bool
+    requires { ⌜ n ≤ 80 ⌝ }
+    ensures { λ r. ⌜ r ≡ noneBefore n (now (s .entry)) a line ⌝ }
+{
+    if a < n {
+        return s[a] >= line;
+    }
+    true
+}
+
+// S9 of p, which has c entries: they and the areas are walked side by side, both by rising start.
+pub fn opens_right(
+    t: &[u64; 641],
+    p: Partition,
+    order: &[u8; 512],
+    c: u32,
+    n: usize,
+    s: &[u32; 80],
+    e: &[u32; 80],
+) -> bool
+    requires { ⌜ CanOpen (now t) (p .0) (now order) c n (now s) (now e) ⌝ }
     ensures { λ r. ⌜ r ≡ s9 (view (now (t .entry))) (p .0) ⌝ }
 {
-    let used = crate::used::used_slots(t, p);
-    let mut i = 0u32;
-    while i < used {
-        if !open_right(t, p, Slot(i), n, s, e) {
+    let mut a = 0usize;
+    let mut k = 0u32;
+    while k < c {
+        let f = entry_at(t, p, order, k);
+        a = skip_areas(n, e, a, f.start.0);
+        if f.opened != none_before(n, s, a, f.end.0) {
             return false;
         }
-        i += 1;
+        k += 1;
     }
     true
 }

@@ -1,4 +1,4 @@
--- The bytes of a table, record by record. Of a record whose bytes are zero nothing has to be loaded or stored.
+-- The bytes of a table, record by record. Of a record that is zero nothing has to be loaded or stored.
 use mathlib.Core.Path.{_≡_, refl, ap, sym, subst, _∙_}
 use mathlib.Core.Bool.{Bool, true}
 use mathlib.Core.List.{List}
@@ -7,7 +7,7 @@ use native.Mathlib.Nat.{add-zero, add-assoc}
 use native.Mathlib.Omega.{arith}
 use native.Mathlib.Decide.{decLt}
 use lib.Dec.{eqb}
-use lib.ListN.{length, getD, set, replicate, length-replicate, getD-replicate, length-set}
+use lib.ListN.{length, getD, set, List·getD-eq-default, replicate, length-replicate, getD-replicate, length-set}
 use lib.Seq.{getD-set-same, getD-set-other}
 use borrow.Author.Count.{below-more}
 use borrow.Author.Tests.{eqb-true}
@@ -27,10 +27,15 @@ zeroBytes b p = all 320 (λ o. eqb (getD b (8 + 320 * p + o) 0) 0)
 abbrev pub Loading : List ℕ → ℕ → List ℕ → Type 0
 Loading b k t = Filling (λ i x. wordAt b i) (replicate 641 0) 641 k t
 
--- the bytes of s below n are those of the table l
-pub record StoredTo (l : List ℕ) (n : ℕ) (s : List ℕ) : Type 0 where
+-- the bytes of s from n on are zero
+pub record ZeroFrom (n : ℕ) (s : List ℕ) : Type 0 where
   pub size : length s ≡ 5128
+  pub zero : (i : ℕ) → n ≤ i → getD s i 0 ≡ 0
+
+-- the bytes of s below n are those of the table l, and the others are zero
+pub record StoredTo (l : List ℕ) (n : ℕ) (s : List ℕ) : Type 0 where
   pub below : (i : ℕ) → i < n → getD s i 0 ≡ byteOf l i
+  pub rest : ZeroFrom n s
 
 -- .. those of the words below k
 abbrev pub Storing : List ℕ → ℕ → List ℕ → Type 0
@@ -77,13 +82,24 @@ record-byte l p z i h g = rw (word (i / 8 - (1 + 40 * p)) (omega arith) (omega a
     word o e h = rw e (zero-word l p z o h)
 
 -- ── stored ──
-pub store-start : {s : List ℕ} (l : List ℕ) → length s ≡ 5128 → Storing l 0 s
-store-start l h = record { size = h; below = λ i b. absurd (omega arith) }
+-- bytes cleared one by one
+pub cleared : {l s : List ℕ} {i : ℕ} → Filling (λ _ _. 0) l 5128 i s → 5128 ≤ i → ZeroFrom 0 s
+cleared {l} {s} inv h = record { size = inv .size; zero = λ j _. go j (decLt j 5128) }
+  where
+    go : (j : ℕ) → Dec (j < 5128) → getD s j 0 ≡ 0
+    go j (yes q) = inv .below j (omega arith)
+    go j (no q) = List·getD-eq-default s 0 {n = j} (omega (arith, inv .size))
+
+pub store-start : {s : List ℕ} (l : List ℕ) → ZeroFrom 0 s → Storing l 0 s
+store-start l h = record { below = λ i b. absurd (omega arith); rest = h }
 
 put-byte : {l s : List ℕ} {n v : ℕ} → StoredTo l n s → n < 5128 → v ≡ byteOf l n → StoredTo l (n + 1) (set s n v)
 put-byte {l} {s} {n} {v} inv h q = record {
-  size = length-set s n v ∙ inv .size;
-  below = below-more _ n (λ i b. getD-set-other s n i v 0 (λ z. omega arith) ∙ inv .below i b) (getD-set-same s n v 0 (omega (arith, inv .size)) ∙ q);
+  below = below-more _ n (λ i b. getD-set-other s n i v 0 (λ z. omega arith) ∙ inv .below i b) (getD-set-same s n v 0 (omega (arith, inv .rest .size)) ∙ q);
+  rest = record {
+    size = length-set s n v ∙ inv .rest .size;
+    zero = λ i b. getD-set-other s n i v 0 (λ z. omega arith) ∙ inv .rest .zero i (omega arith);
+  };
 }
 
 -- one word more is eight bytes more
@@ -94,21 +110,24 @@ store-word {l} {s} {k = k} inv h r =
     (done-keeps _ s (λ j s. StoredTo l (8 * k + j) s) 8 (rw add-zero inv)
     (λ j s q f. rw (← add-assoc) (put-byte f (omega arith) (sym (byte-place l k j q)))))
 
--- both records are zero: its bytes stand there already
-pub store-skip : {l s : List ℕ} (p : ℕ) → zeroRecord l p ≡ true → zeroBytes s p ≡ true → Storing l (1 + 40 * p) s → Storing l (41 + 40 * p) s
-store-skip {l} {s} p z y inv = record { size = inv .size; below = λ i h. go i h (decLt i (8 * (1 + 40 * p))) }
+-- a zero record: its bytes stand there already
+pub store-skip : {l s : List ℕ} (p : ℕ) → zeroRecord l p ≡ true → Storing l (1 + 40 * p) s → Storing l (41 + 40 * p) s
+store-skip {l} {s} p z inv = record {
+  below = λ i h. go i h (decLt i (8 * (1 + 40 * p)));
+  rest = record { size = inv .rest .size; zero = λ i b. inv .rest .zero i (omega arith) };
+}
   where
     go : (i : ℕ) → i < 8 * (41 + 40 * p) → Dec (i < 8 * (1 + 40 * p)) → getD s i 0 ≡ byteOf l i
     go i h (yes q) = inv .below i q
-    go i h (no q) = zero-byte s p y i (omega arith) (omega arith) ∙ sym (record-byte l p z i (omega arith) (omega arith))
+    go i h (no q) = inv .rest .zero i (omega arith) ∙ sym (record-byte l p z i (omega arith) (omega arith))
 
 pub store-end : {l s : List ℕ} → Storing l 641 s → s ≡ bytesOf l
 unfolding bytesOf
-store-end {l} {s} inv = tab-is 5128 (byteOf l) s (inv .size) (inv .below)
+store-end {l} {s} inv = tab-is 5128 (byteOf l) s (inv .rest .size) (inv .below)
 
 -- ── loaded ──
-pub load-start : (b : List ℕ) → Loading b 0 (replicate 641 0)
-load-start b = fill-start (length-replicate {A = ℕ} 641 0)
+pub load-start : (b : List ℕ) {t : List ℕ} → t ≡ replicate 641 0 → Loading b 0 t
+load-start b e = rw e (fill-start (length-replicate {A = ℕ} 641 0))
 
 pub load-end : (b : List ℕ) {t : List ℕ} → Loading b 641 t → t ≡ wordsOf b
 unfolding wordsOf

@@ -11,6 +11,8 @@ pub mod Seen
 pub mod Search
 pub mod Answers
 pub mod Regions
+pub mod Rising
+pub mod Room
 pub mod Store
 pub mod Fitting
 pub mod CanWrite

@@ -1,8 +1,8 @@
 ghost use mathlib.Core.Path.{_≡_};
 ghost use Prim.Native.Nat.{_+_, _*_, _<_};
-ghost use lib.ListN.{length};
+ghost use lib.ListN.{length, replicate};
 ghost use Rattle.tables.specs.Bytes.{wordAt, wordsOf, bytesOf, putWord};
-ghost use Rattle.tables.specs.ByteRecords.{zeroBytes, Loading, Storing};
+ghost use Rattle.tables.specs.ByteRecords.{zeroBytes, Loading, ZeroFrom, Storing};
 use words::Partition;
 
 // Two bytes as a number. A word summed up from pairs compiles to one read of eight bytes; a sum of eight bytes does not.
@@ -23,7 +23,7 @@ fn word(b: &[u8], k: usize) -> u64
             + (pair(b[i + 4], b[i + 5]) * 0x1_0000 + pair(b[i + 6], b[i + 7])))
 }
 
-// The 320 bytes of record p are zero. Most records are absent, and to see that is quicker than to load or store them.
+// The 320 bytes of record p are zero. Most records are absent, and to see that is quicker than to load them.
 fn zero_bytes(b: &[u8], p: Partition) -> bool
     requires { ⌜ (length (now b) ≡ 5128) × (p .0 < 16) ⌝ }
     ensures { λ r. ⌜ r ≡ zeroBytes (now (b .entry)) (p .0) ⌝ }
@@ -54,12 +54,11 @@ fn load_record(b: &[u8], p: Partition, t: &mut [u64; 641])
     }
 }
 
-// The bytes as a table.
+// The bytes as a table; its words are zero so far.
 pub fn load(b: &[u8], t: &mut [u64; 641])
-    requires { ⌜ length (now b) ≡ 5128 ⌝ }
+    requires { ⌜ (length (now b) ≡ 5128) × (now t ≡ replicate 641 0) ⌝ }
     ensures { λ _. ⌜ now (t .exit) ≡ wordsOf (now (b .entry)) ⌝ }
 {
-    *t = [0u64; 641];
     t[0] = word(b, 0);
     let mut p = 0u32;
     while p < 16 {
@@ -84,15 +83,25 @@ fn put(b: &mut [u8], k: usize, w: u64)
     b[i + 7] = (w % 256) as u8;
 }
 
-// Record p, unless both are zero.
+// All bytes zero. The loop compiles to one fill.
+fn clear(b: &mut [u8])
+    requires { ⌜ length (now b) ≡ 5128 ⌝ }
+    ensures { λ _. ⌜ ZeroFrom 0 (now (b .exit)) ⌝ }
+{
+    let mut i = 0usize;
+    while i < 5128 {
+        b[i] = 0;
+        i += 1;
+    }
+}
+
+// Record p; its bytes are zero so far.
 fn store_record(t: &[u64; 641], p: Partition, b: &mut [u8])
     requires { ⌜ (p .0 < 16) × Storing (now t) (1 + 40 * p .0) (now b) ⌝ }
     ensures { λ _. ⌜ Storing (now (t .entry)) (41 + 40 * p .0) (now (b .exit)) ⌝ }
 {
     if crate::areas::zero_record(t, p) {
-        if zero_bytes(b, p) {
-            return;
-        }
+        return;
     }
     let mut k = (1 + 40 * p.0) as usize;
     let end = (41 + 40 * p.0) as usize;
@@ -102,11 +111,12 @@ fn store_record(t: &[u64; 641], p: Partition, b: &mut [u8])
     }
 }
 
-// The table as bytes.
+// The table as bytes. Most records are absent: to fill all bytes with zeros at once is quicker than to store those.
 pub fn store(t: &[u64; 641], b: &mut [u8])
     requires { ⌜ length (now b) ≡ 5128 ⌝ }
     ensures { λ _. ⌜ now (b .exit) ≡ bytesOf (now (t .entry)) ⌝ }
 {
+    clear(b);
     put(b, 0, t[0]);
     let mut p = 0u32;
     while p < 16 {

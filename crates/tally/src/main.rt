@@ -125,15 +125,12 @@ fn print_run(t: &[u64; 641], run: Run) {
 
 // No table has more than 512 runs.
 fn print_runs(t: &[u64; 641]) {
-    let plan = runs::listing::plan_of(t, 512);
+    let mut marks = [0u32; 513];
+    let plan = runs::listing::plan_of(t, 512, &mut marks);
     let number = plan.number;
-    let mut c = plan.first;
     let mut i = 0usize;
     while i < number {
-        let step = runs::steps::lengthen(t, c);
-        let run = step.run;
-        print_run(t, run);
-        c = step.next;
+        print_run(t, runs::listing::run_between(marks[i], marks[i + 1]));
         i += 1;
     }
 }

@@ -1,6 +1,10 @@
-use mathlib.Core.Path.{refl, sym, _∙_}
+use mathlib.Core.Path.{_≡_, refl, ap, sym, _∙_}
+use mathlib.Core.Logic.{⊎-elim}
+use lib.ListN.{length}
+use borrow.Author.Tests.{not-false}
+use Rattle.tables.specs.Bytes.{bytesOf}
 use Rattle.services.specs.Brief.{call-brief, first-small, number-small}
-use Rattle.board.specs.Board.{call-none, call-lent, call-kept, call-caller}
+use Rattle.board.specs.Board.{call-none, call-lent, call-stands, call-kept, call-caller}
 use native.Mathlib.Omega.{arith}
 use borrow.Author.Needs.{needs}
 use Rattle.board.proofs.ulavrepit_call.Statement.{statement}
@@ -12,14 +16,26 @@ ulavrepit-call-spec =
     (tie.spec
     (λ c κs. (omega arith, omega arith, omega arith))
     (λ c. call-none _ (c .before .if1 .taken) (c .packed .ensures))
-    (λ c κs. c .before .before .if1 .left)
+    (λ c κs. (c .before .before .if1 .left, refl))
     (λ c κs. search needs)
     (λ c. search needs)
-    (λ c κs. c .before .before .before .before .before .before .before .before .before .before .before .if1 .left)
-    (λ c κs. (omega arith, omega (arith, call-caller _ (c .before .before .before .before .before .before .before .before .before .before .before .before .before .before .if1 .left) (c .before .before .before .before .before .before .before .before .before .before .before .load .ensures) (c .before .before .before .before .before .before .before .before .before .call-table .ensures)), omega (arith, first-small (call-brief _ _) (sym (c .before .before .before .before .before .before .before .before .before .call-table .ensures .ran .outcome) ∙ c .before .before .before .before .before .before .outcome .given .1))))
+    (λ c κs. search needs)
+    (λ c κs. c .before .before .before .before .before .before .before .before .before .before .before .before .before .if1 .left)
+    (λ c κs. (omega arith, omega (arith, call-caller _ (c .before .before .before .before .before .before .before .before .before .before .before .if1 .left) (c .before .before .before .before .before .before .before .before .load .ensures) (c .before .before .before .before .before .before .call-table .ensures)), omega (arith, first-small (call-brief _ _) (sym (c .before .before .before .before .before .before .call-table .ensures .ran .outcome) ∙ c .before .before .before .outcome .given .1))))
     (λ c. search needs)
     (λ c κs. (omega (arith, number-small (call-brief _ _) (sym (c .before .before .before .before .call-table .ensures .ran .outcome) ∙ c .before .outcome2 .given .1)), omega (arith, call-caller _ (c .before .before .before .before .before .before .before .before .before .if1 .left) (c .before .before .before .before .before .before .load .ensures) (c .before .before .before .before .call-table .ensures)), omega arith))
-    (λ c. search needs)
-    (λ c. call-lent _ (c .before .before .before .before .before .before .before .before .before .before .before .before .before .before .before .if1 .left) (c .before .before .before .before .before .before .before .before .before .before .before .before .load .ensures) (c .before .before .before .before .before .before .before .before .before .before .call-table .ensures) (c .before .before .before .before .before .before .before .outcome .given .1) (c .packed2 .ensures) (c .before .before .before .store .ensures) refl)
+    (λ c. ⊎-elim (λ z. ap length (z .6) ∙ z .3 .kept .1 .0) (λ z. ap length (z .1)) (c .before .if2 .came))
+    (λ c.
+    let size = c .before .before .before .before .before .before .before .before .before .before .before .before .if1 .left in
+    let load = c .before .before .before .before .before .before .before .before .before .load .ensures in
+    let answer = c .before .before .before .before .before .before .before .call-table .ensures in
+    let small = c .before .before .before .before .before .before .before .before .before .before .before .before .before .slice-known .given in
+    let reads = c .before .before .only-reads .ensures in
+    call-lent _ size load answer (c .before .before .before .before .outcome .given .1) (c .packed2 .ensures)
+    (⊎-elim {C = c .before .if2 .table ≡ bytesOf (c .before .before .before .before .before .before .before .call-table .last .0)}
+    (λ z. z .6 ∙ z .3 .ensures)
+    (λ z. z .1 ∙ call-stands _ size load answer (λ i. small i .fits) (sym reads ∙ not-false _ (z .0 .left)))
+    (c .before .if2 .came))
+    refl)
     (λ c. search needs)
     (λ c. call-kept _ (c .before .before .before .before .before .before .before .before .before .before .if1 .left) (c .before .before .before .before .before .before .before .load .ensures) (c .before .before .before .before .before .call-table .ensures) (c .before .before .outcome2 .given .1) (c .packed3 .ensures)))

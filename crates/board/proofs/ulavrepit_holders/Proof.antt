@@ -11,7 +11,7 @@ ulavrepit-holders-spec =
     (tie.spec
     (λ c κs. (omega arith, omega arith, omega arith))
     (λ c. list-none _ (c .before .if1 .taken) (c .packed .ensures))
-    (λ c κs. c .before .if1 .left)
+    (λ c κs. (c .before .if1 .left, refl))
     (λ c κs. search needs)
     (λ c. search needs)
     (λ c κs. (omega arith, omega arith, omega (arith, holders-first _ _ _ (sym (c .before .before .before .before .before .holders-table .ensures .outcome) ∙ c .before .outcome .given .1))))

@@ -1,17 +1,17 @@
 use mathlib.Core.Path.{ap}
 use Prim.Native.Nat.{_-_, _≤_}
 use Rattle.runs.specs.declared.listing.Plan.{Plan}
-use Rattle.runs.specs.Listing.{plan-sound}
+use Rattle.runs.specs.Listing.{plan-fits}
 use native.Mathlib.Omega.{arith}
 use borrow.Author.Needs.{needs}
 use Rattle.tally.proofs.print_runs.Statement.{statement}
 use Rattle.tally.proofs.print_runs.Tie as tie
 
 abbrev Inv-loop : tie.InvT-loop
-Inv-loop t number c₀ i₀ c i = i ≤ number
+Inv-loop t marks number i₀ i = (i ≤ number) × (number ≤ 512)
 
 abbrev μ-loop : tie.MeasureT-loop
-μ-loop t number c₀ i₀ c i = number - i
+μ-loop t marks number i₀ i = number - i
 
 pub print-runs-spec : {M : Type 1} → statement M
 print-runs-spec =
@@ -20,8 +20,13 @@ print-runs-spec =
     Inv-loop
     μ-loop
     (λ c κs. search needs)
+    (λ c. (omega arith, omega (arith, ap (λ (p : Plan). p .number) (c .plan-of .ensures .0), plan-fits (c .before .before .args .t .now) 512 .1)))
     (λ c. search needs)
-    (λ c κs. plan-sound (c .before .before .before .before .args .t .now) 512 (c .before .loop .i) (omega (arith, ap (λ (p : Plan). p .number) (c .before .before .before .plan-of .ensures))))
+    (λ c. search needs)
+    (λ c. search needs)
+    (λ c. search needs)
+    (λ c. search needs)
+    (λ c κs. search needs)
     (λ c κs. search needs)
     (λ c. search needs)
     (λ c. search needs)

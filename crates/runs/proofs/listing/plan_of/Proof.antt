@@ -1,9 +1,7 @@
-use mathlib.Core.Path.{sym, _∙_}
+use mathlib.Core.Path.{_∙_}
 use native.Mathlib.Omega.{arith}
 use borrow.Author.Needs.{needs}
-use borrow.Author.Tests.{not-true}
-use Rattle.sound.specs.Decide.{passed}
-use Rattle.runs.specs.Listing.{plan-unsound, plan-short, plan-done}
+use Rattle.runs.specs.Listing.{decided-unsound, decided-sound, decided-order, plan-unsound, plan-short, plan-done, marks-unsound, marks-sound}
 use Rattle.runs.proofs.listing.plan_of.Statement.{statement}
 use Rattle.runs.proofs.listing.plan_of.Tie as tie
 
@@ -13,10 +11,14 @@ plan-of-spec =
     (tie.spec
     (λ c κs. search needs)
     (λ c κs. search needs)
-    (λ c. c .refuse .ensures ∙ plan-unsound _ _ (sym (c .before .before .is-sound .ensures) ∙ not-true _ (c .before .if1 .taken)))
-    (λ c κs. passed (c .before .is-sound .ensures) (c .if1 .left))
+    (λ c.
+    let u = decided-unsound (c .before .before .is-ordered .ensures) (c .before .if1 .taken) in
+    (c .refuse .ensures ∙ plan-unsound _ _ u, marks-unsound _ _ u))
+    (λ c κs. (decided-sound (c .before .before .before .is-ordered .ensures) (c .before .before .if1 .left), decided-order (c .before .before .before .is-ordered .ensures) (c .before .before .if1 .left), c .before .before .before .before .before .before .pre))
     (λ c κs. search needs)
-    (λ c. c .refuse2 .ensures ∙ plan-short _ _ (passed (c .before .before .before .before .is-sound .ensures) (c .before .before .before .if1 .left)) (c .before .before .count .ensures) (c .before .if2 .taken))
-    (λ c κs. search needs)
-    (λ c κs. c .before .first .ensures .base-small)
-    (λ c. plan-done _ _ (passed (c .before .before .before .before .before .before .is-sound .ensures) (c .before .before .before .before .before .if1 .left)) (c .before .before .before .before .count .ensures) (omega (arith, c .before .before .before .if2 .left)) (c .before .before .first .ensures .base) (c .piece .ensures)))
+    (λ c.
+    let s = decided-sound (c .before .before .before .before .before .before .is-ordered .ensures) (c .before .before .before .before .before .if1 .left) in
+    (c .refuse2 .ensures ∙ plan-short _ _ s (c .before .before .mark-runs .ensures .0) (c .before .if2 .taken), marks-sound _ _ s (c .before .before .mark-runs .ensures .1)))
+    (λ c.
+    let s = decided-sound (c .before .before .before .before .before .is-ordered .ensures) (c .before .before .before .before .if1 .left) in
+    (plan-done _ _ s (c .before .mark-runs .ensures .0) (omega arith), marks-sound _ _ s (c .before .mark-runs .ensures .1))))

@@ -1,19 +1,39 @@
-use mathlib.Core.Path.{sym, _∙_}
-use Rattle.tables.specs.Search.{lowest-some}
-use Rattle.tables.specs.Answers.{found-is}
-use Rattle.runs.specs.Pieces.{hop-none, hop-found}
+use native.Mathlib.Omega.{arith}
 use borrow.Author.Needs.{needs}
+use Prim.Native.Nat.{_-_}
+use Rattle.tables.specs.View.{view}
+use Rattle.runs.specs.Pieces.{tested, holder-small}
+use Rattle.runs.specs.Places.{Hopping, pass-in, pass-on, pass-here, passed-set}
 use Rattle.runs.proofs.pieces.hop_at.Statement.{statement}
 use Rattle.runs.proofs.pieces.hop_at.Tie as tie
+
+abbrev Inv-loop : tie.InvT-loop
+Inv-loop t order places₀ l p at a₀ places a = Hopping (view t .k) order (l .0) (p .0) a places
+
+abbrev μ-loop : tie.MeasureT-loop
+μ-loop t order places₀ l p at a₀ places a = 32 - a
 
 pub hop-at-spec : {M : Type 1} → statement M
 hop-at-spec =
     tie.close
     (tie.spec
-    (λ c κs. search needs)
+    Inv-loop
+    μ-loop
+    (λ c. search needs)
+    (λ c. omega (arith, holder-small (tested _ (c .before .pre .0)) (c .before .pre .3)))
+    (λ c. omega (arith, holder-small (tested _ (c .before .pre .0)) (c .before .pre .3)))
+    (λ c. record { passing = c .before .before .pre .2 .at _ (holder-small (tested _ (c .before .before .pre .0)) (c .before .before .pre .3)); passed = c .before .before .pre .2 })
+    (λ c κs. pass-in (tested _ (c .before .before .before .before .pre .0)) (c .before .before .before .before .pre .1) (c .before .before .before .before .pre .3) (c .before .loop .inv .passing))
+    (λ c. omega (arith, holder-small (tested _ (c .before .before .before .before .before .before .before .before .pre .0)) (c .before .before .before .before .before .before .before .before .pre .3)))
+    (λ c. omega (arith, holder-small (tested _ (c .before .before .before .before .before .before .before .before .pre .0)) (c .before .before .before .before .before .before .before .before .pre .3)))
+    (λ c. (
+      pass-here (tested _ (c .before .before .before .before .before .before .before .before .before .before .pre .0)) (c .before .before .before .before .before .before .before .before .before .before .pre .1) (c .before .before .before .before .before .before .before .before .before .before .pre .3) (c .before .before .before .before .before .before .before .loop .inv .passing) _ (c .before .before .before .before .before .entry-at .ensures .slot) (omega arith) (c .before .before .before .before .before .entry-at .ensures .given-small),
+      passed-set (c .before .before .before .before .before .before .before .loop .inv .passed) (c .before .before .before .before .before .before .before .loop .inv .passing),
+    ))
     (λ c. search needs)
     (λ c. search needs)
-    (λ c. search needs)
-    (λ c. hop-none _ _ _ (found-is _ (sym (c .before .enum-told .given .1) ∙ c .before .before .before .holding-slot .ensures)))
-    (λ c κs. (c .before .before .before .before .pre .0, lowest-some 32 _ _ (found-is _ (sym (c .before .found .given .1) ∙ c .before .before .before .holding-slot .ensures)) .below))
-    (λ c. hop-found _ _ _ _ _ (found-is _ (sym (c .before .before .before .before .found .given .1) ∙ c .before .before .before .before .before .before .holding-slot .ensures)) (c .before .before .entry .ensures .slot) (c .before .before .entry .ensures .given-small)))
+    (λ c. record {
+      passing = pass-on (tested _ (c .before .before .before .before .before .before .before .before .pre .0)) (c .before .before .before .before .before .before .before .before .pre .1) (c .before .before .before .before .before .before .before .before .pre .3) (c .before .before .before .before .before .loop .inv .passing) _ (c .before .before .before .entry-at .ensures .slot) (omega arith);
+      passed = c .before .before .before .before .before .loop .inv .passed;
+    })
+    (λ c. absurd (omega (arith, pass-in (tested _ (c .before .before .before .before .pre .0)) (c .before .before .before .before .pre .1) (c .before .before .before .before .pre .3) (c .before .loop .inv .passing) .1))))

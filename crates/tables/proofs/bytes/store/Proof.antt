@@ -1,6 +1,6 @@
 use Prim.Native.Nat.{_+_, _*_, _-_, _≤_}
-use Rattle.tables.specs.ByteRecords.{Storing, store-start, store-word, store-end, store-at}
 use native.Mathlib.Omega.{arith}
+use Rattle.tables.specs.ByteRecords.{Storing, store-start, store-word, store-end, store-at}
 use borrow.Author.Needs.{needs}
 use Rattle.tables.proofs.bytes.store.Statement.{statement}
 use Rattle.tables.proofs.bytes.store.Tie as tie
@@ -11,9 +11,10 @@ store-spec =
     (tie.spec
     (λ t b₀ p₀ b p. (p ≤ 16) × Storing t (1 + 40 * p) b)
     (λ t b₀ p₀ b p. 16 - p)
-    (λ c. search needs)
     (λ c κs. search needs)
-    (λ c. (omega arith, store-at _ (omega arith) (store-word {k = 0} (store-start _ (c .before .before .before .before .before .before .pre)) (omega arith) (c .before .before .put .ensures))))
+    (λ c. search needs)
+    (λ c κs. (c .before .before .before .before .clear .ensures .size, omega arith))
+    (λ c. (omega arith, store-at _ (omega arith) (store-word {k = 0} (store-start _ (c .before .before .before .before .before .before .before .clear .ensures)) (omega arith) (c .before .before .put .ensures))))
     (λ c κs. (omega arith, c .before .before .loop .inv .1))
     (λ c. search needs)
     (λ c. search needs)

@@ -1,7 +1,7 @@
 use mathlib.Core.Path.{sym, _∙_}
 use Prim.Native.Nat.{_-_, _≤_}
-use Rattle.tables.specs.ByteRecords.{Storing, store-word, store-skip, store-at}
 use native.Mathlib.Omega.{arith}
+use Rattle.tables.specs.ByteRecords.{Storing, store-word, store-skip, store-at}
 use borrow.Author.Needs.{needs}
 use Rattle.tables.proofs.bytes.store_record.Statement.{statement}
 use Rattle.tables.proofs.bytes.store_record.Tie as tie
@@ -13,9 +13,7 @@ store-record-spec =
     (λ t b₀ k₀ end b k. (k ≤ end) × Storing t k b)
     (λ t b₀ k₀ end b k. end - k)
     (λ c κs. search needs)
-    (λ c κs. (c .before .before .before .before .pre .1 .size, c .before .before .before .before .pre .0))
-    (λ c. search needs)
-    (λ c. store-skip _ (sym (c .before .before .before .before .zero-record .ensures) ∙ c .before .before .before .if1 .taken) (sym (c .before .zero-bytes .ensures) ∙ c .if2 .taken) (c .before .before .before .before .before .before .pre .1))
+    (λ c. store-skip _ (sym (c .before .zero-record .ensures) ∙ c .if1 .taken) (c .before .before .before .pre .1))
     (λ c. search needs)
     (λ c. search needs)
     (λ c. search needs)
@@ -25,7 +23,7 @@ store-record-spec =
     (λ c. (omega arith, c .before .before .before .before .before .pre .1))
     (λ c. search needs)
     (λ c. search needs)
-    (λ c κs. (c .before .before .before .loop .inv .1 .size, omega (arith, c .before .before .before .before .before .before .before .before .before .pre .0)))
+    (λ c κs. (c .before .before .before .loop .inv .1 .rest .size, omega (arith, c .before .before .before .before .before .before .before .before .before .pre .0)))
     (λ c. search needs)
     (λ c. search needs)
     (λ c. (omega arith, store-word (c .before .before .before .before .before .before .loop .inv .1) (omega (arith, c .before .before .before .before .before .before .before .before .before .before .before .before .pre .0)) (c .before .before .put .ensures)))

@@ -11,7 +11,7 @@ settle-slot-spec =
     (tie.spec
     (λ c κs. search needs)
     (λ c. let h = c .before .before .before .before .pre in slot-absent (c .before .before .entry .ensures) (h .0 .canon) (h .0 .inP) (h .1) (not-true _ (c .if1 .taken)))
-    (λ c κs. c .before .before .before .before .pre .0 .areas .few)
+    (λ c κs. c .before .before .before .before .pre .0 .areas .rising .few)
     (λ c. search needs)
     (λ c. search needs)
     (λ c. search needs)

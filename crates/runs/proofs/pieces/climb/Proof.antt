@@ -1,0 +1,26 @@
+use native.Mathlib.Omega.{arith}
+use borrow.Author.Needs.{needs}
+use Rattle.runs.specs.Ways.{Climbing, climb-start, climb-up, climb-root}
+use Rattle.runs.proofs.pieces.climb.Statement.{statement}
+use Rattle.runs.proofs.pieces.climb.Tie as tie
+
+abbrev Inv-loop : tie.InvT-loop
+Inv-loop way depth l d₀ d = Climbing way depth (l .0) d
+
+abbrev μ-loop : tie.MeasureT-loop
+μ-loop way depth l d₀ d = d
+
+pub climb-spec : {M : Type 1} → statement M
+climb-spec =
+    tie.close
+    (tie.spec
+    Inv-loop
+    μ-loop
+    (λ c. climb-start)
+    (λ c. omega (arith, c .before .loop .inv .within, c .before .before .pre .deep))
+    (λ c. omega (arith, c .before .loop .inv .within, c .before .before .pre .deep, c .before .before .pre .size))
+    (λ c. record { climbing = c .before .before .before .before .loop .inv; low = omega arith })
+    (λ c. search needs)
+    (λ c. search needs)
+    (λ c. climb-up (c .before .before .before .before .loop .inv) (omega arith) (omega arith))
+    (λ c. climb-root (c .before .loop .inv) (c .before .before .pre) (omega arith)))

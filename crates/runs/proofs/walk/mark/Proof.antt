@@ -1,0 +1,16 @@
+use borrow.Author.Needs.{needs}
+use Rattle.runs.specs.Marks.{marked-same, marked-new}
+use Rattle.runs.proofs.walk.mark.Statement.{statement}
+use Rattle.runs.proofs.walk.mark.Tie as tie
+
+pub mark-spec : {M : Type 1} → statement M
+mark-spec =
+    tie.close
+    (tie.spec
+    (λ c. marked-same (c .if1 .taken))
+    (λ c. search needs)
+    (λ c. search needs)
+    (λ c. search needs)
+    (λ c. search needs)
+    (λ c. search needs)
+    (λ c. marked-new (c .before .before .if1 .left)))

@@ -1,0 +1,39 @@
+-- `runs::walk::mark_runs` meets its contract: at each turn the marks are those of the runs behind, and the way is that of the line.
+use mathlib.Core.Path.{sym}
+use native.Mathlib.Omega.{arith}
+use borrow.Author.Needs.{needs}
+use Prim.Native.Nat.{_-_}
+use Rattle.tables.specs.View.{view}
+use Rattle.runs.specs.Pieces.{tested}
+use Rattle.runs.specs.Marks.{Walk, walk-begins, standing, walk-on, walk-nearer, marks-few, mark-end}
+use Rattle.runs.proofs.walk.mark_runs.Statement.{statement}
+use Rattle.runs.proofs.walk.mark_runs.Tie as tie
+
+abbrev Inv-loop : tie.InvT-loop
+Inv-loop t order marks₀ f places₀ way₀ depth₀ at₀ last₀ n₀ marks places way depth at last n = Walk (view t .k) order marks₀ (at .0) n last depth places way marks
+
+abbrev μ-loop : tie.MeasureT-loop
+μ-loop t order marks₀ f places₀ way₀ depth₀ at₀ last₀ n₀ marks places way depth at last n = f .end .0 - at .0
+
+pub mark-runs-spec : {M : Type 1} → statement M
+mark-runs-spec =
+    tie.close
+    (tie.spec
+    Inv-loop
+    μ-loop
+    (λ c κs. search needs)
+    (λ c. omega (arith, c .before .first .ensures .end-small))
+    (λ c. walk-begins (tested _ (c .before .before .before .pre .0)) (c .before .before .before .pre .2) (sym (c .before .before .first .ensures .base)) (sym (c .before .before .first .ensures .stop)))
+    (λ c κs. (c .before .before .before .before .before .before .before .before .before .pre .0, c .before .before .before .before .before .before .before .before .before .pre .1, standing (c .before .before .before .before .before .loop .inv) (omega (arith, c .before .before .before .before .before .before .before .before .first .ensures .stop, c .before .before .if1 .taken))))
+    (λ c κs. (
+      c .before .before .before .before .before .before .before .before .loop .inv .marking .size,
+      marks-few (tested _ (c .before .before .before .before .before .before .before .before .before .before .before .before .pre .0)) (c .before .before .before .before .before .before .before .before .loop .inv .marking),
+      omega (arith, c .before .before .before .before .before .if1 .taken, c .before .before .before .before .before .before .before .before .before .before .before .first .ensures .end-small),
+      c .before .before .piece-at .ensures .small,
+    ))
+    (λ c. rw (c .before .before .before .before .before .before .before .before .before .before .before .before .before .first .ensures .stop) at (walk-nearer (c .before .before .before .before .before .before .before .before .before .before .loop .inv) (omega (arith, c .before .before .before .before .before .before .before .before .before .before .before .before .before .first .ensures .stop, c .before .before .before .before .before .before .before .if1 .taken)) (c .before .before .before .before .piece-at .ensures .end)))
+    (λ c. walk-on (c .before .before .before .before .before .before .before .before .before .before .loop .inv) (tested _ (c .before .before .before .before .before .before .before .before .before .before .before .before .before .before .pre .0)) (omega (arith, c .before .before .before .before .before .before .before .before .before .before .before .before .before .first .ensures .stop, c .before .before .before .before .before .before .before .if1 .taken)) (c .before .before .before .before .piece-at .ensures) (c .before .mark .ensures))
+    (λ c. omega (arith, c .before .before .before .before .loop .inv .marking .to, c .before .before .before .before .before .before .before .first .ensures .stop, c .before .before .before .before .before .before .before .first .ensures .end-small))
+    (λ c. omega (arith, marks-few (tested _ (c .before .before .before .before .before .before .before .before .pre .0)) (c .before .before .before .before .loop .inv .marking)))
+    (λ c. omega (arith, marks-few (tested _ (c .before .before .before .before .before .before .before .before .pre .0)) (c .before .before .before .before .loop .inv .marking), c .before .before .before .before .loop .inv .marking .size))
+    (λ c. mark-end (tested _ (c .before .before .before .before .before .before .before .before .pre .0)) (c .before .before .before .before .loop .inv .marking) (omega (arith, c .before .before .before .before .before .before .before .first .ensures .stop, c .before .if1 .left))))

@@ -1,0 +1,48 @@
+ghost use mathlib.Core.Path.{_≡_};
+ghost use mathlib.Core.Bool.{true};
+ghost use Prim.Native.Nat.{_<_, _≤_, _^_};
+ghost use lib.ListN.{length};
+ghost use Rattle.tables.specs.View.{view};
+ghost use Rattle.sound.specs.Clauses.{sound};
+ghost use Rattle.runs.specs.Runs.{runsOf};
+ghost use Rattle.runs.specs.Places.{InOrder};
+ghost use Rattle.runs.specs.Marks.{Marked, marksOver};
+use crate::pieces::piece_at;
+use words::Line;
+use words::Partition;
+
+// A piece whose deepest holder is not that of the piece before begins a run: it gets a mark, 16 times its first line plus its deepest holder.
+fn mark(marks: &mut [u32; 513], n: usize, last: u32, start: Line, deepest: Partition) -> usize
+    requires { ⌜ (length (now marks) ≡ 513) × (n ≤ 512) × (start .0 < 2 ^ 27) × (deepest .0 < 16) ⌝ }
+    ensures { λ r. ⌜ Marked (now (marks .entry)) n last (start .0) (deepest .0) r (now (marks .exit)) ⌝ }
+{
+    if deepest.0 == last {
+        return n;
+    }
+    marks[n] = 16 * start.0 + deepest.0;
+    n + 1
+}
+
+// The number of runs, and their marks; after the last, 16 times the end of memory.
+pub fn mark_runs(t: &[u64; 641], order: &[u8; 512], marks: &mut [u32; 513]) -> usize
+    requires { ⌜ (sound (now t) ≡ true) × InOrder (view (now t) .k) (now order) × (length (now marks) ≡ 513) ⌝ }
+    ensures { λ r. ⌜ (r ≡ length (runsOf (view (now (t .entry)) .k))) × (now (marks .exit) ≡ marksOver (view (now (t .entry)) .k) (now (marks .entry))) ⌝ }
+{
+    let f = tables::read::first(t);
+    let mut places = [0u32; 16];
+    let mut way = [16 * f.end.0; 16];
+    let mut depth = 0usize;
+    let mut at = f.base;
+    let mut last = 16u32;
+    let mut n = 0usize;
+    while at.0 < f.end.0 {
+        let c = piece_at(t, order, &mut places, &mut way, depth, at);
+        let deepest = c.deepest;
+        n = mark(marks, n, last, at, deepest);
+        last = deepest.0;
+        depth = c.depth;
+        at = c.end;
+    }
+    marks[n] = 16 * at.0;
+    n
+}

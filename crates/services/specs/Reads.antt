@@ -1,0 +1,92 @@
+-- Find and read region leave every word of the table as it was.
+use mathlib.Core.Path.{_≡_, refl, ap, sym, _∙_}
+use mathlib.Core.Bool.{Bool, true, false, cond, _||_}
+use mathlib.Core.List.{List}
+use mathlib.Core.Logic.{_⊎_, inl, inr}
+use Prim.Native.Nat.{ℕ}
+use lib.Dec.{eqb}
+use borrow.Author.Tests.{eqb-true, ne-eqb}
+use Rattle.words.specs.Parts.{clean}
+use Rattle.words.specs.Kind.{fieldsIn}
+use Rattle.words.specs.Words.{call}
+use Rattle.words.specs.declared.call_word.CallFields.{CallFields}
+use Rattle.words.specs.declared.call_word.CallRead.the-variants.{Fields, Refused as Unread}
+use Rattle.tables.specs.State.{Opt, none, some}
+use Rattle.tables.specs.View.{view}
+use Rattle.tables.specs.Encode.{encode, canon-is}
+use Rattle.tables.specs.Fitting.{Words}
+use Rattle.tables.specs.Settle.{settled}
+use Rattle.sound.specs.Tests.{or-says}
+use Rattle.sound.specs.Clauses.{sound}
+use Rattle.sound.specs.Canonical.{sound-canon}
+use Rattle.sound.specs.Whole.{sound-means, sound-right}
+use Rattle.sound.specs.Settled.{right-settled, settled-words}
+use Rattle.services.specs.Rules.{Result, refused, check, need, readRegion, find, serve, serveRead, callOn, wordsAfter}
+use Rattle.services.specs.Calls.{known, serve-unknown, serve-11, serve-12}
+
+-- 11 read region, 12 find
+abbrev reader : CallFields → Bool
+reader f = eqb (f .service) 11 || eqb (f .service) 12
+
+-- the service that stands in the word only reads
+unfoldable pub onlyReads : ℕ → Bool
+onlyReads w = reader (fieldsIn call w)
+
+-- ── the exits of the test ──
+module _ (w : ℕ) {f : CallFields} (is : f ≡ fieldsIn call w) where
+  pub reads-region : f .service ≡ 11 → true ≡ onlyReads w
+  unfolding onlyReads
+  reads-region q = sym (ap (λ (n : ℕ). eqb n 11 || eqb n 12) q) ∙ ap reader is
+
+  pub reads-found : (f .service ≡ 11 → ⊥) → eqb (f .service) 12 ≡ onlyReads w
+  unfolding onlyReads
+  reads-found q = sym (ap (λ (b : Bool). b || eqb (f .service) 12) (ne-eqb (f .service) 11 q)) ∙ ap reader is
+
+-- ── a rule that leaves the words l: done with their own table, or refused ──
+module _ {l : List ℕ} where
+  refuses : {res : Result} {n : ℕ} → res ≡ refused n → wordsAfter l res ≡ l
+  unfolding wordsAfter
+  refuses e = rw e refl
+
+  checked : (n : ℕ) (b : Bool) (r : Result) → wordsAfter l r ≡ l → wordsAfter l (check n b r) ≡ l
+  unfolding check wordsAfter
+  checked n true r k = k
+  checked n false r k = refl
+
+  needed : {A : Type 0} (n : ℕ) (o : Opt A) (f : A → Result) → ((a : A) → wordsAfter l (f a) ≡ l) → wordsAfter l (need n o f) ≡ l
+  unfolding need wordsAfter
+  needed n none f k = refl
+  needed n (some a) f k = k a
+
+module _ {l : List ℕ} (same : encode (settled (view l)) ≡ l) where
+  read-stands : (p r : ℕ) → wordsAfter l (readRegion (view l) p r) ≡ l
+  unfolding readRegion wordsAfter
+  read-stands p r = checked 3 _ _ (checked 16 _ _ same)
+
+  find-stands : (p n : ℕ) → wordsAfter l (find (view l) p n) ≡ l
+  unfolding find wordsAfter
+  find-stands p n = checked 3 _ _ (needed 7 _ _ (λ i. same))
+
+  serve-stands : (f : CallFields) → reader f ≡ true → wordsAfter l (serve (view l) f) ≡ l
+  serve-stands f q = go (known f) refl (or-says _ _ q)
+    where
+      go : (b : Bool) → known f ≡ b → (eqb (f .service) 11 ≡ true) ⊎ (eqb (f .service) 12 ≡ true) → wordsAfter l (serve (view l) f) ≡ l
+      go false h z = refuses (serve-unknown (view l) f h)
+      go true h (inl z) = rw (serve-11 (view l) f h (eqb-true _ 11 z)) (read-stands _ _)
+      go true h (inr z) = rw (serve-12 (view l) f h (eqb-true _ 12 z)) (find-stands _ _)
+
+-- done or refused, a call that only reads leaves every word as it was
+pub reads-stand : (l : List ℕ) (w : ℕ) → Words l → onlyReads w ≡ true → wordsAfter l (callOn l w) ≡ l
+unfolding onlyReads callOn serveRead call wordsAfter
+reads-stand l w small q = go (sound l) refl (clean (call .parts) w)
+  where
+    same : sound l ≡ true → encode (settled (view l)) ≡ l
+    same h =
+        let s = sound-means l .0 h in
+        let canon = sound-canon (small .small) s in
+        sym (settled-words (canon-is canon) (right-settled (sound-right canon s)))
+
+    go : (a : Bool) → sound l ≡ a → (b : Bool) → wordsAfter l (cond a (serveRead (view l) (cond b (Fields (fieldsIn call w)) (Unread 2))) (refused 1)) ≡ l
+    go true h true = serve-stands (same h) (fieldsIn call w) q
+    go true h false = refl
+    go false h b = refl
