@@ -88,6 +88,18 @@ run_x86() {
     esac
 }
 
+# Runs a program that rt linked: it loads a C library, on Arm the kit's, as rt itself has it do.
+run_proved() { # PROGRAM WORDS..
+    local kit
+    case $(uname -m) in
+    aarch64)
+        kit=$(kit_home)/on/aarch64/toolchain
+        run_x86 "$kit/lib/ld-linux-x86-64.so.2" --library-path "$kit/lib" "$@"
+        ;;
+    *) run_x86 "$@" ;;
+    esac
+}
+
 # Counts what the program says. One that died, or left checks out, may have printed no 'not ok'.
 run_checks() { # COUNT PROGRAM WORDS..
     local count=$1 status lines line name
