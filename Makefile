@@ -28,7 +28,7 @@ example: lib
 	@bash -c '. tests/lib.sh && target_cc -std=c99 -O2 -Ibuild -o build/handset examples/handset.c build/libulavrepit.a && run_x86 build/handset'
 
 bench: lib
-	@bash -c '. tests/lib.sh && target_cc -std=c99 -O2 -Ibuild -Isecond -Itests/c -o build/bench bench/bench.c tests/c/tables.c tests/c/most_runs.c tests/c/damage.c tests/c/steer.c second/kernel.c build/libulavrepit.a && run_x86 build/bench'
+	@bench/run
 
 soak: export SEED ?= 1
 soak: export MINUTES ?= 10

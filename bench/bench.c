@@ -1,9 +1,12 @@
 /*
  * The library against the second program: the same work on the same tables, in one process, turn by turn.
  *
- * Each round times the one and then the other (every second round the other way round) and keeps the quotient;
- * what counts is the median quotient of many rounds. Times are of the processor that this process used, so a
- * busy machine disturbs both alike. It prints a table for docs/PERFORMANCE.md.
+ * bench             times them: each round the one and then the other (every second round the other way round), and
+ *                   keeps the quotient; what counts is the median quotient of many rounds. Times are of the processor
+ *                   that this process used, so a busy machine disturbs both alike.
+ * bench count FILE  does each row's work once with either, between calls of mark: for who traces it and counts the
+ *                   instructions. The tables are read from FILE, since to make them takes far more than the rows do.
+ * bench save FILE   writes those tables.
  */
 #define _POSIX_C_SOURCE 200809L
 #include "kernel.h"
@@ -26,7 +29,15 @@ static uint64_t second_runs_too(const uint8_t *t, uint64_t len, ulavrepit_run *l
 static const kernel library = {ulavrepit_boot, ulavrepit_call, ulavrepit_holders, ulavrepit_runs};
 static const kernel second = {second_boot, second_call, second_holders, second_runs_too};
 
-/* ---- what is timed ---- */
+static void must(bool good, const char *what)
+{
+    if (good)
+        return;
+    fprintf(stderr, "bench: %s: not as it should be\n", what);
+    exit(1);
+}
+
+/* ---- the work ---- */
 
 static uint8_t table[ULAVREPIT_TABLE_BYTES];
 
@@ -82,10 +93,7 @@ static double time_batch(work *w, const kernel *k, const job *j, unsigned turns)
 {
     double began = now();
     for (unsigned i = 0; i < turns; i++)
-        if (!w(k, j)) {
-            fprintf(stderr, "bench: %s: an answer is not as it should be\n", j->name);
-            exit(1);
-        }
+        must(w(k, j), j->name);
     return now() - began;
 }
 
@@ -123,10 +131,62 @@ static void measure(work *w, const job *j, unsigned operations)
            at_percent(theirs, 50) / per, at_percent(quotients, 50), at_percent(quotients, 5), at_percent(quotients, 95));
 }
 
+/* ---- counting ---- */
+
+/* The tracer knows the places by this function's address. */
+volatile unsigned marks;
+__attribute__((noinline)) void mark(void)
+{
+    marks++;
+}
+
+/* Names the row; the work is done once before, so that nothing is done for the first time where it counts. */
+static void work_between_marks(work *w, const job *j, unsigned operations)
+{
+    bool good = w(&library, j) && w(&second, j);
+    mark();
+    good = w(&library, j) && good;
+    mark();
+    good = w(&second, j) && good;
+    mark();
+    must(good, j->name);
+    printf("%s|%u\n", j->name, operations);
+}
+
+static void no_work(work *w, const job *j, unsigned operations)
+{
+    (void)w, (void)j, (void)operations;
+}
+
 /* ---- the rows ---- */
 
+/* What is done with a row, and the file that tables are read from or written to, if there is one. */
+static void (*report)(work *w, const job *j, unsigned operations) = measure;
+static FILE *saved;
+static bool saving;
+
+static bool make_most(const kernel *k, uint8_t *t)
+{
+    static second_table most;
+    (void)k;
+    make_most_runs(&most);
+    second_write(&most, t);
+    return true;
+}
+
+/* The table of the rows that follow. */
+static void have_table(bool make(const kernel *k, uint8_t *t), const char *name)
+{
+    if (saved && !saving)
+        must(fread(table, sizeof table, 1, saved) == 1, name);
+    else
+        must(make(&second, table), name);
+    if (saving)
+        must(fwrite(table, sizeof table, 1, saved) == 1, name);
+}
+
 /* Holders, find, load with unload of the entry that holds the line, and runs, on the table as it is. */
-static void measure_table(const char *const names[4], uint64_t line)
+static void table_rows(const char *const names[4], uint64_t line)
 {
     uint64_t word;
     uint32_t current = (uint32_t)(table[7] >> 6 | (table[6] & 3) << 2);
@@ -135,57 +195,61 @@ static void measure_table(const char *const names[4], uint64_t line)
     job listing = {names[0], {0}, line, ULAVREPIT_DONE};
     job finding = {names[1], {find, find}, 0, ULAVREPIT_DONE};
     job loading = {names[2], {ulavrepit_load(current, slot, 7), ulavrepit_unload(current, 7)}, 0, ULAVREPIT_DONE};
-    measure(do_holders, &listing, 1);
-    measure(do_calls, &finding, WORDS);
+    report(do_holders, &listing, 1);
+    report(do_calls, &finding, WORDS);
     job running = {names[3], {0}, 0, ULAVREPIT_DONE};
-    measure(do_calls, &loading, WORDS);
-    measure(do_runs, &running, 1);
+    report(do_calls, &loading, WORDS);
+    report(do_runs, &running, 1);
 }
 
 /* A cut and the merge that undoes it, on the table as it is; the new piece goes to the slot that is free. */
-static void measure_cut(const char *name, uint32_t slot, uint32_t line, uint32_t free_slot)
+static void cut_row(const char *name, uint32_t slot, uint32_t line, uint32_t free_slot)
 {
     job cutting = {name, {ulavrepit_cut(slot, line), ulavrepit_merge(slot, free_slot)}, 0, ULAVREPIT_DONE};
-    measure(do_calls, &cutting, WORDS);
+    report(do_calls, &cutting, WORDS);
 }
 
-static void must(bool good, const char *what)
-{
-    if (good)
-        return;
-    fprintf(stderr, "bench: %s was not made\n", what);
-    exit(1);
-}
-
-int main(void)
+/* Every row, on its table. */
+static void rows(void)
 {
     static const char *const fresh[] = {"holders, fresh", "find, fresh", "load and unload, fresh", "runs, fresh"};
     static const char *const typical[] = {"holders, typical", "find, typical", "load and unload, typical", "runs, typical"};
     static const char *const densest[] = {"holders, densest", "find, densest", "load and unload, densest", "runs, densest"};
-    static second_table most;
     job most_runs = {"runs, the most", {0}, 0, ULAVREPIT_DONE};
     job booting = {"boot", {0}, 1024, ULAVREPIT_DONE};
     job refused_word = {"call refused 2, typical", {0}, 0, ULAVREPIT_REFUSED_WORD};
     job refused_table = {"call refused 1, typical with the last zero bit set", {0}, 0, ULAVREPIT_REFUSED_TABLE};
 
-    puts("| What | Library, ns | Second program, ns | Library / second, median | 5 % to 95 % of rounds |\n|---|---|---|---|---|");
-    measure(do_boot, &booting, 1);
-    must(make_fresh(&second, table), "the fresh table");
-    measure_table(fresh, 300);
-    measure_cut("cut and merge, fresh", 0, 512, 1);
+    report(do_boot, &booting, 1);
+    have_table(make_fresh, "the fresh table");
+    table_rows(fresh, 300);
+    cut_row("cut and merge, fresh", 0, 512, 1);
 
-    must(make_typical(&second, table), "the typical table");
-    measure(do_calls, &refused_word, WORDS);
-    measure_table(typical, 8000);
-    measure_cut("cut and merge, typical", 10, 8000, 11);
+    have_table(make_typical, "the typical table");
+    report(do_calls, &refused_word, WORDS);
+    table_rows(typical, 8000);
+    cut_row("cut and merge, typical", 10, 8000, 11);
     table[sizeof table - 1] ^= 1;
-    measure(do_calls, &refused_table, WORDS);
+    report(do_calls, &refused_table, WORDS);
 
-    must(make_densest(&second, table), "the densest table");
-    measure_table(densest, 65535);
+    have_table(make_densest, "the densest table");
+    table_rows(densest, 65535);
 
-    make_most_runs(&most);
-    second_write(&most, table);
-    measure(do_runs, &most_runs, 1);
+    have_table(make_most, "the table with the most runs");
+    report(do_runs, &most_runs, 1);
+}
+
+int main(int argc, char **argv)
+{
+    if (argc == 1)
+        puts("| What | Library, ns | Second program, ns | Library / second, median | 5 % to 95 % of rounds |\n|---|---|---|---|---|");
+    else {
+        must(argc == 3 && (strcmp(argv[1], "save") == 0 || strcmp(argv[1], "count") == 0), "the command line");
+        saving = strcmp(argv[1], "save") == 0;
+        report = saving ? no_work : work_between_marks;
+        must((saved = fopen(argv[2], saving ? "wb" : "rb")) != NULL, argv[2]);
+    }
+    rows();
+    must(!saved || fclose(saved) == 0, "the file");
     return 0;
 }

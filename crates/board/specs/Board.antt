@@ -2,21 +2,25 @@
 use mathlib.Core.Path.{_≡_, refl, ap, sym, subst, _∙_}
 use mathlib.Core.Bool.{Bool, true, false, cond}
 use mathlib.Core.List.{List, []}
-use Prim.Native.Nat.{ℕ, _+_, _*_, _^_, _≤_, _<_}
+use Prim.Native.Nat.{ℕ, _+_, _*_, _^_, _<_}
 use native.Mathlib.Omega.{arith}
 use lib.ListN.{length, getD, List·getD-eq-default}
 use lib.Dec.{eqb, leb, ltb}
 use borrow.Author.Tests.{eq-eqb, ne-eqb, ltb-true, ltb-false}
 use Rattle.loops.specs.Rewrite.{tab, tabFrom, tab-at}
 use Rattle.words.specs.Parts.{pack-lt}
+use Rattle.tables.specs.State.{Table}
 use Rattle.tables.specs.View.{view}
 use Rattle.tables.specs.Encode.{encode}
 use Rattle.tables.specs.Fitting.{Words}
 use Rattle.tables.specs.Bytes.{octets, wordAt, wordsOf, bytesOf}
+use Rattle.tables.specs.ByteRecords.{HeaderTells}
 use Rattle.tables.specs.ByteTrips.{length-wordsOf, bytes-words}
 use Rattle.tables.specs.declared.Outcome.{Outcome}
 use Rattle.tables.specs.declared.Outcome.the-variants.{Done, Refused}
+use Rattle.sound.specs.Sound.{Sound}
 use Rattle.sound.specs.Clauses.{sound}
+use Rattle.sound.specs.Absent.{header-tells}
 use Rattle.sound.specs.Holders.{wrong-length, inMemory, holdersOf, holdersOutcome, holdersBytes, holders-few, Listed, listed-unsound, listed-copy}
 use Rattle.services.specs.Rules.{Result, done, refused, callOn, bootOn, wordsAfter}
 use Rattle.services.specs.Ran.{outcomeOf, Ran, ran-refused, ran-as, refused-done, done-first, refused-number}
@@ -24,6 +28,7 @@ use Rattle.services.specs.Boot.{boot-any, boot-length}
 use Rattle.services.specs.declared.Answer.{Answer}
 use Rattle.services.specs.Calls.{callerOf, caller-small, Answers, answers-unsound}
 use Rattle.services.specs.Reads.{onlyReads, reads-stand}
+use Rattle.isolation.specs.Whole.{boot-sound, call-sound}
 
 -- the words that are handed over as bytes; another number of bytes is no table
 unfoldable pub handed : List ℕ → List ℕ
@@ -98,7 +103,19 @@ module _ {c : ℕ} {res : Result} {a m : List ℕ} {o : Outcome} (ran : Ran res 
       go (done v w t) z = absurd (refused-done (sym z))
       go (refused n) z = refl
 
+-- ── what is done leaves a sound table, so that its headers tell the absent partitions ──
+tells : {res : Result} {a m : List ℕ} {o : Outcome} {v w : ℕ} → Ran res a o m → o ≡ Done v w → ((x y : ℕ) (t : Table) → res ≡ done x y t → Sound (encode t)) → HeaderTells m
+unfolding outcomeOf wordsAfter
+tells {res} {a} {m} ran q sound-after = go res refl
+  where
+    go : (r : Result) → res ≡ r → HeaderTells m
+    go (done x y t) e = subst HeaderTells (sym (ran .words ∙ ap (wordsAfter a) e)) (header-tells (sound-after x y t e))
+    go (refused n) e = absurd (refused-done (sym (ap outcomeOf e) ∙ sym (ran .outcome) ∙ q))
+
 -- ── boot ──
+pub boot-tells : (base end : ℕ) {a m : List ℕ} {o : Outcome} {v w : ℕ} → Ran (bootOn a base end) a o m → o ≡ Done v w → HeaderTells m
+boot-tells base end {a} ran q = tells ran q (λ x y t. boot-sound a base end)
+
 pub boot-none : (b : List ℕ) (base end : ℕ) {r : ℕ} → (length b ≡ 5128 → ⊥) → r ≡ packed 1 0 0 → Lent 0 (bootOn (handed b) base end) b r b
 boot-none b base end h p =
     lent-refused (ran-refused {l = b} (boot-length (handed b) base end (λ z. omega (arith, ap (λ (x : List ℕ). length x) (handed-none b h), z)))) b refl p
@@ -144,6 +161,9 @@ module _ (b : List ℕ) {a m : List ℕ} {w : ℕ} {x : Answer} (size : length b
     table = lent-done (here .ran) b q (p ∙ ap (λ (c : ℕ). packed 0 c v) (here .caller)) e;
     second = z ∙ ap (secondAfter s) (sym q ∙ here .ran .outcome);
   }
+
+  pub call-tells : {v y : ℕ} → ((i : ℕ) → getD b i 0 < 256) → x .outcome ≡ Done v y → HeaderTells m
+  call-tells small q = tells (h .ran) q (λ x y t. call-sound a w (subst Words (sym load) (words-small b small) .small))
 
   -- a call that only reads: the bytes are those of the table already
   pub call-stands : ((i : ℕ) → getD b i 0 < 256) → onlyReads w ≡ true → b ≡ bytesOf m

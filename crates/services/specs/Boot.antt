@@ -1,15 +1,15 @@
 -- What boot writes is settled: the root's entry is open, since areas of 0, 0 have no line.
-use mathlib.Core.Path.{_≡_, refl, ap, sym, subst, _∙_}
-use mathlib.Core.Bool.{Bool, true, false, cond, not, _&&_}
+use mathlib.Core.Path.{_≡_, refl, ap, sym, _∙_}
+use mathlib.Core.Bool.{Bool, true, false, _&&_}
 use mathlib.Core.List.{List}
-use Prim.Native.Nat.{ℕ, _+_, _/_, _%_, _^_, _≤_, _<_}
+use Prim.Native.Nat.{ℕ, _/_, _%_, _^_, _≤_, _<_}
 use native.Mathlib.Omega.{arith}
 use native.Mathlib.Decide.{ℕ-discrete}
 use lib.ListN.{length}
 use lib.Dec.{ltb}
 use borrow.Author.Tests.{eq-eqb, ne-eqb, lt-ltb, le-ltb}
 use Rattle.loops.specs.Every.{all-of}
-use Rattle.tables.specs.State.{Opt, none, some, Entry, Area, nowhere, Table}
+use Rattle.tables.specs.State.{none, some, Entry, nowhere, Table}
 use Rattle.tables.specs.Update.{both?, pick, upd, upd-same, upd-other, upd1, upd1-same, upd1-other}
 use Rattle.tables.specs.View.{view}
 use Rattle.tables.specs.Encode.{encode, Is}
@@ -17,7 +17,7 @@ use Rattle.tables.specs.Stored.{is-then}
 use Rattle.tables.specs.Settle.{meets, apart, clear, openBit, openAt, keep, settle}
 use Rattle.tables.specs.Write.{emptyTable, putHeader, putStructure, putSlot}
 use Rattle.sound.specs.Sound.{allRights}
-use Rattle.services.specs.Rules.{check, bootK, bootOn, done, refused}
+use Rattle.services.specs.Rules.{bootK, bootOn, done, refused}
 use Rattle.services.specs.Ran.{pass, fail}
 
 module _ (base end : ℕ) where

@@ -15,7 +15,6 @@ use Rattle.words.specs.declared.call_word.CallRead.the-variants.{Fields, Refuse
 use Rattle.tables.specs.State.{Opt, none, some, Entry, Table}
 use Rattle.tables.specs.View.{view}
 use Rattle.tables.specs.Search.{lowest, lowest-some}
-use Rattle.tables.specs.declared.Outcome.{Outcome}
 use Rattle.tables.specs.declared.Outcome.the-variants.{Done, Refused}
 use Rattle.sound.specs.Clauses.{sound}
 use Rattle.services.specs.Rules.{Result, done, refused, check, need, freeEntry, create, delete, prepare, collect, give, take, cut, merge, load, unload, readRegion, find, switch, branch, clearOut, unused, serve, serveRead, callOn, bootOn}

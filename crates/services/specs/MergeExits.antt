@@ -1,5 +1,5 @@
 -- The exits of merge.
-use mathlib.Core.Path.{_≡_, refl, ap, sym, subst, _∙_}
+use mathlib.Core.Path.{_≡_, refl, sym, subst, _∙_}
 use mathlib.Core.Bool.{Bool, true, false, _&&_, _||_, Bool·beq}
 use mathlib.Core.List.{List}
 use Prim.Native.Nat.{ℕ, _<_}
@@ -13,11 +13,13 @@ use Rattle.tables.specs.Encode.{encode, Canon, Is}
 use Rattle.tables.specs.Write.{putSlot}
 use Rattle.tables.specs.Seen.{Seen}
 use Rattle.tables.specs.Settle.{settle, settled}
-use Rattle.tables.specs.Settled.{settled-is}
-use Rattle.tables.specs.declared.Outcome.the-variants.{Done, Refused}
+use Rattle.tables.specs.Kept.{keepRegions}
+use Rattle.tables.specs.declared.Outcome.the-variants.{Done}
 use Rattle.sound.specs.Clauses.{has, grants}
+use Rattle.sound.specs.Whole.{Right}
+use Rattle.sound.specs.Settled.{Settled, clear-both, entry-clear, put-settled, empty-words, right-settled}
 use Rattle.services.specs.Rules.{Result, done, refused, check, endingAt, mergeK, oneGrant, sameRights, merge}
-use Rattle.services.specs.Ran.{Ran, ran-refused, ran-done, pass, fail, there, missing}
+use Rattle.services.specs.Ran.{Ran, ran-done, pass, fail, there, missing}
 use Rattle.services.specs.Pick.{at-caller}
 use Rattle.services.specs.RegionExits.{entry-none, entry-there}
 
@@ -65,6 +67,7 @@ pub record CanMerge (l : List ℕ) (c s u : ℕ) (e f : SlotFields) : Type 0 whe
   pub first-there : e .present ≡ true
   pub second : Seen l c u f
   pub second-there : f .present ≡ true
+  pub right : Right (view l)
 
 module _ {l : List ℕ} {c s u : ℕ} {e f : SlotFields} (h : CanMerge l c s u e f) where
   e-now : Seen l (view l .k .current) s e
@@ -125,7 +128,15 @@ module _ {l : List ℕ} {c s u : ℕ} {e f : SlotFields} (h : CanMerge l c s u e
           pub merge-other-rights : sameRights (e .rights) (f .rights) ≡ false → merge (view l) s u ≡ refused 13
           merge-other-rights q = from-12 (pass 12 (join-now m) (fail 13 _ q))
 
-          pub merge-done : {v r : List ℕ} → sameRights (e .rights) (f .rights) ≡ true → Is v (joinedAt (view l) c s u e f) → r ≡ encode (settled (view v)) → Ran (merge (view l) s u) l (Done 0 0) r
-          merge-done {v} q put w =
+          -- the longer entry is open, as its two parts are
+          longer-settled : Settled (putSlot (view l) c s (some (endingAt (entryOf e) (f .end .0))) (e .opened))
+          longer-settled =
+              let was = right-settled (h .right) in
+              let low = entry-clear was {e = entryOf e} (entry-there (h .first) (h .first-there)) ∙ h .first .opened ∙ a in
+              let high = entry-clear was {e = entryOf f} (entry-there (h .second) (h .second-there)) ∙ h .second .opened ∙ b in
+              rw a (put-settled was c s (endingAt (entryOf e) (f .end .0)) true (clear-both (view l .k .area) (e .start .0) (e .end .0) (f .end .0) low (rw n high)) (λ _. refl))
+
+          pub merge-done : {v r : List ℕ} → sameRights (e .rights) (f .rights) ≡ true → Is v (joinedAt (view l) c s u e f) → Is r (keepRegions (view v) c) → Ran (merge (view l) s u) l (Done 0 0) r
+          merge-done {r = r} q put kept =
               ran-done (from-12 (pass 12 (join-now m) (pass 13 q refl)))
-              (sym (settled-is (subst (λ (c : ℕ). Is v (joinedAt (view l) c s u e f)) (sym (h .now)) put) w .encoded))
+              (subst (λ (c : ℕ). r ≡ encode (settled (joinedAt (view l) c s u e f))) (sym (h .now)) (empty-words longer-settled c u put kept))

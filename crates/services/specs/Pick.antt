@@ -1,12 +1,11 @@
 -- The checks 4, 5, 6 of slot S of the caller, whatever follows them.
-use mathlib.Core.Path.{_≡_, refl, ap, sym, subst, _∙_}
-use mathlib.Core.Bool.{Bool, true, false}
+use mathlib.Core.Path.{_≡_, refl, subst}
+use mathlib.Core.Bool.{true, false}
 use mathlib.Core.List.{List}
-use Prim.Native.Nat.{ℕ, _<_}
-use lib.Dec.{eqb}
+use Prim.Native.Nat.{ℕ}
 use borrow.Author.Tests.{eq-eqb, ne-eqb}
 use Rattle.words.specs.declared.slot_word.SlotFields.{SlotFields}
-use Rattle.tables.specs.State.{Opt, none, some, Entry}
+use Rattle.tables.specs.State.{Entry}
 use Rattle.tables.specs.View.{view, entryOf, entryIn}
 use Rattle.tables.specs.Seen.{Seen}
 use Rattle.services.specs.declared.pick.Picked.{Picked}
@@ -22,6 +21,7 @@ pub record Free (l : List ℕ) (s : ℕ) (f : SlotFields) : Type 0 where
   pub rule : (next : Entry → Result) → freeEntry (view l) s next ≡ next (entryOf f)
   pub seen : Seen l (view l .k .current) s f
   pub present : f .present ≡ true
+  pub opened : f .opened ≡ true
   pub not-given : f .given .0 ≡ 0
 
 -- the entry, or the number with which the rule ends here
@@ -51,6 +51,7 @@ module _ {l : List ℕ} {s c : ℕ} {f : SlotFields} (now : view l .k .current �
     rule = λ next. rw (here .slot, q, here .opened, o, eq-eqb (f .given .0) 0 g) refl;
     seen = here;
     present = q;
+    opened = o;
     not-given = g;
   })
 

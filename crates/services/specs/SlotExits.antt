@@ -3,6 +3,7 @@ use mathlib.Core.Path.{_≡_, refl, ap, sym, subst, _∙_}
 use mathlib.Core.Bool.{Bool, true, false}
 use mathlib.Core.List.{List}
 use Prim.Native.Nat.{ℕ, _^_, _<_, _≤_}
+use native.Mathlib.Omega.{arith}
 use borrow.Author.Tests.{lt-ltb, le-ltb}
 use Rattle.words.specs.declared.Rights.{Rights}
 use Rattle.words.specs.declared.slot_word.SlotFields.{SlotFields}
@@ -12,13 +13,19 @@ use Rattle.tables.specs.Encode.{encode, Canon, Is}
 use Rattle.tables.specs.Write.{putSlot}
 use Rattle.tables.specs.Seen.{Seen}
 use Rattle.tables.specs.Search.{lowest, child, free}
-use Rattle.tables.specs.Settle.{settled}
-use Rattle.tables.specs.Settled.{settled-is}
+use Rattle.tables.specs.Settle.{clear, settled}
 use Rattle.tables.specs.declared.Outcome.the-variants.{Done, Refused}
 use Rattle.sound.specs.Clauses.{within}
+use Rattle.sound.specs.Whole.{Right}
+use Rattle.sound.specs.Settled.{Settled, clear-part, settled-words, entry-clear, put-settled, right-settled}
 use Rattle.services.specs.Rules.{endingAt, startingAt, givenTo, rangeOf, cut, give}
 use Rattle.services.specs.Ran.{Ran, ran-refused, ran-done, pass, fail, there, missing}
 use Rattle.services.specs.Pick.{Free}
+use Rattle.services.specs.RegionExits.{entry-there}
+
+-- in a right table no area shares a line with a free entry
+free-clear : {l : List ℕ} {s : ℕ} {f : SlotFields} → Right (view l) → Free l s f → clear (view l .k .area) (f .start .0) (f .end .0) ≡ true
+free-clear {f = f} right entry = entry-clear (right-settled right) {e = entryOf f} (entry-there (entry .seen) (entry .present)) ∙ entry .seen .opened ∙ entry .opened
 
 -- what the writes of slot s of c ask of its entry f
 pub record CanPut (l : List ℕ) (c s : ℕ) (f : SlotFields) : Type 0 where
@@ -51,6 +58,7 @@ pub record CanCut (l : List ℕ) (s k : ℕ) (f : SlotFields) : Type 0 where
   pub inI : s < 32
   pub line : k < 2 ^ 27
   pub entry : Free l s f
+  pub right : Right (view l)
 
 module _ {l : List ℕ} {s k : ℕ} {f : SlotFields} (h : CanCut l s k f) where
   pub can-split : {c : ℕ} → c < 16 → CanPut l c s f
@@ -71,13 +79,21 @@ module _ {l : List ℕ} {s k : ℕ} {f : SlotFields} (h : CanCut l s k f) where
         ran-refused (h .entry .rule _ ∙ pass 7 (rw (lt-ltb (f .start .0) k low) (lt-ltb k (f .end .0) high))
         (missing 8 _ (ap (λ (c : ℕ). lowest 32 (free (view l .k) c)) now ∙ z)))
 
-    pub cut-done : {n : ℕ} {m r : List ℕ} → lowest 32 (free (view l .k) c) ≡ some n → Is m (splitAt (view l) c s n k f) → r ≡ encode (settled (view m))
-        → Ran (cut (view l) s k) l (Done n 0) r
+    -- both parts are open, as the whole was
+    split-settled : (n : ℕ) → Settled (splitAt (view l) c s n k f)
+    split-settled n =
+        let whole = free-clear (h .right) (h .entry) in
+        let part = clear-part (view l .k .area) in
+        rw (h .entry .opened) (put-settled
+        (put-settled (right-settled (h .right)) c s (endingAt (entryOf f) k) true (part (f .start .0) (f .start .0) k (f .end .0) whole (omega arith) (omega arith)) (λ _. refl))
+        c n (startingAt (entryOf f) k) true (part (f .start .0) k (f .end .0) (f .end .0) whole (omega arith) (omega arith)) (λ _. refl))
+
+    pub cut-done : {n : ℕ} {m : List ℕ} → lowest 32 (free (view l .k) c) ≡ some n → Is m (splitAt (view l) c s n k f) → Ran (cut (view l) s k) l (Done n 0) m
     unfolding cut
-    cut-done {n} {m} z put e =
+    cut-done {n} {m} z put =
         ran-done (h .entry .rule _ ∙ pass 7 (rw (lt-ltb (f .start .0) k low) (lt-ltb k (f .end .0) high))
         (there 8 _ n (ap (λ (c : ℕ). lowest 32 (free (view l .k) c)) now ∙ z) refl))
-        (sym (settled-is (subst (λ (c : ℕ). Is m (splitAt (view l) c s n k f)) (sym now) put) e .encoded))
+        (subst (λ (c : ℕ). m ≡ encode (settled (splitAt (view l) c s n k f))) (sym now) (settled-words put (split-settled n)))
 
 -- ── give ──
 -- slot s of c is given to p, and slot n of p has its range with rights r
@@ -93,6 +109,7 @@ pub record CanGive (l : List ℕ) (c p s : ℕ) (f : SlotFields) : Type 0 where
   pub inI : s < 32
   pub isChild : child (view l .k) c p ≡ true
   pub entry : Free l s f
+  pub right : Right (view l)
 
 -- the test of P, with the caller's number read first
 pub child-now : (k : K) (p : ℕ) {c : ℕ} {b : Bool} → k .current ≡ c → child k c p ≡ b → child k (k .current) p ≡ b
@@ -111,9 +128,14 @@ module _ {l : List ℕ} {c p s : ℕ} {f : SlotFields} (h : CanGive l c p s f) w
     unfolding give
     give-more w = ran-refused (pass 3 (child-now _ _ (h .now) (h .isChild)) (h .entry .rule _ ∙ there 8 _ n z (fail 10 _ w)))
 
-    pub give-done : {m o : List ℕ} → within r (f .rights) ≡ true → Is m (handedTo (view l) c s p n r f) → o ≡ encode (settled (view m))
-        → Ran (give (view l) p s r) l (Done n 0) o
+    -- both entries are open: their range is that of f
+    handed-settled : Settled (handedTo (view l) c s p n r f)
+    handed-settled =
+        let whole = free-clear (h .right) (h .entry) in
+        rw (h .entry .opened) (put-settled (put-settled (right-settled (h .right)) c s (givenTo (entryOf f) p) true whole (λ _. refl)) p n (rangeOf (entryOf f) r) true whole (λ _. refl))
+
+    pub give-done : {m : List ℕ} → within r (f .rights) ≡ true → Is m (handedTo (view l) c s p n r f) → Ran (give (view l) p s r) l (Done n 0) m
     unfolding give
-    give-done {m} w put e =
+    give-done {m} w put =
         ran-done (pass 3 (child-now _ _ (h .now) (h .isChild)) (h .entry .rule _ ∙ there 8 _ n z (pass 10 w refl)))
-        (sym (settled-is (subst (λ (c : ℕ). Is m (handedTo (view l) c s p n r f)) (sym (h .now)) put) e .encoded))
+        (subst (λ (c : ℕ). m ≡ encode (settled (handedTo (view l) c s p n r f))) (sym (h .now)) (settled-words put handed-settled))

@@ -1,5 +1,5 @@
 -- The exits of take.
-use mathlib.Core.Path.{_≡_, refl, sym, subst}
+use mathlib.Core.Path.{_≡_, refl, sym, subst, _∙_}
 use mathlib.Core.Bool.{true, false}
 use mathlib.Core.List.{List}
 use Prim.Native.Nat.{ℕ, _<_}
@@ -12,9 +12,11 @@ use Rattle.tables.specs.Write.{putSlot}
 use Rattle.tables.specs.Seen.{Seen}
 use Rattle.tables.specs.Search.{lowest}
 use Rattle.tables.specs.Settle.{settled}
-use Rattle.tables.specs.Settled.{settled-is}
+use Rattle.tables.specs.Kept.{keepRegions}
 use Rattle.tables.specs.declared.Outcome.the-variants.{Done, Refused}
 use Rattle.sound.specs.Clauses.{has}
+use Rattle.sound.specs.Whole.{Right}
+use Rattle.sound.specs.Settled.{Settled, entry-clear, put-settled, empty-words, right-settled}
 use Rattle.services.specs.Rules.{givenTo, returned, take}
 use Rattle.services.specs.Ran.{Ran, ran-refused, ran-done, pass, fail, there, missing}
 use Rattle.services.specs.Pick.{at-caller}
@@ -59,6 +61,7 @@ pub record CanTake (l : List ℕ) (c s : ℕ) (f : SlotFields) : Type 0 where
   pub seen : Seen l c s f
   pub present : f .present ≡ true
   pub is-given : f .given .0 ≡ 0 → ⊥
+  pub right : Right (view l)
 
 -- ── the checks before 14, of the caller's entry f that was read ──
 module _ {l : List ℕ} {c s : ℕ} {f : SlotFields} (now : view l .k .current ≡ c) (v : Seen l c s f) where
@@ -80,9 +83,14 @@ module _ {l : List ℕ} {c s : ℕ} {f : SlotFields} (h : CanTake l c s f) where
   take-kept z =
       ran-refused (there 4 _ _ (entry-there (at-caller (h .now) (h .seen)) (h .present)) (pass 6 (rw (ne-eqb (f .given .0) 0 (h .is-given)) refl) (missing 14 _ z)))
 
-  pub take-done : {i : ℕ} {m r : List ℕ} → lowest 32 (returned (view l) (entryOf f)) ≡ some i → Is m (takenBack (view l) c s i f) → r ≡ encode (settled (view m))
-      → Ran (take (view l) s) l (Done 0 0) r
+  -- the caller's entry has its range and is as open as before
+  own-settled : Settled (putSlot (view l) c s (some (givenTo (entryOf f) 0)) (f .opened))
+  own-settled =
+      let was = right-settled (h .right) in
+      put-settled was c s (givenTo (entryOf f) 0) (f .opened) (entry-clear was {e = entryOf f} (entry-there (h .seen) (h .present)) ∙ h .seen .opened) (λ q. sym (h .seen .opened) ∙ q)
+
+  pub take-done : {i : ℕ} {m r : List ℕ} → lowest 32 (returned (view l) (entryOf f)) ≡ some i → Is m (takenBack (view l) c s i f) → Is r (keepRegions (view m) (f .given .0)) → Ran (take (view l) s) l (Done 0 0) r
   unfolding take
-  take-done {i} {m} z put e =
+  take-done {i} {r = r} z put kept =
       ran-done (there 4 _ _ (entry-there (at-caller (h .now) (h .seen)) (h .present)) (pass 6 (rw (ne-eqb (f .given .0) 0 (h .is-given)) refl) (there 14 _ i z refl)))
-      (sym (settled-is (subst (λ (c : ℕ). Is m (takenBack (view l) c s i f)) (sym (h .now)) put) e .encoded))
+      (subst (λ (c : ℕ). r ≡ encode (settled (takenBack (view l) c s i f))) (sym (h .now)) (empty-words own-settled (f .given .0) i put kept))

@@ -5,6 +5,7 @@ ghost use Rattle.loops.specs.Every.{any};
 ghost use Rattle.tables.specs.View.{view, entryOf, entryIn};
 ghost use Rattle.tables.specs.Encode.{Canon, Is};
 ghost use Rattle.sound.specs.Clauses.{grants};
+ghost use Rattle.sound.specs.Whole.{Right};
 ghost use Rattle.services.specs.Rules.{sameRights, merge};
 ghost use Rattle.services.specs.Ran.{Ran};
 ghost use Rattle.services.specs.SlotExits.{CanPut};
@@ -137,13 +138,13 @@ fn merge_entries(
         return Outcome::Refused(13);
     }
     join(t, c, s, u, e, f);
-    tables::settle::settle(t);
+    tables::settle::settle_regions(t, c);
     Outcome::Done(0, 0)
 }
 
-// 8: slot s ends where slot u ended, and slot u is free
+// 8: slot s ends where slot u ended, and slot u is free; both are open, so in a right table nothing is left to settle but the caller's regions
 pub fn merge(t: &mut [u64; 641], s: Slot, u: Slot) -> Outcome
-    requires { ⌜ Canon (now t) × (s .0 < 32) × (u .0 < 32) ⌝ }
+    requires { ⌜ Canon (now t) × (s .0 < 32) × (u .0 < 32) × Right (view (now t)) ⌝ }
     ensures { λ r. ⌜ Ran (merge (view (now (t .entry))) (s .0) (u .0)) (now (t .entry)) r (now (t .exit)) ⌝ }
 {
     let c = tables::read::first(t).current;

@@ -1,9 +1,7 @@
-ghost use mathlib.Core.Path.{_≡_};
-ghost use mathlib.Core.Bool.{not, _||_};
 ghost use Prim.Native.Nat.{_<_, _^_};
 ghost use Rattle.tables.specs.View.{view};
 ghost use Rattle.tables.specs.Encode.{Canon, Is};
-ghost use Rattle.sound.specs.Clauses.{within};
+ghost use Rattle.sound.specs.Whole.{Right};
 ghost use Rattle.services.specs.Rules.{cut, give};
 ghost use Rattle.services.specs.Ran.{Ran};
 ghost use Rattle.services.specs.SlotExits.{CanPut, CanCut, CanGive, splitAt, handedTo};
@@ -47,13 +45,12 @@ fn cut_entry(t: &mut [u64; 641], s: Slot, l: Line, f: SlotFields) -> Outcome
         return Outcome::Refused(8);
     };
     split_entry(t, c, s, n, l, f);
-    tables::settle::settle(t);
     Outcome::Done(n.0 as u64, 0)
 }
 
-// 7: slot s ends at l, and a free slot goes on from there
+// 7: slot s, which is open, ends at l, and a free slot goes on from there: a right table stays settled
 pub fn cut(t: &mut [u64; 641], s: Slot, l: Line) -> Outcome
-    requires { ⌜ Canon (now t) × (s .0 < 32) × (l .0 < 2 ^ 27) ⌝ }
+    requires { ⌜ Canon (now t) × (s .0 < 32) × (l .0 < 2 ^ 27) × Right (view (now t)) ⌝ }
     ensures { λ r. ⌜ Ran (cut (view (now (t .entry))) (s .0) (l .0)) (now (t .entry)) r (now (t .exit)) ⌝ }
 {
     match free_entry(t, s) {
@@ -105,13 +102,12 @@ fn give_entry(
         return Outcome::Refused(10);
     }
     hand_over(t, c, s, p, n, r, f);
-    tables::settle::settle(t);
     Outcome::Done(n.0 as u64, 0)
 }
 
-// 5: slot s is given to the child p, and a free slot of p has its range with rights r
+// 5: slot s, which is open, is given to the child p, and a free slot of p has its range with rights r: a right table stays settled
 pub fn give(t: &mut [u64; 641], p: Partition, s: Slot, r: Rights) -> Outcome
-    requires { ⌜ Canon (now t) × (p .0 < 16) × (s .0 < 32) ⌝ }
+    requires { ⌜ Canon (now t) × (p .0 < 16) × (s .0 < 32) × Right (view (now t)) ⌝ }
     ensures { λ x. ⌜ Ran (give (view (now (t .entry))) (p .0) (s .0) r) (now (t .entry)) x (now (t .exit)) ⌝ }
 {
     let c = tables::read::first(t).current;

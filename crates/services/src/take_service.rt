@@ -4,6 +4,7 @@ ghost use Rattle.tables.specs.View.{view, entryOf};
 ghost use Rattle.tables.specs.Encode.{Canon, Is};
 ghost use Rattle.tables.specs.Search.{lowest};
 ghost use Rattle.tables.specs.Answers.{foundOf};
+ghost use Rattle.sound.specs.Whole.{Right};
 ghost use Rattle.services.specs.Rules.{returned, take};
 ghost use Rattle.services.specs.Ran.{Ran};
 ghost use Rattle.services.specs.SlotExits.{CanPut};
@@ -74,13 +75,13 @@ fn take_entry(t: &mut [u64; 641], c: Partition, s: Slot, e: SlotFields) -> Outco
         return Outcome::Refused(14);
     };
     take_back(t, c, s, i, e);
-    tables::settle::settle(t);
+    tables::settle::settle_regions(t, e.given);
     Outcome::Done(0, 0)
 }
 
-// 6: slot s is taken back from the child that it is given to
+// 6: slot s is taken back from the child that it is given to; in a right table nothing is left to settle but the child's regions
 pub fn take(t: &mut [u64; 641], s: Slot) -> Outcome
-    requires { ⌜ Canon (now t) × (s .0 < 32) ⌝ }
+    requires { ⌜ Canon (now t) × (s .0 < 32) × Right (view (now t)) ⌝ }
     ensures { λ r. ⌜ Ran (take (view (now (t .entry))) (s .0)) (now (t .entry)) r (now (t .exit)) ⌝ }
 {
     let c = tables::read::first(t).current;

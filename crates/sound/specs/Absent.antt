@@ -15,6 +15,8 @@ use Rattle.tables.specs.View.{areaPlace, regionsPlace, slotPlace, entryIn, head
 use Rattle.tables.specs.Search.{present}
 use Rattle.tables.specs.Settle.{openBit, openAt}
 use Rattle.tables.specs.ZeroRecord.{zeroRecord, zero-word}
+use Rattle.tables.specs.ByteRecords.{HeaderTells}
+use Rattle.sound.specs.Sound.{Sound}
 use Rattle.sound.specs.Clauses.{when, blankRegion, s3Word, s3, rooted, s4Area, s4Absent, s4, s5Slot, s5, apartE, s6, s7Given, s7, s8Backed, s9, s10Names, s10Once, s10, s11}
 use Rattle.sound.specs.Tests.{and-true}
 use Rattle.sound.specs.MeansWords.{regions-place, slot-place}
@@ -62,6 +64,10 @@ module _ (l : List ℕ) (p : ℕ) where
   pub no-region : (r : ℕ) → r < 8 → getD l (regionsPlace p) 0 ≡ 0 → view l .region p r ≡ none
   unfolding view named nth regions
   no-region r h q = inside-is 16 8 (regionAt l) p r (rw q (ap named (getD-replicate 8 r noRegion noRegion h)))
+
+-- in a sound table the header's word alone tells that a partition is absent
+pub header-tells : {l : List ℕ} → Sound l → HeaderTells l
+header-tells {l} s = record { zero = λ p b q. let n : areaPlace p 0 ≡ 1 + 40 * p = omega arith in s .s2 p b .absent (no-area l p 0 (rw n q)) }
 
 -- ── a zero record ──
 module _ (l : List ℕ) (p : ℕ) (z : zeroRecord l p ≡ true) where

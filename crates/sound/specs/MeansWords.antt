@@ -19,7 +19,7 @@ use Rattle.tables.specs.State.{Opt, none, some, Entry, Area, nowhere, K, not-no
 use Rattle.tables.specs.View.{areaPlace, regionsPlace, slotPlace, nth, view}
 use Rattle.tables.specs.Search.{isSome, present}
 use Rattle.sound.specs.Sound.{Present, Rooted, S1, S2, S3, S4, S5}
-use Rattle.tables.specs.ZeroRecord.{zeroRecord}
+use Rattle.tables.specs.ZeroRecord.{zeroTo}
 use Rattle.sound.specs.Clauses.{isNowhere, long, s1, s2Root, s2Other, s2, blankRegion, s3Word, s3First, s3, s4Area, s4Absent, s4, s5Slot, s5}
 use Rattle.sound.specs.Tests.{slot-range, area-range}
 use Rattle.sound.specs.MeansEntries.{is-some-means}
@@ -54,7 +54,7 @@ module _ (l : List ℕ) (k : K) (p : ℕ) where
   S2Is = (p ≡ 0 → S2Root) × ((p ≡ 0 → ⊥) → (Present k p → S2Other) × ((Present k p → ⊥) → (o : ℕ) → o < 40 → getD l (1 + 40 * p + o) 0 ≡ 0))
 
   s2-test : (s2 l k p ≡ true) ↔ S2Is
-  unfolding s2 s2Root s2Other zeroRecord present
+  unfolding s2 s2Root s2Other zeroTo present
   s2-test =
       if-means (eq-means p 0)
       (and-means (has-means (k .area p 0) is-nowhere) (eq-means (k .parent p) 0))

@@ -21,7 +21,7 @@ use Rattle.tables.specs.Rising.{lowOf, lined-at}
 use Rattle.tables.specs.Gather.{eachOf}
 use Rattle.tables.specs.Areas.{AreasOf, off, clearOf, clear-quick, Parted, areas-lined}
 use Rattle.sound.specs.Clauses.{when, s9, s10Names, s10Once, s10}
-use Rattle.sound.specs.Tests.{and-says, and-true, not-says, not-of, all-and}
+use Rattle.sound.specs.Tests.{and-says, not-of, all-and}
 use Rattle.sound.specs.Order.{linesOf, linesAt, placed, Rows, lines-of}
 use Rattle.sound.specs.AtOnce.{Shaped, shaped-record}
 use Rattle.sound.specs.Used.{empty-closed}

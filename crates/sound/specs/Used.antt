@@ -6,12 +6,11 @@ use Prim.Native.Nat.{ℕ, zero, suc, _+_, _-_, _*_, _/_, _≤_, _<_}
 use native.Mathlib.Decide.{ℕ-discrete}
 use native.Mathlib.Omega.{arith}
 use lib.Dec.{ltb}
-use borrow.Author.Tests.{ltb-true}
 use Rattle.loops.specs.Scan.{seek, Seeking, seek-on, seek-end}
 use Rattle.words.specs.Words.{slot}
 use Rattle.words.specs.declared.structure_word.StructureFields.{StructureFields}
 use Rattle.tables.specs.State.{none, some, Area, K, not-none, none-of}
-use Rattle.tables.specs.View.{structureArea, slotAt, slotPlace, inside, view}
+use Rattle.tables.specs.View.{structureArea, slotAt, inside, view}
 use Rattle.tables.specs.Seen.{SeenStructure}
 use Rattle.tables.specs.Search.{isSome}
 use Rattle.sound.specs.Sound.{S5}

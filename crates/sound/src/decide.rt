@@ -125,10 +125,9 @@ pub fn is_ordered(t: &[u64; 641], order: &mut [u8; 512], counts: &mut [u32; 16])
     if !shapes_sound(t) {
         return false;
     }
-    let a = tables::areas::gather_areas(t);
-    let n = a.n;
-    let s = a.starts;
-    let e = a.ends;
+    let mut s = [0u32; 80];
+    let mut e = [0u32; 80];
+    let n = tables::areas::gather_areas(t, &mut s, &mut e);
     if !backing::areas_apart(n, &s, &e) {
         return false;
     }

@@ -1,5 +1,5 @@
 -- The bytes of a table, record by record. Of a record that is zero nothing has to be loaded or stored.
-use mathlib.Core.Path.{_≡_, refl, ap, sym, subst, _∙_}
+use mathlib.Core.Path.{_≡_, ap, sym, subst, _∙_}
 use mathlib.Core.Bool.{Bool, true}
 use mathlib.Core.List.{List}
 use Prim.Native.Nat.{ℕ, _+_, _-_, _*_, _/_, _%_, _≤_, _<_}
@@ -17,11 +17,18 @@ use Rattle.loops.specs.Rewrite.{tabFrom, tab-is, tab-ext, Filling, fill-start, 
 use Rattle.words.specs.Parts.{pack}
 use Rattle.tables.specs.Bytes.{octets, wordAt, byteAt, byteOf, wordsOf, bytesOf, putWord}
 use Rattle.tables.specs.ByteTrips.{byte-place}
-use Rattle.tables.specs.ZeroRecord.{zeroRecord, zero-word}
 
 -- the 320 bytes of record p are zero
 unfoldable pub zeroBytes : List ℕ → ℕ → Bool
 zeroBytes b p = all 320 (λ o. eqb (getD b (8 + 320 * p + o) 0) 0)
+
+-- the 40 words of record p are zero
+abbrev pub ZeroWords : List ℕ → ℕ → Type 0
+ZeroWords l p = (o : ℕ) → o < 40 → getD l (1 + 40 * p + o) 0 ≡ 0
+
+-- A record that begins with a zero word is zero, as in a sound table: there only an absent partition begins so.
+pub record HeaderTells (l : List ℕ) : Type 0 where
+  pub zero : (p : ℕ) → p < 16 → getD l (1 + 40 * p) 0 ≡ 0 → ZeroWords l p
 
 -- at k, t has the words of the bytes b below k, and is zero from there on
 abbrev pub Loading : List ℕ → ℕ → List ℕ → Type 0
@@ -75,11 +82,11 @@ byte-zero : (j : ℕ) → j < 8 → byteAt 0 j ≡ 0
 unfolding byteAt
 byte-zero j h = getD-replicate 8 j 0 0 h
 
-record-byte : (l : List ℕ) (p : ℕ) → zeroRecord l p ≡ true → (i : ℕ) → 8 + 320 * p ≤ i → i < 328 + 320 * p → byteOf l i ≡ 0
+record-byte : (l : List ℕ) (p : ℕ) → ZeroWords l p → (i : ℕ) → 8 + 320 * p ≤ i → i < 328 + 320 * p → byteOf l i ≡ 0
 record-byte l p z i h g = rw (word (i / 8 - (1 + 40 * p)) (omega arith) (omega arith)) (byte-zero (i % 8) (omega arith))
   where
     word : (o : ℕ) → i / 8 ≡ 1 + 40 * p + o → o < 40 → getD l (i / 8) 0 ≡ 0
-    word o e h = rw e (zero-word l p z o h)
+    word o e h = rw e (z o h)
 
 -- ── stored ──
 -- bytes cleared one by one
@@ -111,7 +118,7 @@ store-word {l} {s} {k = k} inv h r =
     (λ j s q f. rw (← add-assoc) (put-byte f (omega arith) (sym (byte-place l k j q)))))
 
 -- a zero record: its bytes stand there already
-pub store-skip : {l s : List ℕ} (p : ℕ) → zeroRecord l p ≡ true → Storing l (1 + 40 * p) s → Storing l (41 + 40 * p) s
+pub store-skip : {l s : List ℕ} (p : ℕ) → ZeroWords l p → Storing l (1 + 40 * p) s → Storing l (41 + 40 * p) s
 store-skip {l} {s} p z inv = record {
   below = λ i h. go i h (decLt i (8 * (1 + 40 * p)));
   rest = record { size = inv .rest .size; zero = λ i b. inv .rest .zero i (omega arith) };

@@ -2,7 +2,7 @@ ghost use mathlib.Core.Path.{_≡_};
 ghost use Prim.Native.Nat.{_+_, _*_, _<_};
 ghost use lib.ListN.{length, replicate};
 ghost use Rattle.tables.specs.Bytes.{wordAt, wordsOf, bytesOf, putWord};
-ghost use Rattle.tables.specs.ByteRecords.{zeroBytes, Loading, ZeroFrom, Storing};
+ghost use Rattle.tables.specs.ByteRecords.{zeroBytes, HeaderTells, Loading, ZeroFrom, Storing};
 use words::Partition;
 
 // Two bytes as a number. A word summed up from pairs compiles to one read of eight bytes; a sum of eight bytes does not.
@@ -97,13 +97,13 @@ fn clear(b: &mut [u8])
 
 // Record p; its bytes are zero so far.
 fn store_record(t: &[u64; 641], p: Partition, b: &mut [u8])
-    requires { ⌜ (p .0 < 16) × Storing (now t) (1 + 40 * p .0) (now b) ⌝ }
+    requires { ⌜ (p .0 < 16) × HeaderTells (now t) × Storing (now t) (1 + 40 * p .0) (now b) ⌝ }
     ensures { λ _. ⌜ Storing (now (t .entry)) (41 + 40 * p .0) (now (b .exit)) ⌝ }
 {
-    if crate::areas::zero_record(t, p) {
+    let mut k = (1 + 40 * p.0) as usize;
+    if t[k] == 0 {
         return;
     }
-    let mut k = (1 + 40 * p.0) as usize;
     let end = (41 + 40 * p.0) as usize;
     while k < end {
         put(b, k, t[k]);
@@ -111,9 +111,9 @@ fn store_record(t: &[u64; 641], p: Partition, b: &mut [u8])
     }
 }
 
-// The table as bytes. Most records are absent: to fill all bytes with zeros at once is quicker than to store those.
+// The table as bytes. Most partitions are absent: to fill all bytes with zeros at once is quicker than to store those.
 pub fn store(t: &[u64; 641], b: &mut [u8])
-    requires { ⌜ length (now b) ≡ 5128 ⌝ }
+    requires { ⌜ (length (now b) ≡ 5128) × HeaderTells (now t) ⌝ }
     ensures { λ _. ⌜ now (b .exit) ≡ bytesOf (now (t .entry)) ⌝ }
 {
     clear(b);

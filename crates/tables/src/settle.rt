@@ -79,7 +79,7 @@ fn kept_regions(t: &[u64; 641], p: Partition) -> RegionsFields
 }
 
 // all regions of p
-fn settle_regions(t: &mut [u64; 641], p: Partition)
+pub fn settle_regions(t: &mut [u64; 641], p: Partition)
     requires { ⌜ Canon (now t) × (p .0 < 16) ⌝ }
     ensures { λ _. ⌜ Is (now (t .exit)) (keepRegions (view (now (t .entry))) (p .0)) ⌝ }
 {
@@ -87,8 +87,8 @@ fn settle_regions(t: &mut [u64; 641], p: Partition)
     store(t, at, words::regions_word::write(kept_regions(t, p)));
 }
 
-// The record of p; of a zero record nothing changes. One lifetime for s and e, so that both can be fields of one struct.
-fn settle_record<'a>(t: &mut [u64; 641], p: Partition, n: usize, s: &'a [u32; 80], e: &'a [u32; 80])
+// The record of p; of a zero record nothing changes.
+fn settle_record(t: &mut [u64; 641], p: Partition, n: usize, s: &[u32; 80], e: &[u32; 80])
     requires { ⌜ CanSettle (now t) (p .0) n (now s) (now e) ⌝ }
     ensures { λ _. ⌜ Is (now (t .exit)) (settleRecord (view (now (t .entry))) (p .0)) ⌝ }
 {
@@ -104,10 +104,12 @@ pub fn settle(t: &mut [u64; 641])
     requires { ⌜ Canon (now t) ⌝ }
     ensures { λ _. ⌜ now (t .exit) ≡ encode (settled (view (now (t .entry)))) ⌝ }
 {
-    let g = areas::gather_areas(t);
+    let mut starts = [0u32; 80];
+    let mut ends = [0u32; 80];
+    let n = areas::gather_areas(t, &mut starts, &mut ends);
     let mut p = 0u32;
     while p < 16 {
-        settle_record(t, Partition(p), g.n, &g.starts, &g.ends);
+        settle_record(t, Partition(p), n, &starts, &ends);
         p += 1;
     }
 }

@@ -1,4 +1,3 @@
-ghost use mathlib.Core.Path.{_≡_};
 ghost use mathlib.Core.Bool.{false};
 ghost use Prim.Native.Nat.{_^_, _<_};
 ghost use Rattle.tables.specs.State.{none, some};

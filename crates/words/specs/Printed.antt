@@ -1,8 +1,7 @@
 -- The words that 01 prints, and the fields that it says they have.
 use mathlib.Core.Path.{_≡_, refl}
 use mathlib.Core.Bool.{true, false}
-use mathlib.Core.List.{List, [], _∷_, map}
-use Prim.Native.Nat.{ℕ}
+use mathlib.Core.List.{[], _∷_, map}
 use Rattle.words.specs.Kind.{reading}
 use Rattle.words.specs.Words.{slot, call, boot}
 use Rattle.words.specs.declared.call_word.CallRead.the-variants.{Fields as CallIs}

@@ -4,7 +4,7 @@ use lib.ListN.{length}
 use borrow.Author.Tests.{not-false}
 use Rattle.tables.specs.Bytes.{bytesOf}
 use Rattle.services.specs.Brief.{call-brief, first-small, number-small}
-use Rattle.board.specs.Board.{call-none, call-lent, call-stands, call-kept, call-caller}
+use Rattle.board.specs.Board.{call-none, call-lent, call-tells, call-stands, call-kept, call-caller}
 use native.Mathlib.Omega.{arith}
 use borrow.Author.Needs.{needs}
 use Rattle.board.proofs.ulavrepit_call.Statement.{statement}
@@ -20,7 +20,9 @@ ulavrepit-call-spec =
     (λ c κs. search needs)
     (λ c. search needs)
     (λ c κs. search needs)
-    (λ c κs. c .before .before .before .before .before .before .before .before .before .before .before .before .before .if1 .left)
+    (λ c κs.
+    let size = c .before .before .before .before .before .before .before .before .before .before .before .before .before .if1 .left in
+    (size, call-tells _ size (c .before .before .before .before .before .before .before .before .before .before .load .ensures) (c .before .before .before .before .before .before .before .before .call-table .ensures) (λ i. c .before .before .before .before .before .before .before .before .before .before .before .before .before .before .slice-known .given i .fits) (c .before .before .before .before .before .outcome .given .1)))
     (λ c κs. (omega arith, omega (arith, call-caller _ (c .before .before .before .before .before .before .before .before .before .before .before .if1 .left) (c .before .before .before .before .before .before .before .before .load .ensures) (c .before .before .before .before .before .before .call-table .ensures)), omega (arith, first-small (call-brief _ _) (sym (c .before .before .before .before .before .before .call-table .ensures .ran .outcome) ∙ c .before .before .before .outcome .given .1))))
     (λ c. search needs)
     (λ c κs. (omega (arith, number-small (call-brief _ _) (sym (c .before .before .before .before .call-table .ensures .ran .outcome) ∙ c .before .outcome2 .given .1)), omega (arith, call-caller _ (c .before .before .before .before .before .before .before .before .before .if1 .left) (c .before .before .before .before .before .before .load .ensures) (c .before .before .before .before .call-table .ensures)), omega arith))

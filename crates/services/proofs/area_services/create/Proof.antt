@@ -4,7 +4,7 @@ use Rattle.tables.specs.Encode.{is-canon}
 use Rattle.tables.specs.Search.{lowest-some}
 use Rattle.tables.specs.Answers.{which-is}
 use Rattle.services.specs.Rules.{create, long}
-use Rattle.services.specs.Ran.{ran-refused, pass, fail, there, missing}
+use Rattle.services.specs.Ran.{ran-refused, fail, there, missing}
 use Rattle.services.specs.Pick.{picked-no, picked-is}
 use Rattle.services.specs.AreaExits.{created}
 use native.Mathlib.Omega.{arith}

@@ -1,4 +1,4 @@
-use mathlib.Core.Path.{sym, _∙_}
+use mathlib.Core.Path.{sym}
 use Rattle.services.specs.Ran.{ran-refused, ran-as}
 use Rattle.services.specs.Calls.{known-not, serve-unknown, serve-1, serve-2, serve-3, serve-4, serve-5, serve-6, serve-7, serve-8, serve-9, serve-10, serve-11, serve-12, serve-13, serve-14}
 use Rattle.services.proofs.calls.perform.Statement.{statement}
@@ -12,10 +12,10 @@ perform-spec =
     (λ c κs. (c .before .before .pre .0, c .before .before .pre .1 .partition))
     (λ c κs. (c .before .before .pre .0, c .before .before .pre .1 .partition, c .before .before .pre .1 .slot))
     (λ c κs. (c .before .before .pre .0, c .before .before .pre .1 .partition))
-    (λ c κs. (c .before .before .pre .0, c .before .before .pre .1 .partition, c .before .before .pre .1 .slot))
-    (λ c κs. (c .before .before .pre .0, c .before .before .pre .1 .slot))
-    (λ c κs. (c .before .before .pre .0, c .before .before .pre .1 .slot, c .before .before .pre .1 .line))
-    (λ c κs. (c .before .before .pre .0, c .before .before .pre .1 .slot, c .before .before .pre .1 .other))
+    (λ c κs. (c .before .before .pre .0, c .before .before .pre .1 .partition, c .before .before .pre .1 .slot, c .before .before .pre .3))
+    (λ c κs. (c .before .before .pre .0, c .before .before .pre .1 .slot, c .before .before .pre .3))
+    (λ c κs. (c .before .before .pre .0, c .before .before .pre .1 .slot, c .before .before .pre .1 .line, c .before .before .pre .3))
+    (λ c κs. (c .before .before .pre .0, c .before .before .pre .1 .slot, c .before .before .pre .1 .other, c .before .before .pre .3))
     (λ c κs. (c .before .before .pre .0, c .before .before .pre .1 .partition, c .before .before .pre .1 .slot, c .before .before .pre .3))
     (λ c κs. (c .before .before .pre .0, c .before .before .pre .1 .partition, c .before .before .pre .3))
     (λ c κs. (c .before .before .pre .0, c .before .before .pre .1 .partition, c .before .before .pre .3))

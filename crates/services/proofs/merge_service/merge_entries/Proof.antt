@@ -1,4 +1,5 @@
 use mathlib.Core.Path.{sym, _∙_}
+use native.Mathlib.Omega.{arith}
 use borrow.Author.Tests.{not-true, not-false}
 use Rattle.tables.specs.Encode.{is-canon}
 use Rattle.services.specs.Ran.{ran-refused}
@@ -21,5 +22,5 @@ merge-entries-spec =
     (λ c κs. search needs)
     (λ c. ran-refused (merge-other-rights (c .before .before .before .before .before .before .before .before .before .before .before .before .before .before .before .before .pre) (not-false _ (c .before .before .before .before .before .before .before .before .before .before .before .before .before .before .if1 .left)) (not-false _ (c .before .before .before .before .before .before .before .before .before .before .before .before .if2 .left)) (c .before .before .before .before .before .before .before .before .before .before .if3 .left) (c .before .before .before .before .before .before .before .before .if4 .left) (c .before .before .before .before .before .if5 .left) (sym (c .before .before .before .may-join .ensures) ∙ not-false _ (c .before .before .if6 .left)) (sym (c .before .same-rights .ensures) ∙ not-true _ (c .if7 .taken))))
     (λ c κs. search needs)
-    (λ c κs. is-canon (c .before .join .ensures))
-    (λ c. merge-done (c .before .before .before .before .before .before .before .before .before .before .before .before .before .before .before .before .before .before .before .before .pre) (not-false _ (c .before .before .before .before .before .before .before .before .before .before .before .before .before .before .before .before .before .before .if1 .left)) (not-false _ (c .before .before .before .before .before .before .before .before .before .before .before .before .before .before .before .before .if2 .left)) (c .before .before .before .before .before .before .before .before .before .before .before .before .before .before .if3 .left) (c .before .before .before .before .before .before .before .before .before .before .before .before .if4 .left) (c .before .before .before .before .before .before .before .before .before .if5 .left) (sym (c .before .before .before .before .before .before .before .may-join .ensures) ∙ not-false _ (c .before .before .before .before .before .before .if6 .left)) (sym (c .before .before .before .before .before .same-rights .ensures) ∙ not-false _ (c .before .before .before .before .if7 .left)) (c .before .before .join .ensures) (c .settle .ensures)))
+    (λ c κs. (is-canon (c .before .join .ensures), omega (arith, c .before .before .before .before .before .before .before .before .before .before .before .before .before .before .before .before .before .before .before .pre .caller)))
+    (λ c. merge-done (c .before .before .before .before .before .before .before .before .before .before .before .before .before .before .before .before .before .before .before .before .pre) (not-false _ (c .before .before .before .before .before .before .before .before .before .before .before .before .before .before .before .before .before .before .if1 .left)) (not-false _ (c .before .before .before .before .before .before .before .before .before .before .before .before .before .before .before .before .if2 .left)) (c .before .before .before .before .before .before .before .before .before .before .before .before .before .before .if3 .left) (c .before .before .before .before .before .before .before .before .before .before .before .before .if4 .left) (c .before .before .before .before .before .before .before .before .before .if5 .left) (sym (c .before .before .before .before .before .before .before .may-join .ensures) ∙ not-false _ (c .before .before .before .before .before .before .if6 .left)) (sym (c .before .before .before .before .before .same-rights .ensures) ∙ not-false _ (c .before .before .before .before .if7 .left)) (c .before .before .join .ensures) (c .settle-regions .ensures)))

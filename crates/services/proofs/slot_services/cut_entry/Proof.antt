@@ -1,7 +1,6 @@
 use mathlib.Core.Path.{sym, _∙_}
 use Rattle.tables.specs.Search.{lowest-some}
 use Rattle.tables.specs.Answers.{found-is}
-use Rattle.tables.specs.Encode.{is-canon}
 use Rattle.services.specs.SlotExits.{can-split, cut-low, cut-high, cut-full, cut-done}
 use borrow.Author.Needs.{needs}
 use Rattle.services.proofs.slot_services.cut_entry.Statement.{statement}
@@ -19,6 +18,5 @@ cut-entry-spec =
     (λ c. search needs)
     (λ c. cut-full (c .before .before .before .before .before .before .before .before .before .before .before .before .before .pre) (c .before .before .before .before .before .first .ensures .current) (c .before .before .before .before .before .before .before .before .before .before .if1 .left) (c .before .before .before .before .before .before .before .if2 .left) (found-is _ (sym (c .enum-told .given .1) ∙ c .before .before .free-slot .ensures)))
     (λ c κs. (can-split (c .before .before .before .before .before .before .before .before .before .before .before .before .before .before .before .pre) (c .before .before .before .before .before .before .before .first .ensures .current-small), lowest-some 32 _ _ (found-is _ (sym (c .before .before .found .given .1) ∙ c .before .before .before .before .free-slot .ensures)) .below, c .before .before .before .before .before .before .before .before .before .before .before .before .before .before .before .pre .line))
-    (λ c κs. is-canon (c .before .split-entry .ensures))
     (λ c. search needs)
-    (λ c. cut-done (c .before .before .before .before .before .before .before .before .before .before .before .before .before .before .before .before .before .before .before .pre) (c .before .before .before .before .before .before .before .before .before .before .before .first .ensures .current) (c .before .before .before .before .before .before .before .before .before .before .before .before .before .before .before .before .if1 .left) (c .before .before .before .before .before .before .before .before .before .before .before .before .before .if2 .left) (found-is _ (sym (c .before .before .before .before .before .before .found .given .1) ∙ c .before .before .before .before .before .before .before .before .free-slot .ensures)) (c .before .before .before .split-entry .ensures) (c .before .settle .ensures)))
+    (λ c. cut-done (c .before .before .before .before .before .before .before .before .before .before .before .before .before .before .before .before .before .pre) (c .before .before .before .before .before .before .before .before .before .first .ensures .current) (c .before .before .before .before .before .before .before .before .before .before .before .before .before .before .if1 .left) (c .before .before .before .before .before .before .before .before .before .before .before .if2 .left) (found-is _ (sym (c .before .before .before .before .found .given .1) ∙ c .before .before .before .before .before .before .free-slot .ensures)) (c .before .split-entry .ensures)))

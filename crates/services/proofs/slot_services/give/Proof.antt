@@ -19,6 +19,6 @@ give-spec =
     (λ c κs. c .before .before .before .before .before .before .before .pre .2)
     (λ c. search needs)
     (λ c. search needs)
-    (λ c κs. record { canon = c .before .before .before .before .before .before .before .before .before .before .before .before .pre .0; now = c .before .before .before .before .before .before .before .before .before .before .first .ensures .current; caller = c .before .before .before .before .before .before .before .before .before .before .first .ensures .current-small; inP = c .before .before .before .before .before .before .before .before .before .before .before .before .pre .1; inI = c .before .before .before .before .before .before .before .before .before .before .before .before .pre .2; isChild = sym (c .before .before .before .before .before .before .before .is-child .ensures) ∙ not-false _ (c .before .before .before .before .before .before .if1 .left); entry = picked-is (c .before .before .f .given .1) (c .before .before .before .before .free-entry .ensures) })
+    (λ c κs. record { canon = c .before .before .before .before .before .before .before .before .before .before .before .before .pre .0; now = c .before .before .before .before .before .before .before .before .before .before .first .ensures .current; caller = c .before .before .before .before .before .before .before .before .before .before .first .ensures .current-small; inP = c .before .before .before .before .before .before .before .before .before .before .before .before .pre .1; inI = c .before .before .before .before .before .before .before .before .before .before .before .before .pre .2; isChild = sym (c .before .before .before .before .before .before .before .is-child .ensures) ∙ not-false _ (c .before .before .before .before .before .before .if1 .left); entry = picked-is (c .before .before .f .given .1) (c .before .before .before .before .free-entry .ensures); right = c .before .before .before .before .before .before .before .before .before .before .before .before .pre .3 })
     (λ c. ran-refused (pass 3 (child-now _ _ (c .before .before .before .before .before .before .before .before .before .first .ensures .current) (sym (c .before .before .before .before .before .before .is-child .ensures) ∙ not-false _ (c .before .before .before .before .before .if1 .left))) (picked-no (c .before .n .given .1) (c .before .before .before .free-entry .ensures) _)))
     (λ c. search needs))

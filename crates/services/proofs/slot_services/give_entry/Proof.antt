@@ -2,7 +2,6 @@ use mathlib.Core.Path.{sym, _∙_}
 use borrow.Author.Tests.{not-true, not-false}
 use Rattle.tables.specs.Search.{lowest-some}
 use Rattle.tables.specs.Answers.{found-is}
-use Rattle.tables.specs.Encode.{is-canon}
 use Rattle.services.specs.SlotExits.{can-hand, give-full, give-more, give-done}
 use borrow.Author.Needs.{needs}
 use Rattle.services.proofs.slot_services.give_entry.Statement.{statement}
@@ -19,6 +18,5 @@ give-entry-spec =
     (λ c κs. search needs)
     (λ c. give-more (c .before .before .before .before .before .before .before .pre) _ (found-is _ (sym (c .before .before .before .found .given .1) ∙ c .before .before .before .before .before .free-slot .ensures)) (sym (c .before .rights-within .ensures) ∙ not-true _ (c .if1 .taken)))
     (λ c κs. (can-hand (c .before .before .before .before .before .before .before .before .pre), c .before .before .before .before .before .before .before .before .pre .inP, lowest-some 32 _ _ (found-is _ (sym (c .before .before .before .before .found .given .1) ∙ c .before .before .before .before .before .before .free-slot .ensures)) .below))
-    (λ c κs. is-canon (c .before .hand-over .ensures))
     (λ c. search needs)
-    (λ c. give-done (c .before .before .before .before .before .before .before .before .before .before .before .before .pre) _ (found-is _ (sym (c .before .before .before .before .before .before .before .before .found .given .1) ∙ c .before .before .before .before .before .before .before .before .before .before .free-slot .ensures)) (sym (c .before .before .before .before .before .before .rights-within .ensures) ∙ not-false _ (c .before .before .before .before .before .if1 .left)) (c .before .before .before .hand-over .ensures) (c .before .settle .ensures)))
+    (λ c. give-done (c .before .before .before .before .before .before .before .before .before .before .pre) _ (found-is _ (sym (c .before .before .before .before .before .before .found .given .1) ∙ c .before .before .before .before .before .before .before .before .free-slot .ensures)) (sym (c .before .before .before .before .rights-within .ensures) ∙ not-false _ (c .before .before .before .if1 .left)) (c .before .hand-over .ensures)))

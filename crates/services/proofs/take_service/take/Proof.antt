@@ -12,5 +12,5 @@ take-spec =
     (λ c κs. (c .before .before .first .ensures .current-small, c .before .before .before .before .pre .1))
     (λ c. take-none (c .before .before .before .before .before .first .ensures .current) (c .before .before .entry .ensures) (not-true _ (c .if1 .taken)))
     (λ c. take-not-given (c .before .before .before .before .before .before .before .first .ensures .current) (c .before .before .before .before .entry .ensures) (not-false _ (c .before .before .if1 .left)) (c .if2 .taken))
-    (λ c κs. record { canon = c .before .before .before .before .before .before .before .before .before .before .pre .0; now = c .before .before .before .before .before .before .before .before .first .ensures .current; caller = c .before .before .before .before .before .before .before .before .first .ensures .current-small; inI = c .before .before .before .before .before .before .before .before .before .before .pre .1; seen = c .before .before .before .before .before .entry .ensures; present = not-false _ (c .before .before .before .if1 .left); is-given = c .before .if2 .left })
+    (λ c κs. record { canon = c .before .before .before .before .before .before .before .before .before .before .pre .0; now = c .before .before .before .before .before .before .before .before .first .ensures .current; caller = c .before .before .before .before .before .before .before .before .first .ensures .current-small; inI = c .before .before .before .before .before .before .before .before .before .before .pre .1; seen = c .before .before .before .before .before .entry .ensures; present = not-false _ (c .before .before .before .if1 .left); is-given = c .before .if2 .left; right = c .before .before .before .before .before .before .before .before .before .before .pre .2 })
     (λ c. search needs))

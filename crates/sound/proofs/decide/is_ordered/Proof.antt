@@ -1,3 +1,4 @@
+use mathlib.Core.Path.{refl}
 use borrow.Author.Tests.{not-false}
 use Rattle.sound.specs.Backing.{apart-said}
 use Rattle.sound.specs.Decide.{failed, passed, shaped, not-sound, decided}
@@ -14,10 +15,10 @@ is-ordered-spec =
     (λ c. not-sound _ (λ h. failed (c .before .first-sound .ensures) (c .if1 .taken) (h .first)))
     (λ c κs. search needs)
     (λ c. not-sound _ (λ h. failed (c .before .shapes-sound .ensures) (c .if2 .taken) (h .shapes)))
-    (λ c κs. search needs)
-    (λ c κs. c .before .before .before .before .gather-areas .ensures .rising .few)
-    (λ c. not-sound _ (λ h. failed (apart-said (c .before .before .before .before .before .before .gather-areas .ensures) (c .before .areas-apart .ensures) .says) (c .if3 .taken) (h .apart)))
+    (λ c κs. (refl, refl))
+    (λ c κs. c .before .before .gather-areas .ensures .rising .few)
+    (λ c. not-sound _ (λ h. failed (apart-said (c .before .before .before .before .gather-areas .ensures) (c .before .areas-apart .ensures) .says) (c .if3 .taken) (h .apart)))
     (λ c κs. (shaped (passed (c .before .before .before .before .before .before .before .before .before .before .shapes-sound .ensures) (c .before .before .before .before .before .before .before .before .before .if2 .left)), c .before .before .before .before .before .before .before .before .before .before .before .before .before .before .pre .0, c .before .before .before .before .before .before .before .before .before .before .before .before .before .before .pre .1))
     (λ c. not-sound _ (λ h. failed (c .before .arrange .ensures .says) (c .if4 .taken) (h .s6)))
-    (λ c κs. record { shaped = shaped (passed (c .before .before .before .before .before .before .before .before .before .before .before .before .before .before .before .before .shapes-sound .ensures) (c .before .before .before .before .before .before .before .before .before .before .before .before .before .before .before .if2 .left)); areas = c .before .before .before .before .before .before .before .before .before .before .before .before .before .before .gather-areas .ensures; parted = apart-said (c .before .before .before .before .before .before .before .before .before .before .before .before .before .before .gather-areas .ensures) (c .before .before .before .before .before .before .before .before .before .areas-apart .ensures) .parted (not-false _ (c .before .before .before .before .before .before .before .before .if3 .left)); s6 = passed (c .before .before .before .before .before .arrange .ensures .says) (c .before .before .before .before .if4 .left); orders = c .before .before .before .before .before .arrange .ensures .orders (not-false _ (c .before .before .before .before .if4 .left)) })
-    (λ c. decided _ (c .before .before .before .before .before .before .before .before .before .before .before .before .before .before .before .before .before .before .before .before .sized .ensures) (passed (c .before .before .before .before .before .before .before .before .before .before .before .before .before .before .before .before .before .before .before .first-sound .ensures) (c .before .before .before .before .before .before .before .before .before .before .before .before .before .before .before .before .before .before .if1 .left)) (passed (apart-said (c .before .before .before .before .before .before .before .before .before .before .before .before .before .before .before .gather-areas .ensures) (c .before .before .before .before .before .before .before .before .before .before .areas-apart .ensures) .says) (c .before .before .before .before .before .before .before .before .before .if3 .left)) (c .before .before .before .before .before .before .arrange .ensures .orders (not-false _ (c .before .before .before .before .before .if4 .left))) (c .partitions-sound .ensures)))
+    (λ c κs. record { shaped = shaped (passed (c .before .before .before .before .before .before .before .before .before .before .before .before .before .before .before .before .shapes-sound .ensures) (c .before .before .before .before .before .before .before .before .before .before .before .before .before .before .before .if2 .left)); areas = c .before .before .before .before .before .before .before .before .before .before .before .before .gather-areas .ensures; parted = apart-said (c .before .before .before .before .before .before .before .before .before .before .before .before .gather-areas .ensures) (c .before .before .before .before .before .before .before .before .before .areas-apart .ensures) .parted (not-false _ (c .before .before .before .before .before .before .before .before .if3 .left)); s6 = passed (c .before .before .before .before .before .arrange .ensures .says) (c .before .before .before .before .if4 .left); orders = c .before .before .before .before .before .arrange .ensures .orders (not-false _ (c .before .before .before .before .if4 .left)) })
+    (λ c. decided _ (c .before .before .before .before .before .before .before .before .before .before .before .before .before .before .before .before .before .before .before .before .sized .ensures) (passed (c .before .before .before .before .before .before .before .before .before .before .before .before .before .before .before .before .before .before .before .first-sound .ensures) (c .before .before .before .before .before .before .before .before .before .before .before .before .before .before .before .before .before .before .if1 .left)) (passed (apart-said (c .before .before .before .before .before .before .before .before .before .before .before .before .before .gather-areas .ensures) (c .before .before .before .before .before .before .before .before .before .before .areas-apart .ensures) .says) (c .before .before .before .before .before .before .before .before .before .if3 .left)) (c .before .before .before .before .before .before .arrange .ensures .orders (not-false _ (c .before .before .before .before .before .if4 .left))) (c .partitions-sound .ensures)))

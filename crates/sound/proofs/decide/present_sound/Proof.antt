@@ -1,6 +1,5 @@
 use mathlib.Core.Path.{sym, _∙_}
 use borrow.Author.Tests.{not-true}
-use native.Mathlib.Omega.{arith}
 use Rattle.sound.specs.Decide.{failed, passed, rest-no, no-given, no-cover, rest-regions}
 use Rattle.sound.specs.Opening.{can-open}
 use borrow.Author.Needs.{needs}

@@ -1,5 +1,5 @@
 use mathlib.Core.Path.{sym, _∙_}
-use Rattle.tables.specs.Search.{lowest, holdsAt, lowest-some}
+use Rattle.tables.specs.Search.{lowest-some}
 use Rattle.tables.specs.Answers.{found-is}
 use Rattle.sound.specs.Holders.{heir-none, heir-given, heir-empty}
 use native.Mathlib.Omega.{arith}

@@ -1,6 +1,5 @@
 use Prim.Native.Nat.{_-_}
 use native.Mathlib.Omega.{arith}
-use mathlib.Core.Path.{_∙_}
 use Rattle.sound.specs.Opening.{Walked, walk-start, walk-on, walk-fails, walk-ends}
 use Rattle.sound.proofs.opening.opens_right.Statement.{statement}
 use Rattle.sound.proofs.opening.opens_right.Tie as tie

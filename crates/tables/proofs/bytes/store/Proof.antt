@@ -11,11 +11,11 @@ store-spec =
     (tie.spec
     (λ t b₀ p₀ b p. (p ≤ 16) × Storing t (1 + 40 * p) b)
     (λ t b₀ p₀ b p. 16 - p)
-    (λ c κs. search needs)
+    (λ c κs. c .before .before .pre .0)
     (λ c. search needs)
     (λ c κs. (c .before .before .before .before .clear .ensures .size, omega arith))
     (λ c. (omega arith, store-at _ (omega arith) (store-word {k = 0} (store-start _ (c .before .before .before .before .before .before .before .clear .ensures)) (omega arith) (c .before .before .put .ensures))))
-    (λ c κs. (omega arith, c .before .before .loop .inv .1))
+    (λ c κs. (omega arith, c .before .before .before .before .before .before .before .before .before .before .before .before .before .pre .1, c .before .before .loop .inv .1))
     (λ c. search needs)
     (λ c. search needs)
     (λ c. (omega arith, store-at _ (omega arith) (c .before .before .store-record .ensures)))

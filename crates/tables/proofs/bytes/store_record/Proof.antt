@@ -1,4 +1,3 @@
-use mathlib.Core.Path.{sym, _∙_}
 use Prim.Native.Nat.{_-_, _≤_}
 use native.Mathlib.Omega.{arith}
 use Rattle.tables.specs.ByteRecords.{Storing, store-word, store-skip, store-at}
@@ -12,15 +11,16 @@ store-record-spec =
     (tie.spec
     (λ t b₀ k₀ end b k. (k ≤ end) × Storing t k b)
     (λ t b₀ k₀ end b k. end - k)
-    (λ c κs. search needs)
-    (λ c. store-skip _ (sym (c .before .zero-record .ensures) ∙ c .if1 .taken) (c .before .before .before .pre .1))
     (λ c. search needs)
     (λ c. search needs)
     (λ c. search needs)
     (λ c. search needs)
     (λ c. search needs)
+    (λ c. store-skip _ (c .before .before .before .before .pre .1 .zero _ (c .before .before .before .before .pre .0) (c .if1 .taken)) (c .before .before .before .before .pre .2))
     (λ c. search needs)
-    (λ c. (omega arith, c .before .before .before .before .before .pre .1))
+    (λ c. search needs)
+    (λ c. search needs)
+    (λ c. (omega arith, c .before .before .before .before .before .pre .2))
     (λ c. search needs)
     (λ c. search needs)
     (λ c κs. (c .before .before .before .loop .inv .1 .rest .size, omega (arith, c .before .before .before .before .before .before .before .before .before .pre .0)))

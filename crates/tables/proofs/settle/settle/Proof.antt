@@ -1,3 +1,4 @@
+use mathlib.Core.Path.{refl}
 use Prim.Native.Nat.{_-_}
 use Rattle.tables.specs.View.{view}
 use Rattle.tables.specs.FitView.{fit-view}
@@ -9,10 +10,10 @@ use Rattle.tables.proofs.settle.settle.Statement.{statement}
 use Rattle.tables.proofs.settle.settle.Tie as tie
 
 abbrev Inv-loop : tie.InvT-loop
-Inv-loop t₀ g p₀ t p = Settling (view t₀) p t
+Inv-loop t₀ starts ends n p₀ t p = Settling (view t₀) p t
 
 abbrev μ-loop : tie.MeasureT-loop
-μ-loop t₀ g p₀ t p = 16 - p
+μ-loop t₀ starts ends n p₀ t p = 16 - p
 
 pub settle-spec : {M : Type 1} → statement M
 settle-spec =
@@ -20,10 +21,10 @@ settle-spec =
     (tie.spec
     Inv-loop
     μ-loop
-    (λ c κs. search needs)
-    (λ c. settle-start (c .before .before .pre))
-    (λ c κs. can-settle (c .before .before .before .before .before .loop .inv .is) (omega arith) (c .before .before .before .before .before .before .gather-areas .ensures))
+    (λ c κs. (refl, refl))
+    (λ c. settle-start (c .before .before .before .before .pre))
+    (λ c κs. can-settle (c .before .before .before .before .loop .inv .is) (omega arith) (c .before .before .before .before .before .gather-areas .ensures))
     (λ c. search needs)
     (λ c. search needs)
-    (λ c. settle-more (c .before .before .before .before .before .before .loop .inv) (omega arith) (c .settle-record .ensures))
-    (λ c. settle-end (c .before .loop .inv) (fit-view (c .before .before .before .before .pre)) (omega arith)))
+    (λ c. settle-more (c .before .before .before .before .before .loop .inv) (omega arith) (c .settle-record .ensures))
+    (λ c. settle-end (c .before .loop .inv) (fit-view (c .before .before .before .before .before .before .pre)) (omega arith)))
