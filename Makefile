@@ -2,7 +2,7 @@
 # make run:     runs the program tally on the session that document 01 prints; SESSION=file on another.
 # make lib:     proves the library and puts it, with its header, into build/.
 # make example: builds and runs examples/handset.c with it.
-# make bench:   the library against the second program, as quotients of their times.
+# make bench:   the library against the second program, as quotients of their times, or where x86-64 is only emulated of their instructions.
 # make soak:    compares the library with the second program for MINUTES=10 from SEED=1 on, memory checked.
 .PHONY: test run lib example bench soak
 
