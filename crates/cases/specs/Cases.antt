@@ -27,7 +27,7 @@ use Rattle.tables.specs.declared.Outcome.the-variants.{Done, Refused}
 use Rattle.sound.specs.Sound.{allRights}
 use Rattle.sound.specs.Clauses.{when, has, isNowhere, long, s1, s2Root, s2Other, s2, blankRegion, s3Word, s3First, s3, rooted, s4Area, s4Absent, s4, s5Slot, s5, apartE, s6, held, covered, s7Root, s7Given, grants, s7Inside, s7Cover, s7, equals, s8Backed, s8Apart, s8, s9, s10Names, s10Once, s10, full, within, s11, sound}
 use Rattle.sound.specs.Holders.{givenTo, givenBy, heir, deepest, trail, holdersOf, inMemory, holdersOutcome, holdersBytes}
-use Rattle.services.specs.Rules.{Result, done, refused, check, need, ownOrChild, parentOrChild, freeEntry, long as longEntry, create, prepare, vacant, collect, give, returned, take, cut, merge, elsewhere, load, switch, ungive, branch, clearOut, noRights, unused, serve, serveRead, callOn, bootOn, wordsAfter}
+use Rattle.services.specs.Rules.{Result, done, refused, check, need, ownOrChild, parentOrChild, freeEntry, long as longEntry, create, prepare, vacant, collect, give, returned, take, cut, merge, elsewhere, load, switch, ungive, branch, clearOut, noRights, uses, unused, known, perform, serve, serveRead, callOn, bootOn, wordsAfter}
 
 -- ── a case: what is computed, and what 01 says ──
 abbrev pub Case : Type 0
@@ -240,11 +240,11 @@ right-both (c ∷ bs) cs g h =
 
 -- each part is computed by itself: a declaration has so many steps and no more
 base-right : right (casesOf B session) ≡ true
-unfolding B session D A carried rest tabFrom climb first header structure regions slot call view viewK entryIn headerArea structureArea areaIn nth named inside parentAt encode slotWord headerWord structureWord regionFor regionsWord partWord wordFor pick upd upd1 both? ℕ-discrete lowest present absent absentChild child noStructure free holds meets apart clear openBit openAt keep settle zeroTo when has isNowhere long s1 s2Root s2Other s2 blankRegion s3Word s3First s3 rooted s4Area s4Absent s4 s5Slot s5 apartE s6 held covered s7Root s7Given grants s7Inside s7Cover s7 equals s8Backed s8Apart s8 s9 s10Names s10Once s10 full within s11 sound givenTo givenBy heir deepest trail holdersOf inMemory holdersOutcome holdersBytes check need ownOrChild parentOrChild freeEntry longEntry create prepare vacant collect give returned take cut merge elsewhere load switch ungive branch clearOut sum noRights unused serve serveRead callOn bootOn wordsAfter
+unfolding B session D A carried rest tabFrom climb first header structure regions slot call view viewK entryIn headerArea structureArea areaIn nth named inside parentAt encode slotWord headerWord structureWord regionFor regionsWord partWord wordFor pick upd upd1 both? ℕ-discrete lowest present absent absentChild child noStructure free holds meets apart clear openBit openAt keep settle zeroTo when has isNowhere long s1 s2Root s2Other s2 blankRegion s3Word s3First s3 rooted s4Area s4Absent s4 s5Slot s5 apartE s6 held covered s7Root s7Given grants s7Inside s7Cover s7 equals s8Backed s8Apart s8 s9 s10Names s10Once s10 full within s11 sound givenTo givenBy heir deepest trail holdersOf inMemory holdersOutcome holdersBytes check need ownOrChild parentOrChild freeEntry longEntry create prepare vacant collect give returned take cut merge elsewhere load switch ungive branch clearOut sum noRights uses unused known perform serve serveRead callOn bootOn wordsAfter
 base-right = refl
 
 clear-right : right (clearCases (session .1) D A) ≡ true
-unfolding B session D A carried rest tabFrom climb first header structure regions slot call view viewK entryIn headerArea structureArea areaIn nth named inside parentAt encode slotWord headerWord structureWord regionFor regionsWord partWord wordFor pick upd upd1 both? ℕ-discrete lowest present absent absentChild child noStructure free holds meets apart clear openBit openAt keep settle zeroTo when has isNowhere long s1 s2Root s2Other s2 blankRegion s3Word s3First s3 rooted s4Area s4Absent s4 s5Slot s5 apartE s6 held covered s7Root s7Given grants s7Inside s7Cover s7 equals s8Backed s8Apart s8 s9 s10Names s10Once s10 full within s11 sound givenTo givenBy heir deepest trail holdersOf inMemory holdersOutcome holdersBytes check need ownOrChild parentOrChild freeEntry longEntry create prepare vacant collect give returned take cut merge elsewhere load switch ungive branch clearOut sum noRights unused serve serveRead callOn bootOn wordsAfter
+unfolding B session D A carried rest tabFrom climb first header structure regions slot call view viewK entryIn headerArea structureArea areaIn nth named inside parentAt encode slotWord headerWord structureWord regionFor regionsWord partWord wordFor pick upd upd1 both? ℕ-discrete lowest present absent absentChild child noStructure free holds meets apart clear openBit openAt keep settle zeroTo when has isNowhere long s1 s2Root s2Other s2 blankRegion s3Word s3First s3 rooted s4Area s4Absent s4 s5Slot s5 apartE s6 held covered s7Root s7Given grants s7Inside s7Cover s7 equals s8Backed s8Apart s8 s9 s10Names s10Once s10 full within s11 sound givenTo givenBy heir deepest trail holdersOf inMemory holdersOutcome holdersBytes check need ownOrChild parentOrChild freeEntry longEntry create prepare vacant collect give returned take cut merge elsewhere load switch ungive branch clearOut sum noRights uses unused known perform serve serveRead callOn bootOn wordsAfter
 clear-right = refl
 
 -- ── the statement: in every case, what is computed is what 01 and 02 say ──

@@ -1,10 +1,9 @@
 -- THE THEOREMS, over words: after boot and after any list of calls, done or refused, the table is sound, so the four properties hold.
-use mathlib.Core.Path.{_≡_, refl, ap, _∙_}
+use mathlib.Core.Path.{_≡_, refl, ap, sym, _∙_}
 use mathlib.Core.Bool.{Bool, true, false, cond}
 use mathlib.Core.List.{List, [], _∷_}
 use mathlib.Core.Logic.{_⊎_, inl, inr}
 use Prim.Native.Nat.{ℕ, _^_, _<_}
-use lib.Dec.{eqb}
 use lib.ListN.{getD}
 use Rattle.words.specs.Kind.{fieldsIn}
 use Rattle.words.specs.Parts.{clean}
@@ -18,7 +17,8 @@ use Rattle.sound.specs.Clauses.{sound}
 use Rattle.sound.specs.Canonical.{sound-canon}
 use Rattle.sound.specs.Properties.{Isolated, sound-isolated}
 use Rattle.sound.specs.Whole.{Right, sound-means, sound-right}
-use Rattle.services.specs.Rules.{Result, done, refused, check, serve, serveRead, callOn, bootOn, wordsAfter}
+use Rattle.services.specs.Rules.{Result, done, refused, serve, serveRead, callOn, bootOn, wordsAfter}
+use Rattle.services.specs.Each.{serve-done, done-each, perform-at}
 use Rattle.isolation.specs.Fits.{Good, right-good}
 use Rattle.isolation.specs.Ladder.{not-done}
 use Rattle.isolation.specs.Create.{create-right}
@@ -36,40 +36,29 @@ use Rattle.isolation.specs.ClearOut.{clear-right}
 use Rattle.isolation.specs.Boot.{boot-right}
 
 -- ── one call ──
-passed : (a : Bool) {x : Result} {v w : ℕ} {t′ : Table} → check 2 a x ≡ done v w t′ → x ≡ done v w t′
-unfolding check
-passed true z = z
-passed false z = not-done z
-
--- a service of serve's list, or the rest of it
-service : {C : Type 0} (b a : Bool) {x y : Result} {v w : ℕ} {t′ : Table} → cond b (check 2 a x) y ≡ done v w t′ → (x ≡ done v w t′ → C) → (y ≡ done v w t′ → C) → C
-service true a z f g = f (passed a z)
-service false a z f g = g z
-
 -- each service keeps a table right
 pub serve-right : {t : Table} → Right t → (f : CallFields) {v w : ℕ} {t′ : Table} → serve t f ≡ done v w t′ → Right t′
-unfolding serve
-serve-right h f z =
-    let n = f .service in
+serve-right {t} h f z =
     let p = f .partition .0 in
     let s = f .slot .0 in
     let u = f .other in
     let l = f .line .0 in
-    service (eqb n 1) _ z (create-right h s) λ z.
-    service (eqb n 2) _ z (delete-right h p) λ z.
-    service (eqb n 3) _ z (prepare-right h p s) λ z.
-    service (eqb n 4) _ z (collect-right h p u) λ z.
-    service (eqb n 5) _ z (give-right h p s (f .rights)) λ z.
-    service (eqb n 6) _ z (take-right h s) λ z.
-    service (eqb n 7) _ z (cut-right h s l) λ z.
-    service (eqb n 8) _ z (merge-right h s u) λ z.
-    service (eqb n 9) _ z (load-right h p s u) λ z.
-    service (eqb n 10) _ z (unload-right h p u) λ z.
-    service (eqb n 11) _ z (λ z. rw (readRegion-same h p u z) h) λ z.
-    service (eqb n 12) _ z (λ z. rw (find-same h p l z) h) λ z.
-    service (eqb n 13) _ z (switch-right h p) λ z.
-    service (eqb n 14) _ z (clear-right h p) λ z.
-    not-done z
+    done-each t f z (record {
+      create = λ _. create-right h s;
+      delete = λ _. delete-right h p;
+      prepare = λ _. prepare-right h p s;
+      collect = λ _. collect-right h p u;
+      give = λ _. give-right h p s (f .rights);
+      take = λ _. take-right h s;
+      cut = λ _. cut-right h s l;
+      merge = λ _. merge-right h s u;
+      load = λ _. load-right h p s u;
+      unload = λ _. unload-right h p u;
+      readRegion = λ _ z. rw (readRegion-same h p u z) h;
+      find = λ _ z. rw (find-same h p l z) h;
+      switch = λ _. switch-right h p;
+      clearOut = λ _. clear-right h p;
+    })
 
 -- services 11 and 12, read region and find
 abbrev pub Reads : CallFields → Type 0
@@ -77,13 +66,12 @@ Reads f = (f .service ≡ 11) ⊎ (f .service ≡ 12)
 
 -- .. change nothing
 pub serve-same : {t : Table} → Right t → (f : CallFields) → Reads f → {v w : ℕ} {t′ : Table} → serve t f ≡ done v w t′ → t′ ≡ t
-unfolding serve
-serve-same h f (inl e) z = readRegion-same h (f .partition .0) (f .other) (passed _ (rw e at z))
-serve-same h f (inr e) z = find-same h (f .partition .0) (f .line .0) (passed _ (rw e at z))
+serve-same {t} h f (inl e) z = readRegion-same h (f .partition .0) (f .other) (sym (perform-at 11 t f e) ∙ serve-done t f z .1)
+serve-same {t} h f (inr e) z = find-same h (f .partition .0) (f .line .0) (sym (perform-at 12 t f e) ∙ serve-done t f z .1)
 
 module _ (l : List ℕ) (w : ℕ) (small : (n : ℕ) → getD l n 0 < 2 ^ 64) where
   -- what is done was asked of a sound table, which the words are those of
-  served : {v x : ℕ} {t′ : Table} → callOn l w ≡ done v x t′ → Canon l × Right (view l) × (serve (view l) (fieldsIn call w) ≡ done v x t′)
+  pub served : {v x : ℕ} {t′ : Table} → callOn l w ≡ done v x t′ → Canon l × Right (view l) × (serve (view l) (fieldsIn call w) ≡ done v x t′)
   unfolding callOn serveRead call
   served {v} {x} {t′} = go (sound l) (clean (call .parts) w) refl
     where

@@ -1,13 +1,12 @@
 -- The ledger is who holds what: after boot, and after any list of calls, done or refused.
 use mathlib.Core.Path.{_≡_, refl, ap, sym, subst, _∙_}
-use mathlib.Core.Bool.{Bool, true, false, cond, not, _&&_}
+use mathlib.Core.Bool.{Bool, true, not, _&&_}
 use mathlib.Core.List.{List, [], _∷_}
 use mathlib.Core.Logic.{_↔_, Iff·rfl, Iff·symm, Iff·trans}
 use Prim.Native.Nat.{ℕ}
 use lib.Dec.{eqb}
-use borrow.Author.Tests.{eqb-true, not-true}
+use borrow.Author.Tests.{not-true}
 use Rattle.words.specs.Kind.{fieldsIn}
-use Rattle.words.specs.Parts.{clean}
 use Rattle.words.specs.Words.{call}
 use Rattle.words.specs.declared.Rights.{Rights}
 use Rattle.words.specs.declared.call_word.CallFields.{CallFields}
@@ -19,14 +18,13 @@ use Rattle.tables.specs.Back.{view-encode}
 use Rattle.tables.specs.Search.{holds}
 use Rattle.tables.specs.Lines.{In, Holds}
 use Rattle.tables.specs.Settle.{settle}
-use Rattle.sound.specs.Sound.{Sound}
-use Rattle.sound.specs.Canonical.{sound-canon}
 use Rattle.sound.specs.Means.{eq-means, le-means, lt-means, and-means, or-means, not-means}
 use Rattle.sound.specs.MeansEntries.{holds-means}
-use Rattle.sound.specs.Whole.{Right, sound-means, sound-right}
+use Rattle.sound.specs.Whole.{Right}
 use Rattle.sound.specs.Holders.{givenTo}
-use Rattle.services.specs.Rules.{Result, done, refused, check, zeroed, remove, branch, create, delete, give, take, clearOut, serve, serveRead, callOn, bootOn, wordsAfter}
-use Rattle.isolation.specs.Ladder.{not-done, Ends, ends}
+use Rattle.services.specs.Rules.{Result, done, refused, zeroed, remove, branch, create, delete, give, take, clearOut, serve, callOn, bootOn, wordsAfter}
+use Rattle.services.specs.Each.{done-each}
+use Rattle.isolation.specs.Ladder.{Ends, ends}
 use Rattle.isolation.specs.Fits.{Good, right-fit, right-good}
 use Rattle.isolation.specs.Create.{create-done, create-holds}
 use Rattle.isolation.specs.Remove.{Goes, remove-holds}
@@ -42,7 +40,7 @@ use Rattle.isolation.specs.Find.{find-same}
 use Rattle.isolation.specs.Switch.{switch-done}
 use Rattle.isolation.specs.ClearOut.{branch-goes, clear-done}
 use Rattle.isolation.specs.Boot.{boot-exact, boot-holds, boot-right}
-use Rattle.isolation.specs.Whole.{afterAll, call-right}
+use Rattle.isolation.specs.Whole.{serve-right, served, afterAll}
 use Rattle.ledger.specs.Ledger.{Ledger, opening, enter, strike, adopt, strikeAll, accepted, noted, keptOn}
 
 -- g is the ledger of a table of base to end: its partitions are those that hold the line, its tree is the table's
@@ -59,17 +57,6 @@ at-line c p l {o} {e} u = and-means (eq-means p c) (
   λ q. let (f, v, x) = holds-means l o .0 q in rw (some-inj (sym v ∙ u)) at x,
   λ x. holds-means l o .1 (e, u, x),
 )
-
--- a service of serve's list, or the rest of it
-service : {C : Type 0} (n m : ℕ) (a : Bool) {x y : Result} {v w : ℕ} {t′ : Table} → cond (eqb n m) (check 2 a x) y ≡ done v w t′
-    → (n ≡ m → x ≡ done v w t′ → C) → (y ≡ done v w t′ → C) → C
-unfolding check
-service {C} n m a {x} {y} {v} {w} {t′} z f g = go (eqb n m) a refl z
-  where
-    go : (b a : Bool) → eqb n m ≡ b → cond b (check 2 a x) y ≡ done v w t′ → C
-    go true true q z = f (eqb-true n m q) z
-    go true false q z = not-done z
-    go false a q z = g z
 
 module _ {base end : ℕ} {g : Ledger} {t : Table} (h : Right t) (s : Keeps base end g (t .k)) where
   -- base and end stay
@@ -119,39 +106,30 @@ module _ {base end : ℕ} {g : Ledger} {t : Table} (h : Right t) (s : Keeps base
 
   -- each service, with what the ledger notes of it
   pub serve-kept : (f : CallFields) {v w : ℕ} {t′ : Table} → serve t f ≡ done v w t′ → Keeps base end (accepted t f v g) (t′ .k)
-  unfolding serve accepted settle
+  unfolding accepted settle
   serve-kept f z =
-      let n = f .service in
       let p = f .partition .0 in
       let i = f .slot .0 in
       let u = f .other in
       let m = f .line .0 in
-      service n 1 _ z (λ y x. rw y (create-kept i x)) λ z.
-      service n 2 _ z (λ y x. rw y (delete-kept p x)) λ z.
-      service n 3 _ z (λ y x. let (_, ok, q) = prepare-done h p i x in rw (y, q) (quiet refl refl refl (prepare-holds (h .core) ok))) λ z.
-      service n 4 _ z (λ y x. let (ok, q) = collect-done h p u x in rw (y, q) (quiet refl refl refl (collect-holds (h .core) ok))) λ z.
-      service n 5 _ z (λ y x. rw y (give-kept p i (f .rights) x)) λ z.
-      service n 6 _ z (λ y x. rw y (take-kept i x)) λ z.
-      service n 7 _ z (λ y x. let (_, ok, q) = cut-done h i m x in rw (y, q) (quiet refl refl refl (cut-holds (h .core) ok))) λ z.
-      service n 8 _ z (λ y x. let (_, _, ok, q) = merge-done h i u x in rw (y, q) (quiet refl refl refl (merge-holds (h .core) ok))) λ z.
-      service n 9 _ z (λ y x. let (_, _, q) = load-done h p i u x in rw (y, q) s) λ z.
-      service n 10 _ z (λ y x. let (_, _, q) = unload-done h p u x in rw (y, q) s) λ z.
-      service n 11 _ z (λ y x. rw (y, readRegion-same h p u x) s) λ z.
-      service n 12 _ z (λ y x. rw (y, find-same h p m x) s) λ z.
-      service n 13 _ z (λ y x. let (_, q) = switch-done h p x in rw (y, q) (quiet refl refl refl (λ p l. Iff·rfl))) λ z.
-      service n 14 _ z (λ y x. rw y (clear-kept p x)) λ z.
-      not-done z
+      done-each t f z (record {
+        create = λ y x. rw y (create-kept i x);
+        delete = λ y x. rw y (delete-kept p x);
+        prepare = λ y x. let (_, ok, q) = prepare-done h p i x in rw (y, q) (quiet refl refl refl (prepare-holds (h .core) ok));
+        collect = λ y x. let (ok, q) = collect-done h p u x in rw (y, q) (quiet refl refl refl (collect-holds (h .core) ok));
+        give = λ y x. rw y (give-kept p i (f .rights) x);
+        take = λ y x. rw y (take-kept i x);
+        cut = λ y x. let (_, ok, q) = cut-done h i m x in rw (y, q) (quiet refl refl refl (cut-holds (h .core) ok));
+        merge = λ y x. let (_, _, ok, q) = merge-done h i u x in rw (y, q) (quiet refl refl refl (merge-holds (h .core) ok));
+        load = λ y x. let (_, _, q) = load-done h p i u x in rw (y, q) s;
+        unload = λ y x. let (_, _, q) = unload-done h p u x in rw (y, q) s;
+        readRegion = λ y x. rw (y, readRegion-same h p u x) s;
+        find = λ y x. rw (y, find-same h p m x) s;
+        switch = λ y x. let (_, q) = switch-done h p x in rw (y, q) (quiet refl refl refl (λ p l. Iff·rfl));
+        clearOut = λ y x. rw y (clear-kept p x);
+      })
 
 -- ── any list of calls ──
--- a call that is done on sound words is its service, done
-served : (l : List ℕ) (w : ℕ) {v x : ℕ} {t′ : Table} → Sound l → callOn l w ≡ done v x t′ → serve (view l) (fieldsIn call w) ≡ done v x t′
-unfolding callOn serveRead call
-served l w {v} {x} {t′} s z = go (clean (call .parts) w) (rw (sound-means l .1 s) at z)
-  where
-    go : (a : Bool) → serveRead (view l) (cond a (call .fields (fieldsIn call w)) (call .refused 2)) ≡ done v x t′ → serve (view l) (fieldsIn call w) ≡ done v x t′
-    go true z = z
-    go false z = not-done z
-
 module _ {base end : ℕ} where
   pub after-kept : {l : List ℕ} → Good l → {g : Ledger} → Keeps base end g (view l .k) → (ws : List ℕ) → Keeps base end (keptOn l g ws) (view (afterAll l ws) .k)
   unfolding keptOn afterAll noted wordsAfter
@@ -160,9 +138,9 @@ module _ {base end : ℕ} where
     where
       one : (r : Result) → callOn l w ≡ r → Good (wordsAfter l r) × Keeps base end (noted (view l) (fieldsIn call w) r g) (view (wordsAfter l r) .k)
       one (done v x t′) z =
-          let q = call-right l w (h .small) z in
-          let a = sound-right (sound-canon (h .small) (h .sound)) (h .sound) in
-          (right-good q, rw (view-encode t′ (right-fit q)) (serve-kept a s (fieldsIn call w) (served l w (h .sound) z)))
+          let (_, a, y) = served l w (h .small) z in
+          let q = serve-right a (fieldsIn call w) y in
+          (right-good q, rw (view-encode t′ (right-fit q)) (serve-kept a s (fieldsIn call w) y))
       one (refused n) z = (h, s)
 
   boot-kept : (l : List ℕ) {v x : ℕ} {t′ : Table} → bootOn l base end ≡ done v x t′ → Keeps base end (opening base end) (t′ .k)

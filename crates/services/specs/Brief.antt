@@ -1,10 +1,9 @@
--- A first value is a slot, a structure, a partition or a number of partitions; a refusal has one of 01's numbers.
+-- A first value fits in 32 bits, the number of a refusal in 8.
 use mathlib.Core.Path.{_≡_, refl, sym}
 use mathlib.Core.Bool.{Bool, true, false, cond}
 use mathlib.Core.List.{List}
-use Prim.Native.Nat.{ℕ, _<_}
+use Prim.Native.Nat.{ℕ, _^_, _<_}
 use native.Mathlib.Omega.{arith}
-use lib.Dec.{eqb}
 use Rattle.loops.specs.Count.{count-le}
 use Rattle.words.specs.Parts.{clean}
 use Rattle.words.specs.Kind.{fieldsIn}
@@ -17,26 +16,27 @@ use Rattle.tables.specs.View.{view}
 use Rattle.tables.specs.Search.{lowest, lowest-some}
 use Rattle.tables.specs.declared.Outcome.the-variants.{Done, Refused}
 use Rattle.sound.specs.Clauses.{sound}
-use Rattle.services.specs.Rules.{Result, done, refused, check, need, freeEntry, create, delete, prepare, collect, give, take, cut, merge, load, unload, readRegion, find, switch, branch, clearOut, unused, serve, serveRead, callOn, bootOn}
+use Rattle.services.specs.Rules.{Result, done, refused, check, need, freeEntry, create, delete, prepare, collect, give, take, cut, merge, load, unload, readRegion, find, switch, branch, clearOut, serve, serveRead, callOn, bootOn}
+use Rattle.services.specs.Each.{serve-each}
 use Rattle.services.specs.Ran.{outcomeOf, refused-done, done-first, refused-number}
 
 pub data Brief : Result → Type 0 where
-  brief-done : {v w : ℕ} {t : Table} → v < 32 → Brief (done v w t)
-  brief-refused : {n : ℕ} → n < 18 → Brief (refused n)
+  brief-done : {v w : ℕ} {t : Table} → v < 2 ^ 32 → Brief (done v w t)
+  brief-refused : {n : ℕ} → n < 2 ^ 8 → Brief (refused n)
 
 -- ── by the parts of a rule ──
-checked : (n : ℕ) (b : Bool) {r : Result} → n < 18 → Brief r → Brief (check n b r)
+checked : (n : ℕ) (b : Bool) {r : Result} → n < 2 ^ 8 → Brief r → Brief (check n b r)
 unfolding check
 checked n true h k = k
 checked n false h k = brief-refused h
 
-needed : {A : Type 0} (n : ℕ) (o : Opt A) {f : A → Result} → n < 18 → ((a : A) → o ≡ some a → Brief (f a)) → Brief (need n o f)
+needed : {A : Type 0} (n : ℕ) (o : Opt A) {f : A → Result} → n < 2 ^ 8 → ((a : A) → o ≡ some a → Brief (f a)) → Brief (need n o f)
 unfolding need
 needed n none h k = brief-refused h
 needed n (some a) h k = k a refl
 
 -- .. by a number that was found
-found : (n m : ℕ) (f : ℕ → Bool) {g : ℕ → Result} → n < 18 → ((i : ℕ) → i < m → Brief (g i)) → Brief (need n (lowest m f) g)
+found : (n m : ℕ) (f : ℕ → Bool) {g : ℕ → Result} → n < 2 ^ 8 → ((i : ℕ) → i < m → Brief (g i)) → Brief (need n (lowest m f) g)
 found n m f h k = needed n (lowest m f) h (λ i q. k i (lowest-some m f i q .below))
 
 free : (t : Table) (s : ℕ) {f : Entry → Result} → ((e : Entry) → Brief (f e)) → Brief (freeEntry t s f)
@@ -63,7 +63,7 @@ module _ (t : Table) where
 
   give-brief : (p s : ℕ) (r : Rights) → Brief (give t p s r)
   unfolding give
-  give-brief p s r = checked 3 _ (omega arith) (free t s λ e. found 8 32 _ (omega arith) λ n h. checked 10 _ (omega arith) (brief-done h))
+  give-brief p s r = checked 3 _ (omega arith) (free t s λ e. found 8 32 _ (omega arith) λ n h. checked 10 _ (omega arith) (brief-done (omega arith)))
 
   take-brief : (s : ℕ) → Brief (take t s)
   unfolding take
@@ -71,7 +71,7 @@ module _ (t : Table) where
 
   cut-brief : (s l : ℕ) → Brief (cut t s l)
   unfolding cut
-  cut-brief s l = free t s λ e. checked 7 _ (omega arith) (found 8 32 _ (omega arith) λ n h. brief-done h)
+  cut-brief s l = free t s λ e. checked 7 _ (omega arith) (found 8 32 _ (omega arith) λ n h. brief-done (omega arith))
 
   merge-brief : (s u : ℕ) → Brief (merge t s u)
   unfolding merge
@@ -93,7 +93,7 @@ module _ (t : Table) where
 
   find-brief : (p l : ℕ) → Brief (find t p l)
   unfolding find
-  find-brief p l = checked 3 _ (omega arith) (found 7 32 _ (omega arith) λ i h. brief-done h)
+  find-brief p l = checked 3 _ (omega arith) (found 7 32 _ (omega arith) λ i h. brief-done (omega arith))
 
   switch-brief : (p : ℕ) → Brief (switch t p)
   unfolding switch
@@ -104,28 +104,23 @@ module _ (t : Table) where
   clear-brief p = checked 3 _ (omega arith) (brief-done (omega (arith, count-le 16 (branch (t .k .parent) p))))
 
   -- ── a call word ──
-  row : (b u : Bool) {r x : Result} → Brief r → Brief x → Brief (cond b (check 2 u r) x)
-  row true u h k = checked 2 u (omega arith) h
-  row false u h k = k
-
   serve-brief : (f : CallFields) → Brief (serve t f)
-  unfolding serve
-  serve-brief f =
-      row (eqb (f .service) 1) (unused false true false false false f) (create-brief (f .slot .0))
-      (row (eqb (f .service) 2) (unused true false false false false f) (delete-brief (f .partition .0))
-      (row (eqb (f .service) 3) (unused true true false false false f) (prepare-brief (f .partition .0) (f .slot .0))
-      (row (eqb (f .service) 4) (unused true false true false false f) (collect-brief (f .partition .0) (f .other))
-      (row (eqb (f .service) 5) (unused true true false true false f) (give-brief (f .partition .0) (f .slot .0) (f .rights))
-      (row (eqb (f .service) 6) (unused false true false false false f) (take-brief (f .slot .0))
-      (row (eqb (f .service) 7) (unused false true false false true f) (cut-brief (f .slot .0) (f .line .0))
-      (row (eqb (f .service) 8) (unused false true true false false f) (merge-brief (f .slot .0) (f .other))
-      (row (eqb (f .service) 9) (unused true true true false false f) (load-brief (f .partition .0) (f .slot .0) (f .other))
-      (row (eqb (f .service) 10) (unused true false true false false f) (unload-brief (f .partition .0) (f .other))
-      (row (eqb (f .service) 11) (unused true false true false false f) (read-brief (f .partition .0) (f .other))
-      (row (eqb (f .service) 12) (unused true false false false true f) (find-brief (f .partition .0) (f .line .0))
-      (row (eqb (f .service) 13) (unused true false false false false f) (switch-brief (f .partition .0))
-      (row (eqb (f .service) 14) (unused true false false false false f) (clear-brief (f .partition .0))
-      (brief-refused {n = 2} (omega arith)))))))))))))))
+  serve-brief f = serve-each Brief t f (brief-refused (omega arith)) (record {
+    create = λ _. create-brief (f .slot .0);
+    delete = λ _. delete-brief (f .partition .0);
+    prepare = λ _. prepare-brief (f .partition .0) (f .slot .0);
+    collect = λ _. collect-brief (f .partition .0) (f .other);
+    give = λ _. give-brief (f .partition .0) (f .slot .0) (f .rights);
+    take = λ _. take-brief (f .slot .0);
+    cut = λ _. cut-brief (f .slot .0) (f .line .0);
+    merge = λ _. merge-brief (f .slot .0) (f .other);
+    load = λ _. load-brief (f .partition .0) (f .slot .0) (f .other);
+    unload = λ _. unload-brief (f .partition .0) (f .other);
+    readRegion = λ _. read-brief (f .partition .0) (f .other);
+    find = λ _. find-brief (f .partition .0) (f .line .0);
+    switch = λ _. switch-brief (f .partition .0);
+    clearOut = λ _. clear-brief (f .partition .0);
+  })
 
 pub call-brief : (l : List ℕ) (w : ℕ) → Brief (callOn l w)
 unfolding callOn serveRead call
@@ -141,12 +136,12 @@ unfolding bootOn
 boot-brief l base end = checked 1 _ (omega arith) (checked 7 _ (omega arith) (brief-done (omega arith)))
 
 -- ── what an outcome shows ──
-pub first-small : {res : Result} → Brief res → {v w : ℕ} → outcomeOf res ≡ Done v w → v < 32
+pub first-small : {res : Result} → Brief res → {v w : ℕ} → outcomeOf res ≡ Done v w → v < 2 ^ 32
 unfolding outcomeOf
 first-small (brief-done h) q = let e = done-first q in omega arith
 first-small (brief-refused h) q = absurd (refused-done q)
 
-pub number-small : {res : Result} → Brief res → {n : ℕ} → outcomeOf res ≡ Refused n → n < 18
+pub number-small : {res : Result} → Brief res → {n : ℕ} → outcomeOf res ≡ Refused n → n < 2 ^ 8
 unfolding outcomeOf
 number-small (brief-done h) q = absurd (refused-done (sym q))
 number-small (brief-refused h) q = let e = refused-number q in omega arith

@@ -1,4 +1,5 @@
 pub mod Rules
+pub mod Each
 pub mod Branch
 pub mod Zeroed
 pub mod Ran

@@ -21,8 +21,8 @@ use Rattle.sound.specs.Clauses.{sound}
 use Rattle.sound.specs.Canonical.{sound-canon}
 use Rattle.sound.specs.Whole.{sound-means, sound-right}
 use Rattle.sound.specs.Settled.{right-settled, settled-words}
-use Rattle.services.specs.Rules.{Result, refused, check, need, readRegion, find, serve, serveRead, callOn, wordsAfter}
-use Rattle.services.specs.Calls.{known, serve-unknown, serve-11, serve-12}
+use Rattle.services.specs.Rules.{Result, refused, check, need, readRegion, find, known, perform, serve, serveRead, callOn, wordsAfter}
+use Rattle.services.specs.Each.{perform-at}
 
 -- 11 read region, 12 find
 abbrev reader : CallFields → Bool
@@ -44,10 +44,6 @@ module _ (w : ℕ) {f : CallFields} (is : f ≡ fieldsIn call w) where
 
 -- ── a rule that leaves the words l: done with their own table, or refused ──
 module _ {l : List ℕ} where
-  refuses : {res : Result} {n : ℕ} → res ≡ refused n → wordsAfter l res ≡ l
-  unfolding wordsAfter
-  refuses e = rw e refl
-
   checked : (n : ℕ) (b : Bool) (r : Result) → wordsAfter l r ≡ l → wordsAfter l (check n b r) ≡ l
   unfolding check wordsAfter
   checked n true r k = k
@@ -68,12 +64,12 @@ module _ {l : List ℕ} (same : encode (settled (view l)) ≡ l) where
   find-stands p n = checked 3 _ _ (needed 7 _ _ (λ i. same))
 
   serve-stands : (f : CallFields) → reader f ≡ true → wordsAfter l (serve (view l) f) ≡ l
-  serve-stands f q = go (known f) refl (or-says _ _ q)
+  unfolding serve
+  serve-stands f q = checked 2 (known f) (perform (view l) f) (go (or-says _ _ q))
     where
-      go : (b : Bool) → known f ≡ b → (eqb (f .service) 11 ≡ true) ⊎ (eqb (f .service) 12 ≡ true) → wordsAfter l (serve (view l) f) ≡ l
-      go false h z = refuses (serve-unknown (view l) f h)
-      go true h (inl z) = rw (serve-11 (view l) f h (eqb-true _ 11 z)) (read-stands _ _)
-      go true h (inr z) = rw (serve-12 (view l) f h (eqb-true _ 12 z)) (find-stands _ _)
+      go : (eqb (f .service) 11 ≡ true) ⊎ (eqb (f .service) 12 ≡ true) → wordsAfter l (perform (view l) f) ≡ l
+      go (inl z) = rw (perform-at 11 (view l) f (eqb-true _ 11 z)) (read-stands _ _)
+      go (inr z) = rw (perform-at 12 (view l) f (eqb-true _ 12 z)) (find-stands _ _)
 
 -- done or refused, a call that only reads leaves every word as it was
 pub reads-stand : (l : List ℕ) (w : ℕ) → Words l → onlyReads w ≡ true → wordsAfter l (callOn l w) ≡ l

@@ -263,33 +263,70 @@ clearOut t p =
 unfoldable pub noRights : Rights → Bool
 noRights r = not (r .read) && not (r .write) && not (r .execute)
 
--- 2: a field that the service doesn't use is 0. Used are P, S, T, R, L as said.
-unfoldable pub unused : Bool → Bool → Bool → Bool → Bool → CallFields → Bool
-unused p s u r l f =
-    (p || eqb (f .partition .0) 0) && (s || eqb (f .slot .0) 0) && (u || eqb (f .other) 0) && (r || noRights (f .rights)) && (l || eqb (f .line .0) 0)
+-- the fields that a service uses: P, S, T, R, L
+pub record Uses : Type 0 where
+  pub p : Bool
+  pub s : Bool
+  pub u : Bool
+  pub r : Bool
+  pub l : Bool
 
-unfoldable pub serve : Table → CallFields → Result
-serve t f =
-    let n = f .service in
+-- those of the service of number n; another number is no service's
+unfoldable pub uses : ℕ → Opt Uses
+uses n =
+    cond (eqb n 1) (some (record { p = false; s = true; u = false; r = false; l = false }))
+    (cond (eqb n 2) (some (record { p = true; s = false; u = false; r = false; l = false }))
+    (cond (eqb n 3) (some (record { p = true; s = true; u = false; r = false; l = false }))
+    (cond (eqb n 4) (some (record { p = true; s = false; u = true; r = false; l = false }))
+    (cond (eqb n 5) (some (record { p = true; s = true; u = false; r = true; l = false }))
+    (cond (eqb n 6) (some (record { p = false; s = true; u = false; r = false; l = false }))
+    (cond (eqb n 7) (some (record { p = false; s = true; u = false; r = false; l = true }))
+    (cond (eqb n 8) (some (record { p = false; s = true; u = true; r = false; l = false }))
+    (cond (eqb n 9) (some (record { p = true; s = true; u = true; r = false; l = false }))
+    (cond (eqb n 10) (some (record { p = true; s = false; u = true; r = false; l = false }))
+    (cond (eqb n 11) (some (record { p = true; s = false; u = true; r = false; l = false }))
+    (cond (eqb n 12) (some (record { p = true; s = false; u = false; r = false; l = true }))
+    (cond (eqb n 13) (some (record { p = true; s = false; u = false; r = false; l = false }))
+    (cond (eqb n 14) (some (record { p = true; s = false; u = false; r = false; l = false }))
+    none)))))))))))))
+
+-- a field that the service doesn't use is 0
+unfoldable pub unused : Uses → CallFields → Bool
+unused x f =
+    (x .p || eqb (f .partition .0) 0) && (x .s || eqb (f .slot .0) 0) && (x .u || eqb (f .other) 0) && (x .r || noRights (f .rights)) && (x .l || eqb (f .line .0) 0)
+
+-- 2: there is a service of that number, and each field that it doesn't use is 0
+unfoldable pub known : CallFields → Bool
+known f = has (λ x. unused x f) (uses (f .service))
+
+-- the service of number n, of such fields
+abbrev pub numbered : ℕ → Table → CallFields → Result
+numbered n t f =
     let p = f .partition .0 in
     let s = f .slot .0 in
     let u = f .other in
     let l = f .line .0 in
-    cond (eqb n 1) (check 2 (unused false true false false false f) (create t s))
-    (cond (eqb n 2) (check 2 (unused true false false false false f) (delete t p))
-    (cond (eqb n 3) (check 2 (unused true true false false false f) (prepare t p s))
-    (cond (eqb n 4) (check 2 (unused true false true false false f) (collect t p u))
-    (cond (eqb n 5) (check 2 (unused true true false true false f) (give t p s (f .rights)))
-    (cond (eqb n 6) (check 2 (unused false true false false false f) (take t s))
-    (cond (eqb n 7) (check 2 (unused false true false false true f) (cut t s l))
-    (cond (eqb n 8) (check 2 (unused false true true false false f) (merge t s u))
-    (cond (eqb n 9) (check 2 (unused true true true false false f) (load t p s u))
-    (cond (eqb n 10) (check 2 (unused true false true false false f) (unload t p u))
-    (cond (eqb n 11) (check 2 (unused true false true false false f) (readRegion t p u))
-    (cond (eqb n 12) (check 2 (unused true false false false true f) (find t p l))
-    (cond (eqb n 13) (check 2 (unused true false false false false f) (switch t p))
-    (cond (eqb n 14) (check 2 (unused true false false false false f) (clearOut t p))
+    cond (eqb n 1) (create t s)
+    (cond (eqb n 2) (delete t p)
+    (cond (eqb n 3) (prepare t p s)
+    (cond (eqb n 4) (collect t p u)
+    (cond (eqb n 5) (give t p s (f .rights))
+    (cond (eqb n 6) (take t s)
+    (cond (eqb n 7) (cut t s l)
+    (cond (eqb n 8) (merge t s u)
+    (cond (eqb n 9) (load t p s u)
+    (cond (eqb n 10) (unload t p u)
+    (cond (eqb n 11) (readRegion t p u)
+    (cond (eqb n 12) (find t p l)
+    (cond (eqb n 13) (switch t p)
+    (cond (eqb n 14) (clearOut t p)
     (refused 2))))))))))))))
+
+unfoldable pub perform : Table → CallFields → Result
+perform t f = numbered (f .service) t f
+
+unfoldable pub serve : Table → CallFields → Result
+serve t f = check 2 (known f) (perform t f)
 
 unfoldable pub serveRead : Table → CallRead → Result
 serveRead t (Fields f) = serve t f

@@ -5,9 +5,9 @@ ghost use Rattle.words.specs.Words.{call};
 ghost use Rattle.tables.specs.View.{view};
 ghost use Rattle.tables.specs.Encode.{Canon};
 ghost use Rattle.sound.specs.Whole.{Right};
-ghost use Rattle.services.specs.Rules.{noRights, unused, serve, serveRead};
+ghost use Rattle.services.specs.Rules.{noRights, unused, known, perform, serve, serveRead};
 ghost use Rattle.services.specs.Ran.{Ran};
-ghost use Rattle.services.specs.Calls.{known, InFields, Answers};
+ghost use Rattle.services.specs.Calls.{InFields, Answers};
 ghost use Rattle.services.specs.Reads.{onlyReads};
 use crate::Answer;
 use tables::Outcome;
@@ -41,7 +41,7 @@ fn in_order(used: bool, zero: bool) -> bool
 
 // Each field that the service doesn't use is 0.
 fn unused(p: bool, s: bool, u: bool, r: bool, l: bool, f: CallFields) -> bool
-    ensures { λ b. ⌜ b ≡ unused p s u r l f ⌝ }
+    ensures { λ b. ⌜ b ≡ unused (record { p = p; s = s; u = u; r = r; l = l }) f ⌝ }
 {
     if !in_order(p, f.partition.0 == 0) {
         return false;
@@ -86,7 +86,7 @@ fn known(f: CallFields) -> bool
 // The service of a call word whose fields are in order.
 fn perform(t: &mut [u64; 641], f: CallFields) -> Outcome
     requires { ⌜ Canon (now t) × InFields f × (known f ≡ true) × Right (view (now t)) ⌝ }
-    ensures { λ r. ⌜ Ran (serve (view (now (t .entry))) f) (now (t .entry)) r (now (t .exit)) ⌝ }
+    ensures { λ r. ⌜ Ran (perform (view (now (t .entry))) f) (now (t .entry)) r (now (t .exit)) ⌝ }
 {
     let service = f.service;
     match service {

@@ -1,6 +1,8 @@
-use mathlib.Core.Path.{sym}
-use Rattle.services.specs.Ran.{ran-refused, ran-as}
-use Rattle.services.specs.Calls.{known-not, serve-unknown, serve-1, serve-2, serve-3, serve-4, serve-5, serve-6, serve-7, serve-8, serve-9, serve-10, serve-11, serve-12, serve-13, serve-14}
+use mathlib.Core.Path.{_∙_}
+use mathlib.Core.Bool.{false≢true}
+use Rattle.services.specs.Ran.{ran-as}
+use Rattle.services.specs.Each.{perform-at}
+use Rattle.services.specs.Calls.{known-not}
 use Rattle.services.proofs.calls.perform.Statement.{statement}
 use Rattle.services.proofs.calls.perform.Tie as tie
 
@@ -22,18 +24,18 @@ perform-spec =
     (λ c κs. (c .before .before .pre .0, c .before .before .pre .1 .partition, c .before .before .pre .3))
     (λ c κs. (c .before .before .pre .0, c .before .before .pre .1 .partition, c .before .before .pre .3))
     (λ c κs. (c .before .before .pre .0, c .before .before .pre .1 .partition))
-    (λ c. ran-as (serve-1 _ _ (c .before .before .before .pre .2) (c .before .before .match .keys1)) (c .create .ensures))
-    (λ c. ran-as (serve-2 _ _ (c .before .before .before .pre .2) (c .before .before .match .keys2)) (c .delete .ensures))
-    (λ c. ran-as (serve-3 _ _ (c .before .before .before .pre .2) (c .before .before .match .keys3)) (c .prepare .ensures))
-    (λ c. ran-as (serve-4 _ _ (c .before .before .before .pre .2) (c .before .before .match .keys4)) (c .collect .ensures))
-    (λ c. ran-as (serve-5 _ _ (c .before .before .before .pre .2) (c .before .before .match .keys5)) (c .give .ensures))
-    (λ c. ran-as (serve-6 _ _ (c .before .before .before .pre .2) (c .before .before .match .keys6)) (c .take .ensures))
-    (λ c. ran-as (serve-7 _ _ (c .before .before .before .pre .2) (c .before .before .match .keys7)) (c .cut .ensures))
-    (λ c. ran-as (serve-8 _ _ (c .before .before .before .pre .2) (c .before .before .match .keys8)) (c .merge .ensures))
-    (λ c. ran-as (serve-9 _ _ (c .before .before .before .pre .2) (c .before .before .match .keys9)) (c .load .ensures))
-    (λ c. ran-as (serve-10 _ _ (c .before .before .before .pre .2) (c .before .before .match .keys10)) (c .unload .ensures))
-    (λ c. ran-as (serve-11 _ _ (c .before .before .before .pre .2) (c .before .before .match .keys11)) (c .read-region .ensures))
-    (λ c. ran-as (serve-12 _ _ (c .before .before .before .pre .2) (c .before .before .match .keys12)) (c .find .ensures))
-    (λ c. ran-as (serve-13 _ _ (c .before .before .before .pre .2) (c .before .before .match .keys13)) (c .switch .ensures))
-    (λ c. ran-as (serve-14 _ _ (c .before .before .before .pre .2) (c .before .before .match .keys14)) (c .clear-out .ensures))
-    (λ c. ran-refused (serve-unknown _ _ (sym (known-not _ (c .match .rest))))))
+    (λ c. ran-as (perform-at 1 _ _ (c .before .before .match .keys1)) (c .create .ensures))
+    (λ c. ran-as (perform-at 2 _ _ (c .before .before .match .keys2)) (c .delete .ensures))
+    (λ c. ran-as (perform-at 3 _ _ (c .before .before .match .keys3)) (c .prepare .ensures))
+    (λ c. ran-as (perform-at 4 _ _ (c .before .before .match .keys4)) (c .collect .ensures))
+    (λ c. ran-as (perform-at 5 _ _ (c .before .before .match .keys5)) (c .give .ensures))
+    (λ c. ran-as (perform-at 6 _ _ (c .before .before .match .keys6)) (c .take .ensures))
+    (λ c. ran-as (perform-at 7 _ _ (c .before .before .match .keys7)) (c .cut .ensures))
+    (λ c. ran-as (perform-at 8 _ _ (c .before .before .match .keys8)) (c .merge .ensures))
+    (λ c. ran-as (perform-at 9 _ _ (c .before .before .match .keys9)) (c .load .ensures))
+    (λ c. ran-as (perform-at 10 _ _ (c .before .before .match .keys10)) (c .unload .ensures))
+    (λ c. ran-as (perform-at 11 _ _ (c .before .before .match .keys11)) (c .read-region .ensures))
+    (λ c. ran-as (perform-at 12 _ _ (c .before .before .match .keys12)) (c .find .ensures))
+    (λ c. ran-as (perform-at 13 _ _ (c .before .before .match .keys13)) (c .switch .ensures))
+    (λ c. ran-as (perform-at 14 _ _ (c .before .before .match .keys14)) (c .clear-out .ensures))
+    (λ c. absurd (false≢true (known-not _ (c .match .rest) ∙ c .before .pre .2))))

@@ -1,7 +1,7 @@
 use mathlib.Core.Path.{sym, _∙_}
 use borrow.Author.Tests.{not-true, not-false}
-use Rattle.services.specs.Ran.{ran-refused}
-use Rattle.services.specs.Calls.{serve-unknown}
+use Rattle.services.specs.Ran.{ran-refused, ran-as}
+use Rattle.services.specs.Calls.{serve-unknown, serve-known}
 use borrow.Author.Needs.{needs}
 use Rattle.services.proofs.calls.serve.Statement.{statement}
 use Rattle.services.proofs.calls.serve.Tie as tie
@@ -13,4 +13,4 @@ serve-spec =
     (λ c κs. search needs)
     (λ c. ran-refused (serve-unknown _ _ (sym (c .before .known .ensures) ∙ not-true _ (c .if1 .taken))))
     (λ c κs. (c .before .before .before .pre .0, c .before .before .before .pre .1, sym (c .before .before .known .ensures) ∙ not-false _ (c .before .if1 .left), c .before .before .before .pre .2))
-    (λ c. c .perform .ensures))
+    (λ c. ran-as (serve-known _ _ (sym (c .before .before .before .known .ensures) ∙ not-false _ (c .before .before .if1 .left))) (c .perform .ensures)))

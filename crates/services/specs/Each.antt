@@ -1,0 +1,87 @@
+-- What holds of each service's answer holds of a call's: a theorem over all services is a record with a field for each, and this is the one proof that goes through them.
+use mathlib.Core.Path.{_≡_, refl, ap}
+use mathlib.Core.Bool.{Bool, true, false, cond, false≢true}
+use Prim.Native.Nat.{ℕ}
+use native.Mathlib.Omega.{arith}
+use lib.Dec.{eqb}
+use borrow.Author.Tests.{eqb-true}
+use Rattle.words.specs.declared.call_word.CallFields.{CallFields}
+use Rattle.tables.specs.State.{Opt, some, Table}
+use Rattle.sound.specs.Clauses.{has}
+use Rattle.services.specs.Rules.{Result, done, refused, check, create, delete, prepare, collect, give, take, cut, merge, load, unload, readRegion, find, switch, clearOut, Uses, uses, unused, known, numbered, perform, serve}
+
+pub record EachService {ℓ} (C : Result → Type ℓ) (t : Table) (f : CallFields) : Type ℓ where
+  pub create : f .service ≡ 1 → C (create t (f .slot .0))
+  pub delete : f .service ≡ 2 → C (delete t (f .partition .0))
+  pub prepare : f .service ≡ 3 → C (prepare t (f .partition .0) (f .slot .0))
+  pub collect : f .service ≡ 4 → C (collect t (f .partition .0) (f .other))
+  pub give : f .service ≡ 5 → C (give t (f .partition .0) (f .slot .0) (f .rights))
+  pub take : f .service ≡ 6 → C (take t (f .slot .0))
+  pub cut : f .service ≡ 7 → C (cut t (f .slot .0) (f .line .0))
+  pub merge : f .service ≡ 8 → C (merge t (f .slot .0) (f .other))
+  pub load : f .service ≡ 9 → C (load t (f .partition .0) (f .slot .0) (f .other))
+  pub unload : f .service ≡ 10 → C (unload t (f .partition .0) (f .other))
+  pub readRegion : f .service ≡ 11 → C (readRegion t (f .partition .0) (f .other))
+  pub find : f .service ≡ 12 → C (find t (f .partition .0) (f .line .0))
+  pub switch : f .service ≡ 13 → C (switch t (f .partition .0))
+  pub clearOut : f .service ≡ 14 → C (clearOut t (f .partition .0))
+
+module _ {ℓ} (C : Result → Type ℓ) (t : Table) (f : CallFields) where
+  -- a row of `uses` and of `perform`, or the rows after it
+  row : (k : ℕ) (x : Uses) (o : Opt Uses) (r q : Result) → (f .service ≡ k → C r) → (has (λ y. unused y f) o ≡ true → C q)
+      → has (λ y. unused y f) (cond (eqb (f .service) k) (some x) o) ≡ true → C (cond (eqb (f .service) k) r q)
+  row k x o r q here after = go (eqb (f .service) k) refl
+    where
+      go : (b : Bool) → eqb (f .service) k ≡ b → has (λ y. unused y f) (cond b (some x) o) ≡ true → C (cond b r q)
+      go true z h = here (eqb-true (f .service) k z)
+      go false z h = after h
+
+  pub perform-each : known f ≡ true → EachService C t f → C (perform t f)
+  unfolding has uses known perform
+  perform-each h e =
+      row 1 _ _ _ _ (e .create)
+      (row 2 _ _ _ _ (e .delete)
+      (row 3 _ _ _ _ (e .prepare)
+      (row 4 _ _ _ _ (e .collect)
+      (row 5 _ _ _ _ (e .give)
+      (row 6 _ _ _ _ (e .take)
+      (row 7 _ _ _ _ (e .cut)
+      (row 8 _ _ _ _ (e .merge)
+      (row 9 _ _ _ _ (e .load)
+      (row 10 _ _ _ _ (e .unload)
+      (row 11 _ _ _ _ (e .readRegion)
+      (row 12 _ _ _ _ (e .find)
+      (row 13 _ _ _ _ (e .switch)
+      (row 14 _ _ _ _ (e .clearOut)
+      (λ z. absurd (false≢true z))))))))))))))) h
+
+  pub serve-each : C (refused 2) → EachService C t f → C (serve t f)
+  unfolding check serve
+  serve-each two e = go (known f) refl
+    where
+      go : (b : Bool) → known f ≡ b → C (check 2 b (perform t f))
+      go true h = perform-each h e
+      go false h = two
+
+-- ── what is done ──
+module _ (t : Table) (f : CallFields) {v w : ℕ} {t′ : Table} where
+  pub serve-done : serve t f ≡ done v w t′ → (known f ≡ true) × (perform t f ≡ done v w t′)
+  unfolding check serve
+  serve-done = go (known f) refl
+    where
+      go : (b : Bool) → known f ≡ b → check 2 b (perform t f) ≡ done v w t′ → (known f ≡ true) × (perform t f ≡ done v w t′)
+      go true h z = (h, z)
+      go false h z = absurd (let q : _≡_ {A = ℕ} 0 1 = cc in omega arith)
+
+  -- .. was done by one of the services
+  pub done-each : {A : Type 0} → serve t f ≡ done v w t′ → EachService (λ r. r ≡ done v w t′ → A) t f → A
+  done-each z e = let (h, y) = serve-done z in perform-each _ t f h e y
+
+-- ── the service of a number ──
+pub perform-at : (n : ℕ) (t : Table) (f : CallFields) → f .service ≡ n → perform t f ≡ numbered n t f
+unfolding perform
+perform-at n t f q = ap (λ (m : ℕ). numbered m t f) q
+
+pub known-at : (n : ℕ) (f : CallFields) {x : Uses} → f .service ≡ n → uses n ≡ some x → unused x f ≡ known f
+unfolding known has
+known-at n f q z = rw (q, z) refl
