@@ -2,7 +2,7 @@
 # make run:     runs the program tally on the session that document 01 prints; SESSION=file on another.
 # make lib:     proves the library and puts it, with its header, into build/.
 # make example: builds and runs examples/handset.c with it.
-# make bench:   the library against the second program, as quotients of their times, or where x86-64 is only emulated of their instructions.
+# make bench:   the library against the second program, as quotients of their times, where x86-64 is only emulated also of their instructions.
 # make soak:    compares the library with the second program for MINUTES=10 from SEED=1 on, memory checked.
 .PHONY: test run lib example bench soak
 
@@ -16,7 +16,7 @@ lib: build/libulavrepit.a build/ulavrepit.h
 
 # Made again when anything in crates/ is newer; folders count too, so that a file taken away is seen.
 build/libulavrepit.a: crates.txt $(shell find crates)
-	@rt staticlib board
+	@bash -c '. tests/lib.sh && prove_first board rt staticlib board'
 	@mkdir -p build
 	@cp target/staticlib/libboard.a $@
 
@@ -34,3 +34,4 @@ soak: export SEED ?= 1
 soak: export MINUTES ?= 10
 soak:
 	@tests/soak
+

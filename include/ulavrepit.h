@@ -77,8 +77,9 @@ enum {
 
 /*
  * Each answers  refusal + 2^8 * caller + 2^32 * first;  bits 16 to 31 are zero. Refusal 0: done. The caller's
- * number is the one before the call; it is 0 where refusal is 1, and for boot, holders and runs. *second is written
- * only when done. Refused: first is 0. Pointers are never null; buffers don't overlap.
+ * number is the one before the call; it is 0 where refusal is 1, and for boot, holders and runs. Refused: first is 0,
+ * and *second, which is lent memory, stays as it was; it is written only when done. Pointers are never null; buffers
+ * don't overlap.
  */
 
 /* Rewrites the whole table, whatever it holds: base to end, all of it the root's. First 0. */

@@ -9,9 +9,17 @@
 #                           target_nm: the one that lists names
 #   strict_c                words for it: C99 without a warning
 #   run_x86 PROGRAM WORDS.. runs one that target_cc made
+#   is_emulated             whether such programs only run in an emulator here
+#   $compiler, $library, $runner  the C compiler, the library and the runner of what follows: target_cc, the archive
+#                           and run_x86, until use_native
+#   use_native              from there on: cc, the archive's module compiled for this processor, and no emulator
 #   run_checks COUNT PROGRAM WORDS..  runs one that prints a line 'ok NAME' or 'not ok NAME' a check, COUNT of
 #                           them; lines that begin with # are for the reader
-#   build_compare PROGRAM WORDS..  makes the comparison of build/libulavrepit.a with the second program
+#   planted FUNCTION OLD NEW  prints the second program with a bug in it
+#   agrees COMMAND..        runs a comparison that is too short to come to every refusal and every clause
+#   build_compare PROGRAM WORDS..  makes the comparison of the library with the second program
+# make run and make lib use its
+#   prove_first CRATE COMMAND..  runs a command of rt that proves the crate and those below it, and says how it gets on
 
 passed=0 failed=0
 room=$(mktemp -d) || exit 2
@@ -80,12 +88,25 @@ target_nm() {
 # Prints the kit's folder, found as rt finds it.
 kit_home() { printf '%s\n' "${RATTLE_HOME:-$(dirname "$(dirname "$(readlink -f "$(command -v rt)")")")}"; }
 
+# Prints the folder with the kit's compiler and linker for this machine.
+kit_bin() { printf '%s\n' "$(kit_home)/on/$(uname -m)/toolchain/bin"; }
+
 run_x86() {
     case $(uname -m) in
     x86_64) "$@" ;;
-    aarch64) "$(kit_home)/on/aarch64/toolchain/bin/qemu-x86_64" "$@" ;;
+    aarch64) "$(kit_bin)/qemu-x86_64" "$@" ;;
     *) echo "no x86-64 emulator is known for $(uname -m)" >&2; return 1 ;;
     esac
+}
+
+# AS_IF_EMULATED=1 says so on x86-64 too, to try there what is done then.
+is_emulated() { [ "$(uname -m)" != x86_64 ] || [ -n "${AS_IF_EMULATED:-}" ]; }
+
+compiler=target_cc library=build/libulavrepit.a runner=run_x86
+run_native() { "$@"; }
+use_native() {
+    compiler=cc library=build/native/libulavrepit.a runner=run_native
+    make --no-print-directory native
 }
 
 # Runs a program that rt linked: it loads a C library, on Arm the kit's, as rt itself has it do.
@@ -104,7 +125,7 @@ run_proved() { # PROGRAM WORDS..
 run_checks() { # COUNT PROGRAM WORDS..
     local count=$1 status lines line name
     shift
-    run_x86 "$@" >"$room/lines"
+    "$runner" "$@" >"$room/lines"
     status=$? lines=$(grep -vc '^#' "$room/lines")
     while IFS= read -r line; do
         case $line in
@@ -121,7 +142,58 @@ run_checks() { # COUNT PROGRAM WORDS..
     fi
 }
 
+# Nothing differs, and no table is wrongly taken. What a short run need not come to is not asked.
+agrees() { # COMMAND..
+    if ! "$@" >"$room/out" 2>&1 ||
+        ! grep -q '^ok the library and the second program answer the same' "$room/out" ||
+        grep -qE '^not ok (no table|every odd)' "$room/out"; then
+        cat "$room/out"
+        return 1
+    fi
+}
+
 build_compare() { # PROGRAM WORDS..
-    target_cc "${strict_c[@]}" -Ibuild -Isecond "${@:2}" -o "$1" \
-        tests/c/{compare,damage,most_runs,steer}.c second/kernel.c build/libulavrepit.a
+    "$compiler" "${strict_c[@]}" -Ibuild -Isecond "${@:2}" -o "$1" \
+        tests/c/{compare,damage,most_runs,steer}.c second/kernel.c "$library"
+}
+
+# Prints the second program, or the text in 'original', with a text in one of its functions replaced. It is to stand there once.
+planted() { # FUNCTION OLD NEW
+    local whole=${original:-$(<second/kernel.c)} before body without
+    before=${whole%%"$1"*}
+    body=${whole:${#before}}
+    body=${body%%$'\n}'*}
+    without=${body//"$2"/}
+    [ $((${#body} - ${#without})) -eq ${#2} ] || return 1
+    printf '%s%s%s\n' "$before" "${body/"$2"/"$3"}" "${whole:$((${#before} + ${#body}))}"
+}
+
+# Proving takes minutes, and a reader should know what is waited for. Says on stderr at once that something is to be
+# proved, and passes on rt's line for each crate as it is proved; nothing where nothing has to be. All that rt said is
+# shown where it failed.
+prove_first() { # CRATE COMMAND..
+    local name line new='' told=''
+    # shellcheck disable=SC2013 # words, not lines
+    for name in $(sed -n "s/^$1:\(.*\)/\1 $1/p" crates.txt); do
+        if [ -d "crates/$name" ] && [ ! -f "target/stamp/$name" ]; then new+=" $name"; fi
+    done
+    tell() { # TEXT
+        [ -n "$told" ] || printf '%s\n' "$1" >&2
+        told=1
+    }
+    [ -z "$new" ] || tell "to be proved first:$new. All together take some four minutes on two cores, once; a line for each:"
+    : >"$room/said"
+    rm -f "$room/proved"
+    while :; do
+        if IFS= read -r -t "${PATIENCE:-3}" line; then
+            printf '%s\n' "$line" >>"$room/said"
+            [[ $line =~ ^rt:\ [a-z_]+\ proved\ \([0-9] ]] || continue
+        elif [ $? -le 128 ]; then
+            break
+        fi
+        # a crate was proved, or nothing was said for some seconds (PATIENCE), so that one is being proved
+        tell 'what is not proved as it stands is proved first; a line for each crate:'
+        [ -z "$line" ] || printf '%s\n' "$line" >&2
+    done < <("${@:2}" 2>&1 && touch "$room/proved")
+    [ -f "$room/proved" ] || { cat "$room/said" >&2; return 1; }
 }

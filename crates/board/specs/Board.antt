@@ -4,18 +4,17 @@ use mathlib.Core.Bool.{Bool, true, false, cond}
 use mathlib.Core.List.{List, []}
 use Prim.Native.Nat.{ℕ, _+_, _*_, _^_, _<_}
 use native.Mathlib.Omega.{arith}
-use lib.ListN.{length, getD, List·getD-eq-default}
-use lib.Dec.{eqb, leb, ltb}
-use borrow.Author.Tests.{eq-eqb, ne-eqb, ltb-true, ltb-false}
-use Rattle.loops.specs.Rewrite.{tab, tabFrom, tab-at}
-use Rattle.words.specs.Parts.{pack-lt}
+use lib.ListN.{length, getD}
+use lib.Dec.{eqb, leb}
+use borrow.Author.Tests.{eq-eqb, ne-eqb}
 use Rattle.tables.specs.State.{Table}
 use Rattle.tables.specs.View.{view}
 use Rattle.tables.specs.Encode.{encode}
 use Rattle.tables.specs.Fitting.{Words}
-use Rattle.tables.specs.Bytes.{octets, wordAt, wordsOf, bytesOf}
+use Rattle.tables.specs.Bytes.{wordsOf, bytesOf}
 use Rattle.tables.specs.ByteRecords.{HeaderTells}
-use Rattle.tables.specs.ByteTrips.{length-wordsOf, bytes-words}
+use Rattle.tables.specs.ByteTrips.{length-wordsOf, words-small, bytes-words}
+use Rattle.tables.specs.Outcomes.{answered}
 use Rattle.tables.specs.declared.Outcome.{Outcome}
 use Rattle.tables.specs.declared.Outcome.the-variants.{Done, Refused}
 use Rattle.sound.specs.Sound.{Sound}
@@ -38,14 +37,13 @@ handed b = cond (eqb (length b) 5128) (wordsOf b) []
 abbrev pub packed : ℕ → ℕ → ℕ → ℕ
 packed refusal caller first = refusal + (2 ^ 8 * caller + 2 ^ 32 * first)
 
--- refusal 0 is done; refused, first is 0
+-- the refusal number, the caller and the first value
 unfoldable pub resultOf : ℕ → Outcome → ℕ
-resultOf caller (Done v w) = packed 0 caller v
-resultOf caller (Refused n) = packed n caller 0
+resultOf caller o = packed (answered o .refusal) caller (answered o .first)
 
 -- the second value is written only when done
 unfoldable pub secondAfter : ℕ → Outcome → ℕ
-secondAfter before (Done v w) = w
+secondAfter before (Done v w) = answered (Done v w) .second
 secondAfter before (Refused n) = before
 
 -- the bytes after: those of the table after, or, refused, as they were
@@ -58,16 +56,28 @@ pub record Lent (caller : ℕ) (res : Result) (before : List ℕ) (r : ℕ) (aft
   pub result : r ≡ resultOf caller (outcomeOf res)
   pub bytes : after ≡ bytesAfter before res
 
+-- two results are equal: the result, and every byte
+pub lent-one : {caller : ℕ} {res : Result} {before : List ℕ} {r s : ℕ} {a b : List ℕ} → Lent caller res before r a → Lent caller res before s b → (r ≡ s) × (a ≡ b)
+lent-one x y = (x .result ∙ sym (y .result), x .bytes ∙ sym (y .bytes))
+
 -- .. and the second value, of a call of word w
 pub record CallLent (before : List ℕ) (w s r : ℕ) (after : List ℕ) (s′ : ℕ) : Type 0 where
   pub table : Lent (callerOf (handed before)) (callOn (handed before) w) before r after
   pub second : s′ ≡ secondAfter s (outcomeOf (callOn (handed before) w))
+
+pub call-lent-one : {before : List ℕ} {w s : ℕ} {r r′ : ℕ} {a b : List ℕ} {v v′ : ℕ} → CallLent before w s r a v → CallLent before w s r′ b v′ → (r ≡ r′) × (a ≡ b) × (v ≡ v′)
+call-lent-one x y =
+    let (r, bytes) = lent-one (x .table) (y .table) in
+    (r, bytes, x .second ∙ sym (y .second))
 
 -- what holders of line l promises: its result, every byte of the list, the second value
 pub record ListLent (table : List ℕ) (l : ℕ) (before : List ℕ) (s r : ℕ) (after : List ℕ) (s′ : ℕ) : Type 0 where
   pub result : r ≡ resultOf 0 (holdersOutcome (handed table) l (length before))
   pub bytes : after ≡ holdersBytes (handed table) l before
   pub second : s′ ≡ secondAfter s (holdersOutcome (handed table) l (length before))
+
+pub list-lent-one : {table : List ℕ} {l : ℕ} {before : List ℕ} {s r r′ : ℕ} {a b : List ℕ} {v v′ : ℕ} → ListLent table l before s r a v → ListLent table l before s r′ b v′ → (r ≡ r′) × (a ≡ b) × (v ≡ v′)
+list-lent-one x y = (x .result ∙ sym (y .result), x .bytes ∙ sym (y .bytes), x .second ∙ sym (y .second))
 
 -- ── what is handed over ──
 pub handed-is : (b : List ℕ) → length b ≡ 5128 → wordsOf b ≡ handed b
@@ -130,17 +140,6 @@ module _ (b : List ℕ) (base end : ℕ) {a m : List ℕ} {o : Outcome} (size : 
   pub boot-kept : {n r : ℕ} → o ≡ Refused n → r ≡ packed n 0 0 → Lent 0 (bootOn (handed b) base end) b r b
   boot-kept q p = lent-refused (ran-as any ran) b q p
 
--- ── bytes that are read and not written back ──
--- words of bytes are below 2^64
-module _ (b : List ℕ) (small : (i : ℕ) → getD b i 0 < 256) where
-  words-small : Words (wordsOf b)
-  unfolding wordsOf wordAt tabFrom
-  words-small = record { small = λ k. go k (ltb k 641) refl }
-    where
-      go : (k : ℕ) (x : Bool) → ltb k 641 ≡ x → getD (wordsOf b) k 0 < 2 ^ 64
-      go k true u = rw (tab-at 641 (wordAt b) k (ltb-true k 641 u)) (pack-lt octets (tab 8 (λ j. getD b (8 * k + j) 0)) (search small))
-      go k false u = rw (List·getD-eq-default (wordsOf b) 0 {n = k} (omega (arith, ltb-false k 641 u, length-wordsOf b))) (omega arith)
-
 -- ── a call ──
 pub call-none : (b : List ℕ) {w s r : ℕ} → (length b ≡ 5128 → ⊥) → r ≡ packed 1 0 0 → CallLent b w s r b s
 unfolding secondAfter outcomeOf
@@ -163,7 +162,7 @@ module _ (b : List ℕ) {a m : List ℕ} {w : ℕ} {x : Answer} (size : length b
   }
 
   pub call-tells : {v y : ℕ} → ((i : ℕ) → getD b i 0 < 256) → x .outcome ≡ Done v y → HeaderTells m
-  call-tells small q = tells (h .ran) q (λ x y t. call-sound a w (subst Words (sym load) (words-small b small) .small))
+  call-tells small q = tells (h .ran) q (λ x y t. call-sound a w (subst Words (sym load) (words-small b small)))
 
   -- a call that only reads: the bytes are those of the table already
   pub call-stands : ((i : ℕ) → getD b i 0 < 256) → onlyReads w ≡ true → b ≡ bytesOf m

@@ -1,15 +1,16 @@
 ghost use mathlib.Core.Path.{_≡_};
-ghost use Rattle.board.specs.Board.{resultOf};
+ghost use lib.ListN.{length};
+ghost use Rattle.runs.specs.Listing.{marksIn};
+ghost use Rattle.board.specs.Board.{handed, resultOf};
 ghost use Rattle.board.specs.Lists.{Small, readyOf, Handed};
 use runs::Run;
-use runs::listing::run_between;
+use runs::listing::run_at;
 use tables::Outcome;
 use words::Partition;
 
-// What is settled before a record is written: how many runs are written, the marks that they are read from, and the answer.
+// What is settled before a record is written: how many runs are written, and the answer.
 pub struct Ready {
     pub number: usize,
-    pub marks: [u32; 513],
     pub answer: u64,
 }
 
@@ -24,40 +25,40 @@ fn answer_word(o: Outcome) -> u64
     }
 }
 
-fn plan_bytes(table: &[u8], size: usize) -> Ready
-    ensures { λ r. ⌜ r ≡ readyOf (now (table .entry)) size ⌝ }
+fn plan_bytes(table: &[u8], size: usize, marks: &mut [u32; 513]) -> Ready
+    requires { ⌜ length (now marks) ≡ 513 ⌝ }
+    ensures { λ r. ⌜ (r ≡ readyOf (now (table .entry)) size) × (now (marks .exit) ≡ marksIn (handed (now (table .entry))) (now (marks .entry))) ⌝ }
 {
-    let mut marks = [0u32; 513];
     if table.len() != 5128 {
         return Ready {
             number: 0,
-            marks: marks,
             answer: 1,
         };
     }
     let mut a = [0u64; 641];
     tables::bytes::load(table, &mut a);
-    let p = runs::listing::plan_of(&a, size, &mut marks);
+    let p = runs::listing::plan_of(&a, size, marks);
     let n = p.number;
     let outcome = p.outcome;
     let answer = answer_word(outcome);
     Ready {
         number: n,
-        marks: marks,
         answer: answer,
     }
 }
 
-// The runs of a table, written into a list of records.
+// The runs of a table, written into a list of records. This is the one writer of them.
+// A function that holds a `&mut [Run]` is proved by hand: this one calls, stores and counts, and settles nothing itself.
 #[no_mangle]
 pub extern "C" fn ulavrepit_runs(table: &[u8], list: &mut [Run]) -> u64
     ensures { λ r. ⌜ Handed (now (table .entry)) (now (list .entry)) r (now (list .exit)) ⌝ }
 {
-    let p = plan_bytes(table, list.len());
+    let mut marks = [0u32; 513];
+    let p = plan_bytes(table, list.len(), &mut marks);
     let n = p.number;
     let mut i = 0;
     while i < n {
-        list[i] = run_between(p.marks[i], p.marks[i + 1]);
+        list[i] = run_at(&marks, i);
         i = i + 1;
     }
     p.answer

@@ -16,18 +16,19 @@ use Rattle.loops.specs.Count.{sum}
 use Rattle.words.specs.Kind.{wordOf}
 use Rattle.words.specs.Words.{first, header, structure, regions, slot, call}
 use Rattle.tables.specs.State.{Opt, none, some, Entry, Area}
-use Rattle.tables.specs.View.{view, viewK, entryIn, headerArea, structureArea, areaIn, nth, named, inside, parentAt, slotPlace}
+use Rattle.tables.specs.View.{view, viewK, entryIn, headerArea, structureArea, areaIn, nth, named, inside, parentAt, firstWord, recordWord, areaWordAt, regionsWordAt, blankWordAt, slotWordAt}
 use Rattle.tables.specs.Encode.{encode, slotWord, headerWord, structureWord, regionFor, regionsWord, partWord, wordFor}
 use Rattle.tables.specs.Update.{pick, upd, upd1, both?}
-use Rattle.tables.specs.Search.{lowest, present, absent, absentChild, child, noStructure, free, holds}
+use Rattle.tables.specs.Search.{lowest, present, absent, absentChild, child, hasChild, noStructure, free, holds}
 use Rattle.tables.specs.Settle.{meets, apart, clear, openBit, openAt, keep, settle}
-use Rattle.tables.specs.ZeroRecord.{zeroTo}
+use Rattle.tables.specs.ZeroRecord.{zeroTo, zeroBlanks}
+use Rattle.tables.specs.Outcomes.{answered}
 use Rattle.tables.specs.declared.Outcome.{Outcome}
-use Rattle.tables.specs.declared.Outcome.the-variants.{Done, Refused}
 use Rattle.sound.specs.Sound.{allRights}
-use Rattle.sound.specs.Clauses.{when, has, isNowhere, long, s1, s2Root, s2Other, s2, blankRegion, s3Word, s3First, s3, rooted, s4Area, s4Absent, s4, s5Slot, s5, apartE, s6, held, covered, s7Root, s7Given, grants, s7Inside, s7Cover, s7, equals, s8Backed, s8Apart, s8, s9, s10Names, s10Once, s10, full, within, s11, sound}
+use Rattle.sound.specs.Clauses.{when, has, isNowhere, long, s1, s2Root, s2Other, s2, blankRegion, s3Regions, s3First, s3, rooted, s4Area, s4Absent, s4, s5Slot, s5, apartE, s6, held, covered, s7Root, s7Given, grants, s7Inside, s7Cover, s7, equals, s8Backed, s8Apart, s8, s9, s10Names, s10Once, s10, full, within, s11, sound}
 use Rattle.sound.specs.Holders.{givenTo, givenBy, heir, deepest, trail, holdersOf, inMemory, holdersOutcome, holdersBytes}
-use Rattle.services.specs.Rules.{Result, done, refused, check, need, ownOrChild, parentOrChild, freeEntry, long as longEntry, create, prepare, vacant, collect, give, returned, take, cut, merge, elsewhere, load, switch, ungive, branch, clearOut, noRights, uses, unused, known, perform, serve, serveRead, callOn, bootOn, wordsAfter}
+use Rattle.services.specs.Ran.{outcomeOf}
+use Rattle.services.specs.Rules.{Result, check, need, ownOrChild, parentOrChild, freeEntry, long as longEntry, create, delete, prepare, vacant, collect, give, returned, take, cut, merge, elsewhere, load, unload, regionWord, readRegion, find, switch, ungive, branch, clearOut, noRights, uses, unused, known, perform, serve, serveRead, callOn, bootOn, wordsAfter}
 
 -- ── a case: what is computed, and what 01 says ──
 abbrev pub Case : Type 0
@@ -40,14 +41,12 @@ abbrev pub expected : List Case → List (List ℕ)
 expected cs = map (λ (c : Case). c .1) cs
 
 -- an outcome as numbers: refusal number or 0, first value, second value
-abbrev pub shown : Result → List ℕ
-shown (done v w t) = 0 ∷ v ∷ w ∷ []
-shown (refused n) = n ∷ 0 ∷ 0 ∷ []
+abbrev pub told : Outcome → List ℕ
+told o = let n = answered o in n .refusal ∷ n .first ∷ n .second ∷ []
 
--- .. the outcome of holders
-abbrev pub answered : Outcome → List ℕ
-answered (Done v w) = 0 ∷ v ∷ w ∷ []
-answered (Refused n) = n ∷ 0 ∷ 0 ∷ []
+-- .. that of a rule
+abbrev pub shown : Result → List ℕ
+shown r = told (outcomeOf r)
 
 -- the call word with these fields: service, P, S, T, L; no rights
 abbrev pub word : ℕ → ℕ → ℕ → ℕ → ℕ → ℕ
@@ -152,10 +151,10 @@ casesOf B (lines, X) =
     -- the lines printed
     (lines, printed)
     -- afterwards root slot 3 is f880001200000400 and slot 0 of partition 1 is f000001200000400
-    ∷ (getD X (slotPlace 0 3) 0 ∷ [], 0xf880001200000400 ∷ [])
-    ∷ (getD X (slotPlace 1 0) 0 ∷ [], 0xf000001200000400 ∷ [])
+    ∷ (slotWordAt X 0 3 ∷ [], 0xf880001200000400 ∷ [])
+    ∷ (slotWordAt X 1 0 ∷ [], 0xf000001200000400 ∷ [])
     -- * B: root slot 0 is f800001000000800
-    ∷ (getD B (slotPlace 0 0) 0 ∷ [], 0xf800001000000800 ∷ [])
+    ∷ (slotWordAt B 0 0 ∷ [], 0xf800001000000800 ∷ [])
     -- * B, cut slot 0 at 256: 7; at 1024: 7; * at 257: done, slot 1
     ∷ refuses B (word 7 0 0 0 256) 7
     ∷ refuses B (word 7 0 0 0 1024) 7
@@ -170,10 +169,10 @@ casesOf B (lines, X) =
     -- * B, collect P 0 structure 0: 15
     ∷ refuses B (word 4 0 0 0 0) 15
     -- * X, holders of 300: 0, 1. Two holders; their numbers are the first two bytes, the rest stay
-    ∷ (answered (holdersOutcome X 300 16), 0 ∷ 2 ∷ 0 ∷ [])
+    ∷ (told (holdersOutcome X 300 16), 0 ∷ 2 ∷ 0 ∷ [])
     ∷ (holdersBytes X 300 (replicate 16 255), 0 ∷ 1 ∷ replicate 14 255)
     -- X, holders of 1024: 7
-    ∷ (answered (holdersOutcome X 1024 16), 7 ∷ 0 ∷ 0 ∷ [])
+    ∷ (told (holdersOutcome X 1024 16), 7 ∷ 0 ∷ 0 ∷ [])
     -- * X, take slot 3: done; * slot 1: 6
     ∷ gives X (word 6 0 3 0 0) 0 0
     ∷ refuses X (word 6 0 1 0 0) 6
@@ -188,13 +187,26 @@ casesOf B (lines, X) =
     ∷ (run B (word 7 0 0 0 272 ∷ word 1 0 0 0 0 ∷ []) .0, 0 ∷ 1 ∷ 0 ∷ 0 ∷ 1 ∷ 0 ∷ [])
     ∷ []
 
--- ── request 101 of 02: X, D and A as above ──
-abbrev pub clearCases : List ℕ → List ℕ → List ℕ → List Case
-clearCases X D A =
+-- ── services that 01's list does not call, and request 101 of 02; B, X, D and A as above ──
+abbrev pub furtherCases : List ℕ → List ℕ → List ℕ → List ℕ → List Case
+furtherCases B X D A =
+    let region = run B (word 9 0 0 7 0 ∷ word 11 0 0 7 0 ∷ word 10 0 0 7 0 ∷ word 11 0 0 7 0 ∷ []) in
+    let gone = run X (word 2 1 0 0 0 ∷ []) in
     let one = run X (word 14 1 0 0 0 ∷ []) in
     let three = run D (word 14 1 0 0 0 ∷ []) in
-    -- X, clear out 1, a branch of one: done, 1; afterwards every word is as if nobody had ever been created
-    (one .0, 0 ∷ 1 ∷ 0 ∷ [])
+    -- X, find P 0 at 300: slot 3, its word; at 600: slot 1, another word; at 1024: 7
+    gives X (word 12 0 0 0 300) 3 0xf880001200000400
+    ∷ gives X (word 12 0 0 0 600) 1 0xf800002000000800
+    ∷ refuses X (word 12 0 0 0 1024) 7
+    -- B, load slot 0 in region 7, read region 7, unload it, read it again: the entry's word, then 0; afterwards B
+    ∷ (region .0, 0 ∷ 0 ∷ 0 ∷ 0 ∷ 0 ∷ 0xf800001000000800 ∷ 0 ∷ 0 ∷ 0 ∷ 0 ∷ 0 ∷ 0 ∷ [])
+    ∷ (region .1, B)
+    -- X, delete 1: done; afterwards every word is as if nobody had ever been created. D, delete 1, which has a child: 15
+    ∷ (gone .0, 0 ∷ 0 ∷ 0 ∷ [])
+    ∷ (gone .1, A)
+    ∷ refuses D (word 2 1 0 0 0) 15
+    -- X, clear out 1, a branch of one: done, 1; afterwards likewise
+    ∷ (one .0, 0 ∷ 1 ∷ 0 ∷ [])
     ∷ (one .1, A)
     -- D, clear out 1, a branch three deep: done, 3; afterwards likewise
     ∷ (three .0, 0 ∷ 3 ∷ 0 ∷ [])
@@ -205,7 +217,7 @@ clearCases X D A =
     ∷ []
 
 abbrev pub cases : List Case
-cases = casesOf B session ++ clearCases (session .1) D A
+cases = casesOf B session ++ furtherCases B (session .1) D A
 
 -- ── a test that every case is right: the list is then computed once, not once for each side ──
 abbrev equal : List ℕ → List ℕ → Bool
@@ -240,13 +252,13 @@ right-both (c ∷ bs) cs g h =
 
 -- each part is computed by itself: a declaration has so many steps and no more
 base-right : right (casesOf B session) ≡ true
-unfolding B session D A carried rest tabFrom climb first header structure regions slot call view viewK entryIn headerArea structureArea areaIn nth named inside parentAt encode slotWord headerWord structureWord regionFor regionsWord partWord wordFor pick upd upd1 both? ℕ-discrete lowest present absent absentChild child noStructure free holds meets apart clear openBit openAt keep settle zeroTo when has isNowhere long s1 s2Root s2Other s2 blankRegion s3Word s3First s3 rooted s4Area s4Absent s4 s5Slot s5 apartE s6 held covered s7Root s7Given grants s7Inside s7Cover s7 equals s8Backed s8Apart s8 s9 s10Names s10Once s10 full within s11 sound givenTo givenBy heir deepest trail holdersOf inMemory holdersOutcome holdersBytes check need ownOrChild parentOrChild freeEntry longEntry create prepare vacant collect give returned take cut merge elsewhere load switch ungive branch clearOut sum noRights uses unused known perform serve serveRead callOn bootOn wordsAfter
+unfolding B session D A carried rest tabFrom climb first header structure regions slot call firstWord recordWord areaWordAt regionsWordAt blankWordAt slotWordAt view viewK entryIn headerArea structureArea areaIn nth named inside parentAt encode slotWord headerWord structureWord regionFor regionsWord partWord wordFor pick upd upd1 both? ℕ-discrete lowest present absent absentChild child noStructure free holds meets apart clear openBit openAt keep settle zeroTo zeroBlanks when has isNowhere long s1 s2Root s2Other s2 blankRegion s3Regions s3First s3 rooted s4Area s4Absent s4 s5Slot s5 apartE s6 held covered s7Root s7Given grants s7Inside s7Cover s7 equals s8Backed s8Apart s8 s9 s10Names s10Once s10 full within s11 sound givenTo givenBy heir deepest trail holdersOf inMemory holdersOutcome holdersBytes check need ownOrChild parentOrChild freeEntry longEntry create prepare vacant collect give returned take cut merge elsewhere load switch ungive branch clearOut sum noRights uses unused known perform serve serveRead callOn bootOn wordsAfter outcomeOf
 base-right = refl
 
-clear-right : right (clearCases (session .1) D A) ≡ true
-unfolding B session D A carried rest tabFrom climb first header structure regions slot call view viewK entryIn headerArea structureArea areaIn nth named inside parentAt encode slotWord headerWord structureWord regionFor regionsWord partWord wordFor pick upd upd1 both? ℕ-discrete lowest present absent absentChild child noStructure free holds meets apart clear openBit openAt keep settle zeroTo when has isNowhere long s1 s2Root s2Other s2 blankRegion s3Word s3First s3 rooted s4Area s4Absent s4 s5Slot s5 apartE s6 held covered s7Root s7Given grants s7Inside s7Cover s7 equals s8Backed s8Apart s8 s9 s10Names s10Once s10 full within s11 sound givenTo givenBy heir deepest trail holdersOf inMemory holdersOutcome holdersBytes check need ownOrChild parentOrChild freeEntry longEntry create prepare vacant collect give returned take cut merge elsewhere load switch ungive branch clearOut sum noRights uses unused known perform serve serveRead callOn bootOn wordsAfter
-clear-right = refl
+further-right : right (furtherCases B (session .1) D A) ≡ true
+unfolding B session D A carried rest tabFrom climb first header structure regions slot call firstWord recordWord areaWordAt regionsWordAt blankWordAt slotWordAt view viewK entryIn headerArea structureArea areaIn nth named inside parentAt encode slotWord headerWord structureWord regionFor regionsWord partWord wordFor pick upd upd1 both? ℕ-discrete lowest present absent absentChild child hasChild noStructure free holds meets apart clear openBit openAt keep settle zeroTo zeroBlanks when has isNowhere long s1 s2Root s2Other s2 blankRegion s3Regions s3First s3 rooted s4Area s4Absent s4 s5Slot s5 apartE s6 held covered s7Root s7Given grants s7Inside s7Cover s7 equals s8Backed s8Apart s8 s9 s10Names s10Once s10 full within s11 sound givenTo givenBy heir deepest trail holdersOf inMemory holdersOutcome holdersBytes check need ownOrChild parentOrChild freeEntry longEntry create delete prepare vacant collect give returned take cut merge elsewhere load unload regionWord readRegion find switch ungive branch clearOut sum noRights uses unused known perform serve serveRead callOn bootOn wordsAfter outcomeOf
+further-right = refl
 
 -- ── the statement: in every case, what is computed is what 01 and 02 say ──
 pub every-case : computed cases ≡ expected cases
-every-case = right-says cases (right-both (casesOf B session) (clearCases (session .1) D A) base-right clear-right)
+every-case = right-says cases (right-both (casesOf B session) (furtherCases B (session .1) D A) base-right further-right)

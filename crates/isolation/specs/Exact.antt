@@ -1,27 +1,26 @@
 -- Each refusal number is given exactly under its condition: the conditions of a call, in order, and that they answer it.
-use mathlib.Core.Path.{_≡_, refl, ap, sym, subst, _∙_}
-use mathlib.Core.Bool.{Bool, true, false, cond, not, _||_, false≢true, true≢false}
+use mathlib.Core.Path.{_≡_, refl, ap, sym, subst}
+use mathlib.Core.Bool.{Bool, true, false, cond, not, _||_, true≢false}
 use mathlib.Core.List.{List}
 use mathlib.Core.Logic.{_↔_}
-use Prim.Native.Nat.{ℕ, _^_, _<_}
+use Prim.Native.Nat.{ℕ}
 use lib.Dec.{eqb}
-use lib.ListN.{getD}
 use borrow.Author.Tests.{not-true}
-use Rattle.words.specs.Kind.{fieldsIn, Zeroed}
-use Rattle.words.specs.Parts.{clean, clean-true, clean-says}
+use Rattle.words.specs.Kind.{fieldsIn, Zeroed, zeroed-means}
 use Rattle.words.specs.Words.{call}
 use Rattle.words.specs.declared.Rights.{Rights}
 use Rattle.words.specs.declared.call_word.CallFields.{CallFields}
 use Rattle.tables.specs.State.{some, Table}
 use Rattle.tables.specs.View.{view}
+use Rattle.tables.specs.Fitting.{Words}
 use Rattle.sound.specs.Sound.{Sound}
-use Rattle.sound.specs.Clauses.{sound}
 use Rattle.sound.specs.Canonical.{sound-canon}
 use Rattle.sound.specs.Means.{eq-means, and-means, has-means}
 use Rattle.sound.specs.Whole.{Right, sound-means, sound-right}
-use Rattle.services.specs.Rules.{Result, refused, noRights, Uses, uses, unused, known, serve, serveRead, callOn}
+use Rattle.services.specs.Rules.{Result, noRights, Uses, uses, unused, known, serve, callOn}
+use Rattle.services.specs.Calls.{call-as}
 use Rattle.services.specs.Each.{perform-each}
-use Rattle.isolation.specs.Ladder.{Ladder, finish, must, Answers, holds, fails, answer-one, check-answers}
+use Rattle.isolation.specs.Ladder.{Ladder, finish, must, Answers, answer-one, check-answers}
 use Rattle.isolation.specs.Create.{createLadder, create-exact}
 use Rattle.isolation.specs.Delete.{deleteLadder, delete-exact}
 use Rattle.isolation.specs.Prepare.{prepareLadder, prepare-exact}
@@ -135,18 +134,12 @@ module _ {t : Table} (h : Right t) (f : CallFields) where
         clearOut = at 14 (clear-exact h p);
       }))
 
-module _ (l : List ℕ) (w : ℕ) (small : (n : ℕ) → getD l n 0 < 2 ^ 64) where
+module _ (l : List ℕ) (w : ℕ) (small : Words l) where
   pub call-exact : Answers (callLadder l w) (callOn l w)
-  unfolding callOn serveRead call
-  call-exact = go (sound l) (clean (call .parts) w) refl refl
-    where
-      go : (b a : Bool) → sound l ≡ b → clean (call .parts) w ≡ a
-          → Answers (callLadder l w) (cond b (serveRead (view l) (cond a (call .fields (fieldsIn call w)) (call .refused 2))) (refused 1))
-      go false a q z = fails (λ s. false≢true (sym q ∙ sound-means l .1 s))
-      go true false q z = holds (sound-means l .0 q) (fails (λ c. false≢true (sym z ∙ clean-true (call .parts) w c)))
-      go true true q z =
-          let s = sound-means l .0 q in
-          holds s (holds (clean-says (call .parts) w z) (serve-exact (sound-right (sound-canon small s) s) (fieldsIn call w)))
+  call-exact =
+      rw (call-as l w)
+      (check-answers (sound-means l) (λ s.
+      check-answers (zeroed-means call w) (λ _. serve-exact (sound-right (sound-canon small s) s) (fieldsIn call w))))
 
   -- so the answer of a call is the one that its conditions give
   pub call-is : {r : Result} → (callOn l w ≡ r) ↔ Answers (callLadder l w) r

@@ -32,7 +32,7 @@ pub data Answers : Ladder → Result → Type 1 where
   no-lowest : {n m : ℕ} {P : ℕ → Type 0} {c : ℕ → Ladder} → ((i : ℕ) → i < m → P i → ⊥) → Answers (least n m P c) (refused n)
 
 -- ── there is one answer ──
-least-one : {m : ℕ} {P : ℕ → Type 0} {i j : ℕ} → Least m P i → Least m P j → i ≡ j
+pub least-one : {m : ℕ} {P : ℕ → Type 0} {i j : ℕ} → Least m P i → Least m P j → i ≡ j
 least-one {i = i} {j} a b = go (decLt i j) (decLt j i)
   where
     go : Dec (i < j) → Dec (j < i) → i ≡ j

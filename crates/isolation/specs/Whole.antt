@@ -1,26 +1,25 @@
 -- THE THEOREMS, over words: after boot and after any list of calls, done or refused, the table is sound, so the four properties hold.
 use mathlib.Core.Path.{_≡_, refl, ap, sym, _∙_}
-use mathlib.Core.Bool.{Bool, true, false, cond}
 use mathlib.Core.List.{List, [], _∷_}
 use mathlib.Core.Logic.{_⊎_, inl, inr}
-use Prim.Native.Nat.{ℕ, _^_, _<_}
-use lib.ListN.{getD}
-use Rattle.words.specs.Kind.{fieldsIn}
-use Rattle.words.specs.Parts.{clean}
+use Prim.Native.Nat.{ℕ}
+use Rattle.words.specs.Kind.{fieldsIn, zeroed}
 use Rattle.words.specs.Words.{call}
 use Rattle.words.specs.declared.call_word.CallFields.{CallFields}
 use Rattle.tables.specs.State.{Table}
 use Rattle.tables.specs.View.{view}
 use Rattle.tables.specs.Encode.{encode, Canon}
+use Rattle.tables.specs.Fitting.{Words}
 use Rattle.sound.specs.Sound.{Sound}
 use Rattle.sound.specs.Clauses.{sound}
 use Rattle.sound.specs.Canonical.{sound-canon}
 use Rattle.sound.specs.Properties.{Isolated, sound-isolated}
 use Rattle.sound.specs.Whole.{Right, sound-means, sound-right}
-use Rattle.services.specs.Rules.{Result, done, refused, serve, serveRead, callOn, bootOn, wordsAfter}
+use Rattle.services.specs.Rules.{Result, done, refused, serve, callOn, bootOn, wordsAfter}
+use Rattle.services.specs.Ran.{check-done}
+use Rattle.services.specs.Calls.{call-as}
 use Rattle.services.specs.Each.{serve-done, done-each, perform-at}
 use Rattle.isolation.specs.Fits.{Good, right-good}
-use Rattle.isolation.specs.Ladder.{not-done}
 use Rattle.isolation.specs.Create.{create-right}
 use Rattle.isolation.specs.Delete.{delete-right}
 use Rattle.isolation.specs.Prepare.{prepare-right}
@@ -69,17 +68,14 @@ pub serve-same : {t : Table} → Right t → (f : CallFields) → Reads f → {v
 serve-same {t} h f (inl e) z = readRegion-same h (f .partition .0) (f .other) (sym (perform-at 11 t f e) ∙ serve-done t f z .1)
 serve-same {t} h f (inr e) z = find-same h (f .partition .0) (f .line .0) (sym (perform-at 12 t f e) ∙ serve-done t f z .1)
 
-module _ (l : List ℕ) (w : ℕ) (small : (n : ℕ) → getD l n 0 < 2 ^ 64) where
+module _ (l : List ℕ) (w : ℕ) (small : Words l) where
   -- what is done was asked of a sound table, which the words are those of
   pub served : {v x : ℕ} {t′ : Table} → callOn l w ≡ done v x t′ → Canon l × Right (view l) × (serve (view l) (fieldsIn call w) ≡ done v x t′)
-  unfolding callOn serveRead call
-  served {v} {x} {t′} = go (sound l) (clean (call .parts) w) refl
-    where
-      go : (b a : Bool) → sound l ≡ b → cond b (serveRead (view l) (cond a (call .fields (fieldsIn call w)) (call .refused 2))) (refused 1) ≡ done v x t′
-          → Canon l × Right (view l) × (serve (view l) (fieldsIn call w) ≡ done v x t′)
-      go true true q z = let s = sound-means l .0 q in let c = sound-canon small s in (c, sound-right c s, z)
-      go true false q z = not-done z
-      go false a q z = not-done z
+  served z =
+      let (q, y) = check-done 1 (sound l) (sym (call-as l w) ∙ z) in
+      let s = sound-means l .0 q in
+      let c = sound-canon small s in
+      (c, sound-right c s, check-done 2 (zeroed call w) y .1)
 
   pub call-right : {v x : ℕ} {t′ : Table} → callOn l w ≡ done v x t′ → Right t′
   call-right z = let (_, h, y) = served z in serve-right h (fieldsIn call w) y
@@ -114,7 +110,7 @@ after-good {l} g (w ∷ ws) = after-good (one (callOn l w) refl) ws
     one (done v x t′) z = right-good (call-right l w (g .small) z)
     one (refused n) z = g
 
-module _ (l ws : List ℕ) (small : (n : ℕ) → getD l n 0 < 2 ^ 64) (s : Sound l) where
+module _ (l ws : List ℕ) (small : Words l) (s : Sound l) where
   pub after-sound : Sound (afterAll l ws)
   after-sound = after-good (record { small = small; sound = s }) ws .sound
 

@@ -36,7 +36,7 @@ pub record LedgerRuns (base end : ℕ) (g : Ledger) (rs : List Run) : Type 0 whe
   pub same : (i l m : ℕ) → i < length rs → On (nth rs i) l → On (nth rs i) m → SameNames g l m
   pub differ : (i l m : ℕ) → suc i < length rs → On (nth rs i) l → On (nth rs (suc i)) m → SameNames g l m → ⊥
 
--- What demand 3 says of runs, of a ledger g and the words t of a table of base to end. Listed is what runs promises.
+-- What demand 3 says of runs, of a ledger g and the words t of a table of base to end. Listed is what the writer of runs promises.
 pub record RunsDemand (base end : ℕ) (g : Ledger) (t : List ℕ) : Type 0 where
   -- the runs are the ledger's, and name the last of the listing
   pub runs : LedgerRuns base end g (runsOf (view t .k))

@@ -1,5 +1,5 @@
 -- DEMAND 3: a ledger kept by hand from an accepted boot always equals the listing of holders, for each line, after any list of calls.
-use mathlib.Core.Path.{_≡_, refl, sym, _∙_}
+use mathlib.Core.Path.{_≡_, refl, sym}
 use mathlib.Core.Bool.{true, false}
 use mathlib.Core.List.{List}
 use mathlib.Core.Logic.{Iff·symm}
@@ -11,13 +11,14 @@ use Rattle.loops.specs.Count.{count}
 use Rattle.tables.specs.State.{Table}
 use Rattle.tables.specs.View.{view}
 use Rattle.tables.specs.Encode.{encode}
+use Rattle.tables.specs.WayUp.{over}
 use Rattle.tables.specs.declared.Outcome.{Outcome}
 use Rattle.tables.specs.declared.Outcome.the-variants.{Done, Refused}
 use Rattle.sound.specs.Sound.{Sound}
 use Rattle.sound.specs.Core.{sound-core}
 use Rattle.sound.specs.Properties.{holder-present, held-range}
 use Rattle.sound.specs.Whole.{sound-means}
-use Rattle.sound.specs.Holders.{holdersOf, over, inMemory, below-base, from-end, in-memory, Listed, listed-outside, listed-done}
+use Rattle.sound.specs.Holders.{holdersOf, inMemory, below-base, from-end, in-memory, Listed, listed-one, listed-outside, listed-done}
 use Rattle.services.specs.Rules.{done, bootOn}
 use Rattle.isolation.specs.Whole.{afterAll, from-boot-sound}
 use Rattle.ledger.specs.Ledger.{Ledger, opening, keptOn}
@@ -35,10 +36,6 @@ pub record Demand3 (base end : ℕ) (g : Ledger) (t : List ℕ) : Type 0 where
   -- a line that is not in base to end has nobody in the ledger, and is refused
   pub nobody : (p m : ℕ) → g .stands p m ≡ true → (base ≤ m) × (m < end)
   pub outside : {m : ℕ} {before after : List ℕ} {r : Outcome} → ((base ≤ m) × (m < end) → ⊥) → Listed t m before r after → (r ≡ Refused 7) × (after ≡ before)
-
--- holders promises one answer
-one-answer : {t : List ℕ} {m : ℕ} {before : List ℕ} {r s : Outcome} {a b : List ℕ} → Listed t m before r a → Listed t m before s b → (r ≡ s) × (a ≡ b)
-one-answer x y = (x .outcome ∙ sym (y .outcome), x .bytes ∙ sym (y .bytes))
 
 -- ── a sound table whose ledger is right ──
 module _ {base end : ℕ} {g : Ledger} {t : List ℕ} (h : Sound t) (s : Keeps base end g (view t .k)) where
@@ -67,9 +64,9 @@ module _ {base end : ℕ} {g : Ledger} {t : List ℕ} (h : Sound t) (s : Keeps b
     answer = λ {m} a b c x.
         let e = number m a b in
         let i = in-memory (view t .k) m (rw (s .base-is) a) (rw (s .end-is) b) in
-        one-answer x (listed-done (sound-means t .1 h) i c (record { number = sym e; bytes = refl; few = rw (← e) (lists m a b .few) }));
+        listed-one x (listed-done (sound-means t .1 h) i c (record { number = sym e; bytes = refl; few = rw (← e) (lists m a b .few) }));
     nobody = λ p m q. rw (s .base-is, s .end-is) at (held-range (sound-core t h) (s .holders p m .0 q));
-    outside = λ {m} n x. one-answer x (listed-outside (sound-means t .1 h) (not-in-memory m n));
+    outside = λ {m} n x. listed-one x (listed-outside (sound-means t .1 h) (not-in-memory m n));
   }
 
 -- from an accepted boot, after the calls of any words

@@ -8,5 +8,4 @@ pub mod Ways
 pub mod Stored
 pub mod Marks
 pub mod Listing
-pub mod Element
 pub mod Meaning

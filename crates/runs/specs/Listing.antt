@@ -7,6 +7,7 @@ use native.Mathlib.Omega.{arith}
 use lib.Dec.{leb}
 use lib.ListN.{length, drop, replicate}
 use borrow.Author.Tests.{not-true, not-false, leb-true, lt-leb, le-leb}
+use Rattle.loops.specs.Rewrite.{length-tab}
 use Rattle.tables.specs.State.{K}
 use Rattle.tables.specs.View.{view}
 use Rattle.tables.specs.Seen.{see-first}
@@ -15,14 +16,13 @@ use Rattle.sound.specs.Clauses.{sound}
 use Rattle.sound.specs.Decide.{Decided}
 use Rattle.runs.specs.declared.Run.{Run}
 use Rattle.runs.specs.declared.listing.Plan.{Plan}
-use Rattle.runs.specs.declared.listing.Planned.{Planned}
 use Rattle.runs.specs.Stored.{firsts}
 use Rattle.runs.specs.Runs.{runsOf, runsOutcome, runsRecords, Listed}
 use Rattle.runs.specs.RunLaws.{runs-few}
 use Rattle.runs.specs.Bound.{runs-bound}
-use Rattle.runs.specs.Pieces.{tested}
+use Rattle.runs.specs.Pieces.{tested, stop-small}
 use Rattle.runs.specs.Places.{InOrder}
-use Rattle.runs.specs.Marks.{runAt, marksOver, read-back}
+use Rattle.runs.specs.Marks.{runAt, markOf, marksOver, read-back}
 
 -- a refusal: no run is written
 abbrev pub refusal : ℕ → Plan
@@ -41,12 +41,6 @@ marksIn t b = cond (sound t) (marksOver (view t .k) b) b
 -- .. over nothing
 abbrev pub marksOf : List ℕ → List ℕ
 marksOf t = marksIn t (replicate 513 0)
-
-abbrev pub planned : Plan → List ℕ → Planned
-planned p w = record { number = p .number; marks = w; outcome = p .outcome }
-
-abbrev pub plannedOf : List ℕ → ℕ → Planned
-plannedOf t size = planned (planOf t size) (marksOf t)
 
 -- ── the exits of the code ──
 -- a table that was found sound: its entries are in order
@@ -82,6 +76,15 @@ module _ (t b : List ℕ) where
   unfolding marksIn
   marks-sound q e = e ∙ rw q refl
 
+-- as many as there were before
+pub marks-size : (t b : List ℕ) {w : List ℕ} → length b ≡ 513 → w ≡ marksIn t b → length w ≡ 513
+unfolding marksIn
+marks-size t b h e = ap length e ∙ go (sound t)
+  where
+    go : (x : Bool) → length (cond x (marksOver (view t .k) b) b) ≡ 513
+    go true = length-tab 513 (markOf (view t .k) b)
+    go false = h
+
 -- ── what was written ──
 -- no more runs than there are records, and than there are slots
 pub plan-fits : (t : List ℕ) (size : ℕ) → (planOf t size .number ≤ size) × (planOf t size .number ≤ 512)
@@ -111,6 +114,6 @@ listed t before = go (sound t) (leb (length (runsOf (view t .k))) (length before
   where
     go : (a b : Bool) → sound t ≡ a → leb (length (runsOf (view t .k))) (length before) ≡ b
         → Listed t before (planOf t (length before) .outcome) (written t before (planOf t (length before)))
-    go true true p q = record { outcome = rw (p, q) refl; records = rw (p, q) (ap (λ (rs : List Run). rs ++ drop (length (runsOf (view t .k))) before) (read-back (tested t p) (replicate 513 0))) }
+    go true true p q = record { outcome = rw (p, q) refl; records = rw (p, q) (ap (λ (rs : List Run). rs ++ drop (length (runsOf (view t .k))) before) (read-back (tested t p) (stop-small t) (replicate 513 0))) }
     go true false p q = record { outcome = rw (p, q) refl; records = rw (p, q) refl }
     go false b p q = record { outcome = rw p refl; records = rw p refl }

@@ -1,8 +1,8 @@
--- The runs as marks, one number for each: 16 times its first line plus its deepest holder. After the last stands 16 times the end of memory.
-use mathlib.Core.Path.{_≡_, refl, ap, sym, subst, _∙_}
+-- The runs as marks, one for each: of its first line and its deepest holder. After the last stands one of the end of memory.
+use mathlib.Core.Path.{_≡_, refl, ap, ap₂, sym, subst, _∙_}
 use mathlib.Core.Bool.{Bool, true, false, cond}
 use mathlib.Core.List.{List}
-use Prim.Native.Nat.{ℕ, suc, _+_, _-_, _*_, _/_, _%_, _≤_, _<_}
+use Prim.Native.Nat.{ℕ, suc, _+_, _-_, _^_, _≤_, _<_}
 use native.Mathlib.Decide.{ℕ-discrete, decLt}
 use native.Mathlib.Numerals.{add-one}
 use native.Mathlib.Omega.{arith}
@@ -11,6 +11,10 @@ use lib.ListN.{length, getD, set, replicate, length-set}
 use lib.Seq.{getD-set-same, getD-set-other}
 use borrow.Author.Tests.{eqb-true, eqb-false, eq-eqb, ne-eqb, lt-ltb, le-ltb}
 use Rattle.loops.specs.Rewrite.{tab, tab-at, tab-is}
+use Rattle.words.specs.Kind.{fieldsIn}
+use Rattle.words.specs.Words.{mark}
+use Rattle.words.specs.Laws.{lineIn, holderIn, markFor, line-in, holder-in}
+use Rattle.words.specs.declared.mark_word.MarkFields.{MarkFields}
 use Rattle.tables.specs.State.{K}
 use Rattle.sound.specs.Core.{Core}
 use Rattle.runs.specs.declared.Run.{Run}
@@ -24,18 +28,18 @@ use Rattle.runs.specs.Pieces.{pieceEnd, piece-same, piece-after, piece-w
 use Rattle.runs.specs.Places.{Passed, passed-none, passed-later}
 use Rattle.runs.specs.Ways.{lowAt, whoAt, Way, Standing, Pieced, way-start, way-later}
 
--- the run between two marks
-abbrev pub between : ℕ → ℕ → Run
-between m next = runOf (m / 16) (next / 16) (m % 16)
-
+-- run i: from its mark to the next
 abbrev pub runAt : List ℕ → ℕ → Run
-runAt w i = between (getD w i 0) (getD w (i + 1) 0)
+runAt w i = runOf (lowAt w i) (lowAt w (i + 1)) (whoAt w i)
+
+pub run-is : (w : List ℕ) (i : ℕ) {f g : MarkFields} → f ≡ fieldsIn mark (getD w i 0) → g ≡ fieldsIn mark (getD w (i + 1) 0) → record { start = f .line; end = g .line; deepest = f .holder } ≡ runAt w i
+run-is w i p q = ap₂ (λ (f g : MarkFields). runOf (f .line .0) (g .line .0) (f .holder .0)) p q
 
 -- the marks of the runs, over the numbers that stood there; what is past them stays
 unfoldable pub markOf : K → List ℕ → ℕ → ℕ
 markOf k b i =
-    cond (ltb i (length (runsOf k))) (16 * nth (runsOf k) i .start .0 + nth (runsOf k) i .deepest .0)
-    (cond (eqb i (length (runsOf k))) (16 * k .stop) (getD b i 0))
+    cond (ltb i (length (runsOf k))) (markFor (nth (runsOf k) i .start .0) (nth (runsOf k) i .deepest .0))
+    (cond (eqb i (length (runsOf k))) (markFor (k .stop) 0) (getD b i 0))
 
 abbrev pub marksOver : K → List ℕ → List ℕ
 marksOver k b = tab 513 (markOf k b)
@@ -54,6 +58,7 @@ pub record Marking (k : K) (b : List ℕ) (l n d : ℕ) (w : List ℕ) : Type 0 
   pub same : (i j : ℕ) → i < n → lowAt w i ≤ j → j < l → (suc i < n → j < lowAt w (suc i)) → deepestAt k j ≡ whoAt w i
   pub differ : (i : ℕ) → suc i < n → whoAt w i ≡ whoAt w (suc i) → ⊥
   pub last : (i : ℕ) → suc i ≡ n → whoAt w i ≡ d
+  pub whole : (i : ℕ) → i < n → getD w i 0 ≡ markFor (lowAt w i) (whoAt w i)
   pub rest : (i : ℕ) → n ≤ i → getD w i 0 ≡ getD b i 0
 
 pub mark-start : {k : K} {b : List ℕ} {l : ℕ} → Core k → length b ≡ 513 → l ≡ k .base → Marking k b l 0 16 b
@@ -69,26 +74,31 @@ mark-start h s q = record {
   same = λ i j c. absurd (omega arith);
   differ = λ i c. absurd (omega arith);
   last = λ i c. absurd (omega arith);
+  whole = λ i c. absurd (omega arith);
   rest = λ i c. refl;
 }
 
 -- what the code does with a piece that begins at l and has deepest holder d
 pub record Marked (w : List ℕ) (n last l d r : ℕ) (v : List ℕ) : Type 0 where
   pub number : r ≡ cond (eqb d last) n (n + 1)
-  pub marks : v ≡ cond (eqb d last) w (set w n (16 * l + d))
+  pub marks : v ≡ cond (eqb d last) w (set w n (markFor l d))
+
+-- two results are equal: the number, and every mark
+pub marked-one : {w : List ℕ} {n last l d r s : ℕ} {v u : List ℕ} → Marked w n last l d r v → Marked w n last l d s u → (r ≡ s) × (v ≡ u)
+marked-one x y = (x .number ∙ sym (y .number), x .marks ∙ sym (y .marks))
 
 module _ {w : List ℕ} {n last l d : ℕ} where
   pub marked-same : d ≡ last → Marked w n last l d n w
   marked-same q = record { number = rw (eq-eqb d last q) refl; marks = rw (eq-eqb d last q) refl }
 
-  pub marked-new : (d ≡ last → ⊥) → Marked w n last l d (n + 1) (set w n (16 * l + d))
-  marked-new q = record { number = rw (ne-eqb d last q) refl; marks = rw (ne-eqb d last q) refl }
+  pub marked-new : {m : ℕ} → m ≡ markFor l d → (d ≡ last → ⊥) → Marked w n last l d (n + 1) (set w n m)
+  marked-new made q = record { number = rw (ne-eqb d last q) refl; marks = rw (ne-eqb d last q, made) refl }
 
 module _ {k : K} (h : Core k) {b : List ℕ} {l n c : ℕ} {w : List ℕ} (inv : Marking k b l n c w) where
   pub marks-few : n ≤ 512
   marks-few = starts-few h (inv .starts) (inv .up)
 
-  module _ {e d : ℕ} (inside : l < k .stop) (ends : e ≡ pieceEnd k l) (deepest : d ≡ deepestAt k l) (small : d < 16) where
+  module _ {e d : ℕ} (inside : l < k .stop) (ends : e ≡ pieceEnd k l) (deepest : d ≡ deepestAt k l) (small : d < 16) (few : k .stop < 2 ^ 27) where
     after : l < e
     after = omega (arith, ends, piece-after k l inside)
 
@@ -112,6 +122,7 @@ module _ {k : K} (h : Core k) {b : List ℕ} {l n c : ℕ} {w : List ℕ} (inv :
       same = λ i j x y z u. same i j x y z u (decLt j l);
       differ = inv .differ;
       last = λ i x. inv .last i x ∙ sym q;
+      whole = inv .whole;
       rest = inv .rest;
     }
       where
@@ -124,9 +135,9 @@ module _ {k : K} (h : Core k) {b : List ℕ} {l n c : ℕ} {w : List ℕ} (inv :
             go (no m) = piece j (omega arith) z ∙ q ∙ sym (inv .last i (omega arith))
 
     -- another begins
-    begins : (d ≡ c → ⊥) → Marking k b e (n + 1) d (set w n (16 * l + d))
+    begins : (d ≡ c → ⊥) → Marking k b e (n + 1) d (set w n (markFor l d))
     begins q = record {
-      size = length-set w n (16 * l + d) ∙ inv .size;
+      size = length-set w n (markFor l d) ∙ inv .size;
       from = omega (arith, inv .from, after);
       to = to-stop;
       none = λ z. absurd (omega arith);
@@ -137,27 +148,28 @@ module _ {k : K} (h : Core k) {b : List ℕ} {l n c : ℕ} {w : List ℕ} (inv :
       same = λ i j x y z u. same i j x y z u (ℕ-discrete i n);
       differ = λ i x. differ i x (ℕ-discrete (suc i) n);
       last = λ i x. let z : i ≡ n = omega arith in rw z here-who;
-      rest = λ i x. getD-set-other w n i (16 * l + d) 0 (λ z. omega arith) ∙ inv .rest i (omega arith);
+      whole = λ i x. whole i x (ℕ-discrete i n);
+      rest = λ i x. getD-set-other w n i (markFor l d) 0 (λ z. omega arith) ∙ inv .rest i (omega arith);
     }
       where
         v : List ℕ
-        v = set w n (16 * l + d)
+        v = set w n (markFor l d)
 
-        here : getD (set w n (16 * l + d)) n 0 ≡ 16 * l + d
-        here = getD-set-same w n (16 * l + d) 0 (omega (arith, inv .size, marks-few))
+        here : getD (set w n (markFor l d)) n 0 ≡ markFor l d
+        here = getD-set-same w n (markFor l d) 0 (omega (arith, inv .size, marks-few))
 
-        here-low : lowAt (set w n (16 * l + d)) n ≡ l
-        here-low = omega (arith, here)
+        here-low : lowAt (set w n (markFor l d)) n ≡ l
+        here-low = ap lineIn here ∙ line-in l d (omega arith) small
 
-        here-who : whoAt (set w n (16 * l + d)) n ≡ d
-        here-who = omega (arith, here)
+        here-who : whoAt (set w n (markFor l d)) n ≡ d
+        here-who = ap holderIn here ∙ holder-in l d (omega arith) small
 
-        there : (i : ℕ) → (i ≡ n → ⊥) → getD (set w n (16 * l + d)) i 0 ≡ getD w i 0
-        there i z = getD-set-other w n i (16 * l + d) 0 z
+        there : (i : ℕ) → (i ≡ n → ⊥) → getD (set w n (markFor l d)) i 0 ≡ getD w i 0
+        there i z = getD-set-other w n i (markFor l d) 0 z
 
-        first : Dec (n ≡ 0) → lowAt (set w n (16 * l + d)) 0 ≡ k .base
-        first (yes z) = ap (lowAt (set w n (16 * l + d))) (sym z) ∙ here-low ∙ inv .none z .0
-        first (no z) = ap (λ (x : ℕ). x / 16) (there 0 (λ y. z (sym y))) ∙ inv .first (omega arith)
+        first : Dec (n ≡ 0) → lowAt (set w n (markFor l d)) 0 ≡ k .base
+        first (yes z) = ap (lowAt (set w n (markFor l d))) (sym z) ∙ here-low ∙ inv .none z .0
+        first (no z) = ap lineIn (there 0 (λ y. z (sym y))) ∙ inv .first (omega arith)
 
         -- the line before has another deepest holder: that of the run before
         new : Dec (n ≡ 0) → Starts k l
@@ -173,20 +185,20 @@ module _ {k : K} (h : Core k) {b : List ℕ} {l n c : ℕ} {w : List ℕ} (inv :
             base-below : (i : ℕ) → i < n → k .base ≤ l - 1
             base-below i x = omega (arith, inv .first (omega arith), inv .behind 0 (omega arith))
 
-        starts : (i : ℕ) → i < n + 1 → Dec (i ≡ n) → Starts k (lowAt (set w n (16 * l + d)) i)
+        starts : (i : ℕ) → i < n + 1 → Dec (i ≡ n) → Starts k (lowAt (set w n (markFor l d)) i)
         starts i x (yes z) = rw (z, here-low) (new (ℕ-discrete n 0))
         starts i x (no z) = rw (there i z) (inv .starts i (omega arith))
 
-        up : (i : ℕ) → suc i < n + 1 → Dec (suc i ≡ n) → lowAt (set w n (16 * l + d)) i < lowAt (set w n (16 * l + d)) (suc i)
+        up : (i : ℕ) → suc i < n + 1 → Dec (suc i ≡ n) → lowAt (set w n (markFor l d)) i < lowAt (set w n (markFor l d)) (suc i)
         up i x (yes z) = rw (z, here-low, there i (λ y. omega arith)) (inv .behind i (omega arith))
         up i x (no z) = rw (there i (λ y. omega arith), there (suc i) z) (inv .up i (omega arith))
 
-        behind : (i : ℕ) → i < n + 1 → Dec (i ≡ n) → lowAt (set w n (16 * l + d)) i < e
+        behind : (i : ℕ) → i < n + 1 → Dec (i ≡ n) → lowAt (set w n (markFor l d)) i < e
         behind i x (yes z) = rw (z, here-low) after
         behind i x (no z) = rw (there i z) (omega (arith, inv .behind i (omega arith), after))
 
-        same : (i j : ℕ) → i < n + 1 → lowAt (set w n (16 * l + d)) i ≤ j → j < e → (suc i < n + 1 → j < lowAt (set w n (16 * l + d)) (suc i)) → Dec (i ≡ n)
-            → deepestAt k j ≡ whoAt (set w n (16 * l + d)) i
+        same : (i j : ℕ) → i < n + 1 → lowAt (set w n (markFor l d)) i ≤ j → j < e → (suc i < n + 1 → j < lowAt (set w n (markFor l d)) (suc i)) → Dec (i ≡ n)
+            → deepestAt k j ≡ whoAt (set w n (markFor l d)) i
         same i j x y z u (yes m) = rw (m, here-who) (piece j (rw (m, here-low) at y) z)
         same i j x y z u (no m) = rw (there i m) (inv .same i j (omega arith) (rw (there i m) at y) (earlier (ℕ-discrete (suc i) n)) next)
           where
@@ -197,14 +209,18 @@ module _ {k : K} (h : Core k) {b : List ℕ} {l n c : ℕ} {w : List ℕ} (inv :
             earlier (yes a) = rw (a, here-low) at (u (omega arith))
             earlier (no a) = omega (arith, next (omega arith), inv .behind (suc i) (omega arith))
 
-        differ : (i : ℕ) → suc i < n + 1 → Dec (suc i ≡ n) → whoAt (set w n (16 * l + d)) i ≡ whoAt (set w n (16 * l + d)) (suc i) → ⊥
+        differ : (i : ℕ) → suc i < n + 1 → Dec (suc i ≡ n) → whoAt (set w n (markFor l d)) i ≡ whoAt (set w n (markFor l d)) (suc i) → ⊥
         differ i x (yes z) y = q (sym (rw (z, here-who, there i (λ s. omega arith)) at y) ∙ inv .last i z)
         differ i x (no z) y = inv .differ i (omega arith) (rw (there i (λ s. omega arith), there (suc i) z) at y)
+
+        whole : (i : ℕ) → i < n + 1 → Dec (i ≡ n) → getD (set w n (markFor l d)) i 0 ≡ markFor (lowAt (set w n (markFor l d)) i) (whoAt (set w n (markFor l d)) i)
+        whole i x (yes z) = rw (z, here-low, here-who) here
+        whole i x (no z) = rw (there i z) (inv .whole i (omega arith))
 
     pub mark-on : {r : ℕ} {v : List ℕ} → Marked w n c l d r v → Marking k b e r d v
     mark-on {r} {v} m = go (eqb d c) refl (m .number) (m .marks)
       where
-        go : (x : Bool) → eqb d c ≡ x → r ≡ cond x n (n + 1) → v ≡ cond x w (set w n (16 * l + d)) → Marking k b e r d v
+        go : (x : Bool) → eqb d c ≡ x → r ≡ cond x n (n + 1) → v ≡ cond x w (set w n (markFor l d)) → Marking k b e r d v
         go true z p q = rw (p, q) (goes-on (eqb-true d c z))
         go false z p q = rw (p, q) (begins (eqb-false d c z))
 
@@ -215,19 +231,19 @@ pub record Walk (k : K) (o b : List ℕ) (l n c d : ℕ) (s y w : List ℕ) : Ty
   pub way : Way k l d y
 
 module _ {k : K} {o b : List ℕ} where
-  pub walk-begins : {l e : ℕ} → Core k → length b ≡ 513 → l ≡ k .base → e ≡ k .stop → Walk k o b l 0 16 0 (replicate 16 0) (replicate 16 (16 * e)) b
-  walk-begins h s q z = record { marking = mark-start h s q; passed = passed-none; way = way-start h q z }
+  pub walk-begins : {l e m : ℕ} → Core k → k .stop < 2 ^ 27 → length b ≡ 513 → l ≡ k .base → e ≡ k .stop → m ≡ markFor e 0 → Walk k o b l 0 16 0 (replicate 16 0) (replicate 16 m) b
+  walk-begins h few s q z made = record { marking = mark-start h s q; passed = passed-none; way = way-start h few q z made }
 
   module _ {l n c d : ℕ} {s y w : List ℕ} (inv : Walk k o b l n c d s y w) where
     pub standing : l < k .stop → Standing k o l d s y
     standing x = record { inside = x; passed = inv .passed; way = inv .way }
 
-    pub walk-on : {r : Piece} {m : ℕ} {s′ y′ v : List ℕ} → Core k → l < k .stop → Pieced k o l r s′ y′ → Marked w n c l (r .deepest .0) m v
+    pub walk-on : {r : Piece} {m : ℕ} {s′ y′ v : List ℕ} → Core k → k .stop < 2 ^ 27 → l < k .stop → Pieced k o l r s′ y′ → Marked w n c l (r .deepest .0) m v
         → Walk k o b (r .end .0) m (r .deepest .0) (r .depth) s′ y′ v
-    walk-on h x p q =
+    walk-on h few x p q =
         let z = piece-after k l x in
         record {
-          marking = mark-on h (inv .marking) x (p .end) (p .deepest) (p .small) q;
+          marking = mark-on h (inv .marking) x (p .end) (p .deepest) (p .small) few q;
           passed = passed-later (omega (arith, p .end)) (p .passed);
           way = way-later (omega (arith, p .end)) (p .way);
         }
@@ -236,10 +252,10 @@ module _ {k : K} {o b : List ℕ} where
     walk-nearer x q = omega (arith, q, piece-after k l x)
 
 -- ── the end of memory ──
-module _ {k : K} (h : Core k) {b : List ℕ} {l n c : ℕ} {w : List ℕ} (inv : Marking k b l n c w) (stops : k .stop ≤ l) where
+module _ {k : K} (h : Core k) {b : List ℕ} {l n c : ℕ} {w : List ℕ} (inv : Marking k b l n c w) (stops : k .stop ≤ l) (few : k .stop < 2 ^ 27) {m : ℕ} (made : m ≡ markFor l 0) where
   -- the marks with the one after the last, and the runs between them
   abbrev v : List ℕ
-  v = set w n (16 * l)
+  v = set w n m
 
   abbrev rs : List Run
   rs = firsts (runAt v) n
@@ -251,20 +267,20 @@ module _ {k : K} (h : Core k) {b : List ℕ} {l n c : ℕ} {w : List ℕ} (inv :
       go (yes z) = absurd (omega (arith, inv .none z .0, h .s1))
       go (no z) = omega arith
 
-  after-last : getD v n 0 ≡ 16 * k .stop
-  after-last = getD-set-same w n (16 * l) 0 (omega (arith, inv .size, marks-few h inv)) ∙ omega (arith, inv .to)
+  after-last : getD v n 0 ≡ markFor (k .stop) 0
+  after-last = let z : l ≡ k .stop = omega (arith, inv .to) in getD-set-same w n m 0 (omega (arith, inv .size, marks-few h inv)) ∙ made ∙ ap (λ (e : ℕ). markFor e 0) z
 
   end-low : lowAt v n ≡ k .stop
-  end-low = omega (arith, after-last)
+  end-low = ap lineIn after-last ∙ line-in (k .stop) 0 few (omega arith)
 
   mark-is : (i : ℕ) → i < n → getD v i 0 ≡ getD w i 0
-  mark-is i x = getD-set-other w n i (16 * l) 0 (λ z. omega arith)
+  mark-is i x = getD-set-other w n i m 0 (λ z. omega arith)
 
   low-is : (i : ℕ) → i < n → lowAt v i ≡ lowAt w i
-  low-is i x = ap (λ (m : ℕ). m / 16) (mark-is i x)
+  low-is i x = ap lineIn (mark-is i x)
 
   who-is : (i : ℕ) → i < n → whoAt v i ≡ whoAt w i
-  who-is i x = ap (λ (m : ℕ). m % 16) (mark-is i x)
+  who-is i x = ap holderIn (mark-is i x)
 
   -- a run ends where the next mark says, and that is not past l
   next-is : (i : ℕ) → lowAt v (i + 1) ≡ lowAt v (suc i)
@@ -325,21 +341,21 @@ module _ {k : K} (h : Core k) {b : List ℕ} {l n c : ℕ} {w : List ℕ} (inv :
   number : n ≡ length (runsOf k)
   number = sym size ∙ ap length all
 
-  pub mark-end : (n ≡ length (runsOf k)) × (set w n (16 * l) ≡ marksOver k b)
+  pub mark-end : (n ≡ length (runsOf k)) × (set w n m ≡ marksOver k b)
   unfolding markOf
-  mark-end = (number, tab-is 513 (markOf k b) v (length-set w n (16 * l) ∙ inv .size) (λ i x. go i (decLt i n) (ℕ-discrete i n)))
+  mark-end = (number, tab-is 513 (markOf k b) v (length-set w n m ∙ inv .size) (λ i x. go i (decLt i n) (ℕ-discrete i n)))
     where
       go : (i : ℕ) → Dec (i < n) → Dec (i ≡ n) → getD v i 0 ≡ markOf k b i
       go i (yes x) e =
           let r = ap (λ (l : List Run). nth l i) (sym all) ∙ at i x in
-          rw (lt-ltb i (length (runsOf k)) (omega (arith, number)), r) (omega arith)
+          rw (lt-ltb i (length (runsOf k)) (omega (arith, number)), r, mark-is i x) (inv .whole i x)
       go i (no x) (yes e) = rw (le-ltb i (length (runsOf k)) (omega (arith, number)), eq-eqb i (length (runsOf k)) (e ∙ number)) (ap (λ (j : ℕ). getD v j 0) e ∙ after-last)
       go i (no x) (no e) =
           rw (le-ltb i (length (runsOf k)) (omega (arith, number)), ne-eqb i (length (runsOf k)) (λ z. e (z ∙ sym number)))
-          (getD-set-other w n i (16 * l) 0 e ∙ inv .rest i (omega arith))
+          (getD-set-other w n i m 0 e ∙ inv .rest i (omega arith))
 
 -- ── read back ──
-module _ {k : K} (h : Core k) (b : List ℕ) where
+module _ {k : K} (h : Core k) (few : k .stop < 2 ^ 27) (b : List ℕ) where
   abbrev all-runs : List Run
   all-runs = runsOf k
 
@@ -347,7 +363,7 @@ module _ {k : K} (h : Core k) (b : List ℕ) where
   unfolding runsOf
   laws = runs-to k (k .base) (k .stop) (h .s1)
 
-  mark-at : (i : ℕ) → i < length all-runs → (getD (marksOver k b) i 0 ≡ 16 * nth all-runs i .start .0 + nth all-runs i .deepest .0) × (nth all-runs i .deepest .0 < 16)
+  mark-at : (i : ℕ) → i < length all-runs → (getD (marksOver k b) i 0 ≡ markFor (nth all-runs i .start .0) (nth all-runs i .deepest .0)) × (nth all-runs i .deepest .0 < 16)
   unfolding markOf
   mark-at i x = (
     tab-at 513 (markOf k b) i (omega (arith, runs-bound h)) ∙ rw (lt-ltb i (length all-runs) x) refl,
@@ -355,27 +371,31 @@ module _ {k : K} (h : Core k) (b : List ℕ) where
         (deepest-small h (omega (arith, within (laws .chain) i x .0)) (omega (arith, within (laws .chain) i x .1, laws .chain .long i x))),
   )
 
-  mark-last : getD (marksOver k b) (length all-runs) 0 ≡ 16 * k .stop
+  mark-last : getD (marksOver k b) (length all-runs) 0 ≡ markFor (k .stop) 0
   unfolding markOf
   mark-last = tab-at 513 (markOf k b) (length all-runs) (omega (arith, runs-bound h)) ∙ rw (le-ltb (length all-runs) (length all-runs) (omega arith), eq-eqb (length all-runs) (length all-runs) refl) refl
 
+  -- where run i starts, and who holds it
+  fields-at : (i : ℕ) → i < length all-runs → (lowAt (marksOver k b) i ≡ nth all-runs i .start .0) × (whoAt (marksOver k b) i ≡ nth all-runs i .deepest .0)
+  fields-at i x =
+      let (m, s) = mark-at i x in
+      let z : nth all-runs i .start .0 < 2 ^ 27 = omega (arith, within (laws .chain) i x .1, laws .chain .long i x) in
+      (ap lineIn m ∙ line-in _ _ z s, ap holderIn m ∙ holder-in _ _ z s)
+
   run-at : (i : ℕ) → i < length all-runs → runAt (marksOver k b) i ≡ nth all-runs i
   run-at i x =
-      let (m, s) = mark-at i x in
-      let start : getD (marksOver k b) i 0 / 16 ≡ nth all-runs i .start .0 = omega arith in
-      let deepest : getD (marksOver k b) i 0 % 16 ≡ nth all-runs i .deepest .0 = omega arith in
+      let (start, deepest) = fields-at i x in
       rw (start, deepest, go (ℕ-discrete (suc i) (length all-runs))) refl
     where
-      go : Dec (suc i ≡ length all-runs) → getD (marksOver k b) (i + 1) 0 / 16 ≡ nth all-runs i .end .0
+      go : Dec (suc i ≡ length all-runs) → lowAt (marksOver k b) (i + 1) ≡ nth all-runs i .end .0
       go (yes z) =
           let e : i + 1 ≡ length all-runs = omega arith in
           let j : length all-runs - 1 ≡ i = omega arith in
           let t = rw j at (laws .chain .to) in
-          rw (e, mark-last) (omega arith)
+          rw e (ap lineIn mark-last ∙ line-in (k .stop) 0 few (omega arith) ∙ sym t)
       go (no z) =
           let y : suc i < length all-runs = omega arith in
-          let (m, s) = mark-at (suc i) y in
-          rw (add-one i) (omega (arith, laws .chain .next i y))
+          rw (add-one i) (fields-at (suc i) y .0 ∙ laws .chain .next i y)
 
   -- the runs between the marks are the runs
   pub read-back : firsts (runAt (marksOver k b)) (length (runsOf k)) ≡ runsOf k

@@ -1,4 +1,4 @@
--- What a caller of `runs` may rely on: which answer is given when, and each record after it.
+-- What a caller may rely on who has the runs listed: which answer is given when, and each record after it.
 use mathlib.Core.Path.{_≡_, refl, ap, _∙_}
 use mathlib.Core.Bool.{true, false}
 use mathlib.Core.List.{List}

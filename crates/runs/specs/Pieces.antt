@@ -191,6 +191,13 @@ pub record Hopped (k : K) (l p : ℕ) (r : Hop) : Type 0 where
   pub end : r .end .0 ≡ endAt k l p
   pub small : r .heir .0 < 16
 
+-- two results are equal
+pub hopped-one : {k : K} {l p : ℕ} {r s : Hop} → Hopped k l p r → Hopped k l p s → r ≡ s
+hopped-one x y = same (x .heir ∙ sym (y .heir)) (x .end ∙ sym (y .end))
+  where
+    same : {h e h′ e′ : ℕ} → h ≡ h′ → e ≡ e′ → _≡_ {A = Hop} (record { heir = record { 0 = h }; end = record { 0 = e } }) (record { heir = record { 0 = h′ }; end = record { 0 = e′ } })
+    same p q = cc
+
 pub hop-found : (k : K) (l p i : ℕ) (f : SlotFields) → lowest 32 (holdsAt k p l) ≡ some i → k .slot p i ≡ some (entryOf f) → f .given .0 < 16
     → Hopped k l p (record { heir = f .given; end = f .end })
 unfolding endAt endBy endOf heir givenBy givenTo

@@ -182,7 +182,7 @@ module _ (k : K) where
 
 -- ── holders ──
 -- the way up to the root ends at p: it says which partition p is
-trail-last : (k : K) (p : ℕ) → getD (trail k p 15) (length (trail k p 15) - 1) 0 ≡ p
+pub trail-last : (k : K) (p : ℕ) → getD (trail k p 15) (length (trail k p 15) - 1) 0 ≡ p
 unfolding trail
 trail-last k p = go (ℕ-discrete p 0)
   where

@@ -1,7 +1,7 @@
--- The runs of a table: each longest run of lines with the same holders, in rising order; and what `runs` answers and leaves in the list.
+-- The runs of a table: each longest run of lines with the same holders, in rising order; and what is answered and left in the list where they are listed.
 use mathlib.Core.Bool.{cond}
 use mathlib.Core.List.{List, [], _∷_, _++_}
-use mathlib.Core.Path.{_≡_}
+use mathlib.Core.Path.{_≡_, sym, _∙_}
 use Prim.Native.Nat.{ℕ, zero, suc, _+_, _-_, _≤_, _<_}
 use lib.Dec.{eqb, leb}
 use lib.ListN.{length, drop, getD}
@@ -57,7 +57,7 @@ pub record Longest (k : K) (rs : List Run) : Type 0 where
   pub same : (i l : ℕ) → i < length rs → On (nth rs i) l → holdersOf k l ≡ trail k (nth rs i .deepest .0) 15
   pub differ : (i l m : ℕ) → suc i < length rs → On (nth rs i) l → On (nth rs (suc i)) m → holdersOf k l ≡ holdersOf k m → ⊥
 
--- ── what `runs` answers, and the records after it ──
+-- ── what is answered where they are listed, and the records after it ──
 unfoldable pub runsOutcome : List ℕ → ℕ → Outcome
 runsOutcome t size = cond (sound t) (cond (leb (length (runsOf (view t .k))) size) (Done (length (runsOf (view t .k))) 0) (Refused 17)) (Refused 1)
 
@@ -68,7 +68,11 @@ over rs list = rs ++ drop (length rs) list
 unfoldable pub runsRecords : List ℕ → List Run → List Run
 runsRecords t list = cond (sound t) (cond (leb (length (runsOf (view t .k))) (length list)) (over (runsOf (view t .k)) list) list) list
 
--- what `runs` promises: its outcome, and every record of the list
+-- what their one writer promises of the words that it was handed (`handed-listed` of board): its outcome, and every record of the list
 pub record Listed (t : List ℕ) (before : List Run) (r : Outcome) (after : List Run) : Type 0 where
   pub outcome : r ≡ runsOutcome t (length before)
   pub records : after ≡ runsRecords t before
+
+-- two results are equal: the outcome, and every record
+pub listed-one : {t : List ℕ} {before : List Run} {r s : Outcome} {a b : List Run} → Listed t before r a → Listed t before s b → (r ≡ s) × (a ≡ b)
+listed-one x y = (x .outcome ∙ sym (y .outcome), x .records ∙ sym (y .records))

@@ -1,11 +1,17 @@
 -- The way from the root down to the deepest holder of a line, kept for the lines after it.
-use mathlib.Core.Path.{_≡_, refl, sym, ap, _∙_}
+use mathlib.Core.Path.{_≡_, sym, ap, subst, _∙_}
 use mathlib.Core.List.{List}
-use Prim.Native.Nat.{ℕ, _+_, _-_, _*_, _/_, _%_, _≤_, _<_, min}
+use Prim.Native.Nat.{ℕ, _+_, _-_, _^_, _≤_, _<_, min}
 use native.Mathlib.Decide.{ℕ-discrete}
 use native.Mathlib.Omega.{arith}
 use lib.ListN.{length, getD, set, replicate, length-replicate, length-set, getD-replicate}
 use lib.Seq.{getD-set-same, getD-set-other}
+use Rattle.words.specs.Kind.{fieldsIn, wordOf, writing, write-done}
+use Rattle.words.specs.Words.{mark}
+use Rattle.words.specs.Laws.{mark-range, mark-small, lineIn, holderIn, markFor, line-in, holder-in}
+use Rattle.words.specs.declared.Written.{Written}
+use Rattle.words.specs.declared.Written.the-variants.{Word, Refused}
+use Rattle.words.specs.declared.mark_word.MarkFields.{MarkFields}
 use Rattle.tables.specs.State.{K}
 use Rattle.sound.specs.Core.{Core}
 use Rattle.sound.specs.Holders.{heir}
@@ -15,12 +21,27 @@ use Rattle.runs.specs.Runs.{deepestAt}
 use Rattle.runs.specs.Pieces.{endAt, pieceEnd, holder-small, end-after, same-end, same-heir, Hopped, Descent, piece-start, descent-here, descent-last, descent-down}
 use Rattle.runs.specs.Places.{Passed}
 
--- a step of the way: 16 times the lowest end above it, plus the partition
+-- a mark's word is kept in 32 bits; a refusal keeps nothing
+abbrev pub Short : Written → Type 0
+Short (Word m) = m < 2 ^ 32
+Short (Refused why) = Unit {0}
+
+abbrev pub kept : Written → ℕ
+kept (Word m) = m
+kept (Refused why) = 0
+
+-- of fields in range it is the mark
+pub kept-mark : {w : Written} (f : MarkFields) → f .line .0 < 2 ^ 27 → f .holder .0 < 16 → w ≡ writing mark f → Short w × (kept w ≡ wordOf mark f)
+kept-mark f a b e =
+    let q = e ∙ write-done mark f (mark-range f a b) in
+    (subst Short (sym q) (mark-small f a b), ap kept q)
+
+-- a step of the way is a mark: the lowest end above it, and the partition
 abbrev pub lowAt : List ℕ → ℕ → ℕ
-lowAt w j = getD w j 0 / 16
+lowAt w j = lineIn (getD w j 0)
 
 abbrev pub whoAt : List ℕ → ℕ → ℕ
-whoAt w j = getD w j 0 % 16
+whoAt w j = holderIn (getD w j 0)
 
 -- ── up ──
 pub record Climbs (w : List ℕ) (d l : ℕ) : Type 0 where
@@ -36,6 +57,13 @@ pub record Climbing (w : List ℕ) (d l r : ℕ) : Type 0 where
 pub record Climbed (w : List ℕ) (d l r : ℕ) : Type 0 where
   pub climbing : Climbing w d l r
   pub low : l < lowAt w r
+
+-- two results are equal
+no-lower : {w : List ℕ} {d l r s : ℕ} → Climbed w d l r → Climbed w d l s → r < s → ⊥
+no-lower {s = s} x y h = omega (arith, x .climbing .below s h (y .climbing .within), y .low)
+
+pub climbed-one : {w : List ℕ} {d l r s : ℕ} → Climbed w d l r → Climbed w d l s → r ≡ s
+climbed-one x y = omega (arith, no-lower x y, no-lower y x)
 
 pub climb-start : {w : List ℕ} {d l : ℕ} → Climbing w d l d
 climb-start = record { within = omega arith; below = λ j a b. absurd (omega arith) }
@@ -73,6 +101,10 @@ pub record Pieced (k : K) (o : List ℕ) (l : ℕ) (r : Piece) (s w : List ℕ) 
   pub passed : Passed k o l s
   pub way : Way k l (r .depth) w
 
+-- of two results the end and the deepest holder are equal
+pub pieced-one : {k : K} {o : List ℕ} {l : ℕ} {r r′ : Piece} {s w s′ w′ : List ℕ} → Pieced k o l r s w → Pieced k o l r′ s′ w′ → (r .end .0 ≡ r′ .end .0) × (r .deepest .0 ≡ r′ .deepest .0)
+pieced-one x y = (x .end ∙ sym (y .end), x .deepest ∙ sym (y .deepest))
+
 -- on the way down, at p, with the lowest end so far
 pub record Walking (k : K) (o : List ℕ) (l p e d : ℕ) (s w : List ℕ) : Type 0 where
   pub who : whoAt w d ≡ p
@@ -81,18 +113,18 @@ pub record Walking (k : K) (o : List ℕ) (l p e d : ℕ) (s w : List ℕ) : Typ
   pub passed : Passed k o l s
   pub way : Way k l d w
 
-pub way-start : {k : K} → Core k → {b e : ℕ} → b ≡ k .base → e ≡ k .stop → Way k b 0 (replicate 16 (16 * e))
-way-start {k} h {b} {e} x y =
-    let q : getD (replicate 16 (16 * e)) 0 0 ≡ 16 * e = getD-replicate 16 0 (16 * e) 0 (omega arith) in
-    let low : lowAt (replicate 16 (16 * e)) 0 ≡ k .stop = omega arith in
-    let who : whoAt (replicate 16 (16 * e)) 0 ≡ 0 = omega arith in
+pub way-start : {k : K} → Core k → k .stop < 2 ^ 27 → {b e m : ℕ} → b ≡ k .base → e ≡ k .stop → m ≡ markFor e 0 → Way k b 0 (replicate 16 m)
+way-start {k} h few {b} {e} {m} x y made =
+    let q : getD (replicate 16 m) 0 0 ≡ markFor e 0 = getD-replicate 16 0 m 0 (omega arith) ∙ made in
+    let low : lowAt (replicate 16 m) 0 ≡ k .stop = ap lineIn q ∙ line-in e 0 (omega arith) (omega arith) ∙ y in
+    let who : whoAt (replicate 16 m) 0 ≡ 0 = ap holderIn q ∙ holder-in e 0 (omega arith) (omega arith) in
     record {
-      size = length-replicate 16 (16 * e);
+      size = length-replicate 16 m;
       deep = omega arith;
       root = low;
-      steps = λ j m u v z.
+      steps = λ j n u v z.
           let i : j ≡ 0 = omega arith in
-          rw (i, who, low) (piece-start h (omega arith) (omega (arith, ap (lowAt (replicate 16 (16 * e))) i)));
+          rw (i, who, low) (piece-start h (omega arith) (omega (arith, ap (lowAt (replicate 16 m)) i, low)));
     }
 
 -- for a later line
@@ -103,13 +135,14 @@ module _ {k : K} {o : List ℕ} where
   pub climbs : {l d : ℕ} {s w : List ℕ} → Standing k o l d s w → Climbs w d l
   climbs h = record { size = h .way .size; deep = h .way .deep; root = omega (arith, h .inside, h .way .root) }
 
-  pub walk-start : {l d r : ℕ} {s w : List ℕ} → Standing k o l d s w → Climbed w d l r → Walking k o l (whoAt w r) (lowAt w r) r s w
-  walk-start h c =
+  pub walk-start : {l d r : ℕ} {s w : List ℕ} {f : MarkFields} → Standing k o l d s w → Climbed w d l r → f ≡ fieldsIn mark (getD w r 0) → Walking k o l (f .holder .0) (f .line .0) r s w
+  walk-start h c q =
       let b = c .climbing .within in
+      let e = ap (λ (g : MarkFields). g .line .0) q in
       record {
-        who = refl;
-        end = refl;
-        after = c .low;
+        who = sym (ap (λ (g : MarkFields). g .holder .0) q);
+        end = sym e;
+        after = omega (arith, c .low, e);
         passed = h .passed;
         way = record { size = h .way .size; deep = omega (arith, h .way .deep); root = h .way .root; steps = λ j m u v z. h .way .steps j m (omega arith) v z };
       }
@@ -138,31 +171,34 @@ module _ {k : K} {o : List ℕ} where
           let (x, y) = descent-here walk-holds (sym (hop .heir) ∙ z) (omega arith) in
           record { end = min-is ∙ x; deepest = y; small = walk-small; passed = later; way = inv .way }
 
-      pub walk-down : (r .heir .0 ≡ 0 → ⊥) → Walking k o l (r .heir .0) c (d + 1) s′ (set w (d + 1) (16 * c + r .heir .0))
-      walk-down z = record {
+      pub low-small : k .stop < 2 ^ 27 → c < 2 ^ 27
+      low-small few = omega (arith, low, walk-holds .low)
+
+      pub walk-down : {word : ℕ} → k .stop < 2 ^ 27 → word ≡ markFor c (r .heir .0) → (r .heir .0 ≡ 0 → ⊥) → Walking k o l (r .heir .0) c (d + 1) s′ (set w (d + 1) word)
+      walk-down {word} few made z = record {
         who = who;
         end = end;
         after = omega (arith, min-is, inv .after, end-after k l p);
         passed = later;
         way = record {
-          size = length-set w (d + 1) (16 * c + r .heir .0) ∙ inv .way .size;
+          size = length-set w (d + 1) word ∙ inv .way .size;
           deep = omega arith;
-          root = ap (λ (x : ℕ). x / 16) (getD-set-other w (d + 1) 0 (16 * c + r .heir .0) 0 (λ x. omega arith)) ∙ inv .way .root;
+          root = ap lineIn (getD-set-other w (d + 1) 0 word 0 (λ x. omega arith)) ∙ inv .way .root;
           steps = λ j m u v x. go j m u v x (ℕ-discrete j (d + 1));
         };
       }
         where
           new : List ℕ
-          new = set w (d + 1) (16 * c + r .heir .0)
+          new = set w (d + 1) word
 
-          put : getD new (d + 1) 0 ≡ 16 * c + r .heir .0
-          put = getD-set-same w (d + 1) (16 * c + r .heir .0) 0 (omega (arith, inv .way .size))
+          put : getD new (d + 1) 0 ≡ markFor c (r .heir .0)
+          put = getD-set-same w (d + 1) word 0 (omega (arith, inv .way .size)) ∙ made
 
           who : whoAt new (d + 1) ≡ r .heir .0
-          who = omega (arith, put, hop .small)
+          who = ap holderIn put ∙ holder-in c (r .heir .0) (low-small few) (hop .small)
 
           end : lowAt new (d + 1) ≡ c
-          end = omega (arith, put, hop .small)
+          end = ap lineIn put ∙ line-in c (r .heir .0) (low-small few) (hop .small)
 
           -- the heir of l is the heir of every line up to the end
           down : (m : ℕ) → l ≤ m → m < c → Descent k m (r .heir .0) c (15 - (d + 1))
@@ -176,5 +212,5 @@ module _ {k : K} {o : List ℕ} where
           go : (j m : ℕ) → j ≤ d + 1 → l ≤ m → m < lowAt new j → Dec (j ≡ d + 1) → Descent k m (whoAt new j) (lowAt new j) (15 - j)
           go j m u v x (yes y) = rw (y, who, end) (down m v (omega (arith, ap (lowAt new) y, end)))
           go j m u v x (no y) =
-              let q = getD-set-other w (d + 1) j (16 * c + r .heir .0) 0 y in
-              rw q (inv .way .steps j m (omega arith) v (omega (arith, ap (λ (n : ℕ). n / 16) q)))
+              let q = getD-set-other w (d + 1) j word 0 y in
+              rw q (inv .way .steps j m (omega arith) v (omega (arith, ap lineIn q)))

@@ -1,9 +1,9 @@
 // The runs of lines that have the same holders.
 pub mod listing;
+mod marks;
 mod pieces;
 mod walk;
 
-pub use listing::runs;
 use words::Line;
 use words::Partition;
 

@@ -1,23 +1,15 @@
 ghost use mathlib.Core.Path.{_≡_};
 ghost use lib.ListN.{length};
-ghost use Rattle.runs.specs.Runs.{Listed};
-ghost use Rattle.runs.specs.Marks.{between};
-ghost use Rattle.runs.specs.Listing.{refusal, planOf, marksIn, plannedOf};
+ghost use Prim.Native.Nat.{_<_};
+ghost use Rattle.runs.specs.Marks.{runAt};
+ghost use Rattle.runs.specs.Listing.{refusal, planOf, marksIn};
 use crate::Run;
 use tables::Outcome;
-use words::Line;
-use words::Partition;
+use words::mark_word;
 
 // What is settled before a record is written: how many runs are written, and the outcome.
 pub struct Plan {
     pub number: usize,
-    pub outcome: Outcome,
-}
-
-// The same, with the marks of the runs.
-pub struct Planned {
-    pub number: usize,
-    pub marks: [u32; 513],
     pub outcome: Outcome,
 }
 
@@ -51,56 +43,19 @@ pub fn plan_of(t: &[u64; 641], size: usize, marks: &mut [u32; 513]) -> Plan
     }
 }
 
-// The same, with a length that is not known.
-fn plan_words(t: &[u64], size: usize, marks: &mut [u32; 513]) -> Plan
-    requires { ⌜ length (now marks) ≡ 513 ⌝ }
-    ensures { λ r. ⌜ (r ≡ planOf (now (t .entry)) size) × (now (marks .exit) ≡ marksIn (now (t .entry)) (now (marks .entry))) ⌝ }
+// Run i of those that the marks were made for: from its mark to the next.
+pub fn run_at(marks: &[u32; 513], i: usize) -> Run
+    requires { ⌜ (length (now marks) ≡ 513) × (i < 512) ⌝ }
+    ensures { λ r. ⌜ r ≡ runAt (now (marks .entry)) i ⌝ }
 {
-    if t.len() != 641 {
-        return refuse(1);
-    }
-    let mut a = [0u64; 641];
-    tables::copies::copy_in(t, &mut a);
-    plan_of(&a, size, marks)
-}
-
-fn plan_runs(t: &[u64], size: usize) -> Planned
-    ensures { λ r. ⌜ r ≡ plannedOf (now (t .entry)) size ⌝ }
-{
-    let mut marks = [0u32; 513];
-    let p = plan_words(t, size, &mut marks);
-    let number = p.number;
-    let outcome = p.outcome;
-    Planned {
-        number: number,
-        marks: marks,
-        outcome: outcome,
-    }
-}
-
-// The run between two marks.
-pub fn run_between(mark: u32, next: u32) -> Run
-    ensures { λ r. ⌜ r ≡ between mark next ⌝ }
-{
+    let here = mark_word::fields(marks[i]);
+    let next = mark_word::fields(marks[i + 1]);
+    let start = here.line;
+    let end = next.line;
+    let deepest = here.holder;
     Run {
-        start: Line(mark / 16),
-        end: Line(next / 16),
-        deepest: Partition(mark % 16),
+        start: start,
+        end: end,
+        deepest: deepest,
     }
-}
-
-// The longest runs of lines with the same holders: their number, and the runs in the first records, in rising order.
-// Refused: 1 not a sound table of 641 words, 17 a list shorter than the runs.
-// A function that holds a `&mut [Run]` is proved by hand: this one calls, stores and counts, and settles nothing itself.
-pub fn runs(t: &[u64], list: &mut [Run]) -> Outcome
-    ensures { λ r. ⌜ Listed (now (t .entry)) (now (list .entry)) r (now (list .exit)) ⌝ }
-{
-    let p = plan_runs(t, list.len());
-    let n = p.number;
-    let mut i = 0;
-    while i < n {
-        list[i] = run_between(p.marks[i], p.marks[i + 1]);
-        i = i + 1;
-    }
-    p.outcome
 }

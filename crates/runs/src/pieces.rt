@@ -7,9 +7,11 @@ ghost use Rattle.sound.specs.Clauses.{sound};
 ghost use Rattle.runs.specs.Pieces.{Hopped};
 ghost use Rattle.runs.specs.Places.{InOrder, Passed};
 ghost use Rattle.runs.specs.Ways.{Climbs, Climbed, Standing, Pieced};
+use crate::marks::mark_of;
 use sound::order::entry_at;
 use words::Line;
 use words::Partition;
+use words::mark_word;
 
 // Whom a partition gave its entry that holds a line (0 is nobody), and where that entry ends.
 pub struct Hop {
@@ -55,14 +57,15 @@ fn lower(a: Line, b: Line) -> Line
 }
 
 // Up the way that led to the piece before, to the lowest partition above which no entry has ended.
-// A step of the way is 16 times the lowest end above it, plus the partition.
+// A step of the way is a mark: the lowest end above it, and the partition.
 fn climb(way: &[u32; 16], depth: usize, l: Line) -> usize
     requires { ⌜ Climbs (now way) depth (l .0) ⌝ }
     ensures { λ r. ⌜ Climbed (now (way .entry)) depth (l .0) r ⌝ }
 {
     let mut d = depth;
     while d > 0 {
-        if l.0 < way[d] / 16 {
+        let step = mark_word::fields(way[d]);
+        if l.0 < step.line.0 {
             return d;
         }
         d -= 1;
@@ -83,8 +86,9 @@ pub fn piece_at(
     ensures { λ r. ⌜ Pieced (view (now (t .entry)) .k) (now (order .entry)) (l .0) r (now (places .exit)) (now (way .exit)) ⌝ }
 {
     let mut d = climb(way, depth, l);
-    let mut p = Partition(way[d] % 16);
-    let mut end = Line(way[d] / 16);
+    let step = mark_word::fields(way[d]);
+    let mut p = step.holder;
+    let mut end = step.line;
     while d < 15 {
         let h = hop_at(t, order, places, l, p);
         let e = h.end;
@@ -99,7 +103,7 @@ pub fn piece_at(
         }
         p = q;
         d += 1;
-        way[d] = 16 * end.0 + q.0;
+        way[d] = mark_of(end, q);
     }
     Piece {
         end: end,

@@ -1,24 +1,22 @@
 -- A first value fits in 32 bits, the number of a refusal in 8.
 use mathlib.Core.Path.{_≡_, refl, sym}
-use mathlib.Core.Bool.{Bool, true, false, cond}
+use mathlib.Core.Bool.{Bool, true, false}
 use mathlib.Core.List.{List}
 use Prim.Native.Nat.{ℕ, _^_, _<_}
 use native.Mathlib.Omega.{arith}
 use Rattle.loops.specs.Count.{count-le}
-use Rattle.words.specs.Parts.{clean}
 use Rattle.words.specs.Kind.{fieldsIn}
 use Rattle.words.specs.Words.{call}
 use Rattle.words.specs.declared.Rights.{Rights}
 use Rattle.words.specs.declared.call_word.CallFields.{CallFields}
-use Rattle.words.specs.declared.call_word.CallRead.the-variants.{Fields, Refused as Unread}
 use Rattle.tables.specs.State.{Opt, none, some, Entry, Table}
 use Rattle.tables.specs.View.{view}
 use Rattle.tables.specs.Search.{lowest, lowest-some}
 use Rattle.tables.specs.declared.Outcome.the-variants.{Done, Refused}
-use Rattle.sound.specs.Clauses.{sound}
-use Rattle.services.specs.Rules.{Result, done, refused, check, need, freeEntry, create, delete, prepare, collect, give, take, cut, merge, load, unload, readRegion, find, switch, branch, clearOut, serve, serveRead, callOn, bootOn}
+use Rattle.services.specs.Rules.{Result, done, refused, check, need, freeEntry, create, delete, prepare, collect, give, take, cut, merge, load, unload, readRegion, find, switch, branch, clearOut, serve, callOn, bootOn}
 use Rattle.services.specs.Each.{serve-each}
 use Rattle.services.specs.Ran.{outcomeOf, refused-done, done-first, refused-number}
+use Rattle.services.specs.Calls.{call-as}
 
 pub data Brief : Result → Type 0 where
   brief-done : {v w : ℕ} {t : Table} → v < 2 ^ 32 → Brief (done v w t)
@@ -123,13 +121,7 @@ module _ (t : Table) where
   })
 
 pub call-brief : (l : List ℕ) (w : ℕ) → Brief (callOn l w)
-unfolding callOn serveRead call
-call-brief l w = go (sound l) (clean (call .parts) w)
-  where
-    go : (a b : Bool) → Brief (cond a (serveRead (view l) (cond b (Fields (fieldsIn call w)) (Unread 2))) (refused 1))
-    go true true = serve-brief (view l) (fieldsIn call w)
-    go true false = brief-refused {n = 2} (omega arith)
-    go false b = brief-refused {n = 1} (omega arith)
+call-brief l w = rw (call-as l w) (checked 1 _ (omega arith) (checked 2 _ (omega arith) (serve-brief (view l) (fieldsIn call w))))
 
 pub boot-brief : (l : List ℕ) (base end : ℕ) → Brief (bootOn l base end)
 unfolding bootOn

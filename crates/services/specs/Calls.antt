@@ -2,39 +2,38 @@
 use mathlib.Core.Path.{_≡_, refl, ap, sym, subst, _∙_}
 use mathlib.Core.Bool.{Bool, true, false, cond}
 use mathlib.Core.List.{List}
-use Prim.Native.Nat.{ℕ, zero, suc, _^_, _≤_, _<_}
+use Prim.Native.Nat.{ℕ, zero, suc, _≤_, _<_}
 use native.Mathlib.Omega.{arith}
 use native.Mathlib.Decide.{ℕ-discrete}
 use borrow.Author.Tests.{ne-eqb}
-use Rattle.words.specs.Kind.{fieldsIn, reading}
-use Rattle.words.specs.Parts.{clean}
-use Rattle.words.specs.Words.{call}
-use lib.ListN.{getD}
 use lib.Dec.{eqb}
+use Rattle.words.specs.Kind.{fieldsIn, zeroed, reading}
+use Rattle.words.specs.Words.{call}
+use Rattle.words.specs.Fields.{SmallCall, call-small, call-reading}
 use Rattle.words.specs.declared.Partition.{Partition}
 use Rattle.words.specs.declared.call_word.CallFields.{CallFields}
 use Rattle.words.specs.declared.call_word.CallRead.{CallRead}
 use Rattle.words.specs.declared.call_word.CallRead.the-variants.{Fields, Refused as Unread}
 use Rattle.tables.specs.State.{Table}
-use Rattle.tables.specs.View.{viewK, view}
-use Rattle.tables.specs.FitView.{small-first}
+use Rattle.tables.specs.View.{view}
+use Rattle.tables.specs.Seen.{see-first}
 use Rattle.tables.specs.declared.Outcome.{Outcome}
 use Rattle.tables.specs.declared.Outcome.the-variants.{Done, Refused}
 use Rattle.sound.specs.Clauses.{sound, has}
 use Rattle.services.specs.declared.Answer.{Answer}
-use Rattle.services.specs.Rules.{refused, uses, known, perform, serve, serveRead, callOn}
-use Rattle.services.specs.Ran.{Ran, ran-refused, ran-as, ran-copied, ran-kept, pass, fail}
+use Rattle.services.specs.Rules.{refused, check, uses, known, perform, serve, serveRead, callOn}
+use Rattle.services.specs.Ran.{Ran, ran-one, ran-refused, ran-as, ran-copied, ran-kept, pass, fail}
 
 -- the caller's number before the call; 0 where refusal 1 is given
 unfoldable pub callerOf : List ℕ → ℕ
 callerOf l = cond (sound l) (view l .k .current) 0
 
 pub caller-small : (l : List ℕ) → callerOf l < 16
-unfolding callerOf view viewK
+unfolding callerOf
 caller-small l = go (sound l)
   where
     go : (b : Bool) → cond b (view l .k .current) 0 < 16
-    go true = small-first (getD l 0 0) .current
+    go true = let f = see-first l _ refl in omega (arith, f .current, f .current-small)
     go false = omega arith
 
 -- the answer: the caller beside the outcome of the rule; and every word afterwards
@@ -42,12 +41,14 @@ pub record Answers (before : List ℕ) (w : ℕ) (r : Answer) (after : List ℕ)
   pub caller : r .caller .0 ≡ callerOf before
   pub ran : Ran (callOn before w) before (r .outcome) after
 
--- the fields of a call word are below their widths
-pub record InFields (f : CallFields) : Type 0 where
-  pub partition : f .partition .0 < 16
-  pub slot : f .slot .0 < 32
-  pub other : f .other < 32
-  pub line : f .line .0 < 2 ^ 27
+-- two results are equal: the answer, and every word
+pub answers-one : {before : List ℕ} {w : ℕ} {r s : Answer} {a b : List ℕ} → Answers before w r a → Answers before w s b → (r ≡ s) × (a ≡ b)
+answers-one x y =
+    let (o, l) = ran-one (x .ran) (y .ran) in
+    (same (x .caller ∙ sym (y .caller)) o, l)
+  where
+    same : {c d : ℕ} {o q : Outcome} → c ≡ d → o ≡ q → _≡_ {A = Answer} (record { caller = record { 0 = c }; outcome = o }) (record { caller = record { 0 = d }; outcome = q })
+    same e f = cc
 
 -- ── a number that is no service's ──
 -- n is none of 1 to m, as a `match` on it says
@@ -85,13 +86,9 @@ abbrev fieldsElse : CallFields → CallRead → CallFields
 fieldsElse d (Fields f) = f
 fieldsElse d (Unread n) = d
 
-pub read-in-fields : (w : ℕ) {f : CallFields} → reading call w ≡ Fields f → InFields f
-unfolding call
-read-in-fields w q = subst InFields (sym (same (clean (call .parts) w)) ∙ ap (fieldsElse (fieldsIn call w)) q) small
+pub read-small : (w : ℕ) {f : CallFields} → reading call w ≡ Fields f → SmallCall f
+read-small w q = subst SmallCall (sym (same (zeroed call w)) ∙ ap (fieldsElse (fieldsIn call w)) (sym (call-reading w) ∙ q)) (call-small w)
   where
-    small : InFields (fieldsIn call w)
-    small = record { partition = omega arith; slot = omega arith; other = omega arith; line = omega arith }
-
     same : (b : Bool) → fieldsElse (fieldsIn call w) (cond b (Fields (fieldsIn call w)) (Unread 2)) ≡ fieldsIn call w
     same true = refl
     same false = refl
@@ -104,6 +101,17 @@ module _ (t : Table) (w : ℕ) where
   pub read-refuses : {n : ℕ} → reading call w ≡ Unread n → serveRead t (reading call w) ≡ refused n
   unfolding serveRead
   read-refuses q = rw q refl
+
+-- ── a call is a check of the table, a check of the word, and the service ──
+module _ (l : List ℕ) (w : ℕ) where
+  pub call-as : callOn l w ≡ check 1 (sound l) (check 2 (zeroed call w) (serve (view l) (fieldsIn call w)))
+  unfolding callOn serveRead check
+  call-as = rw (call-reading w) (go (sound l) (zeroed call w))
+    where
+      go : (a b : Bool) → cond a (serveRead (view l) (cond b (Fields (fieldsIn call w)) (Unread 2))) (refused 1) ≡ check 1 a (check 2 b (serve (view l) (fieldsIn call w)))
+      go true true = refl
+      go true false = refl
+      go false b = refl
 
 -- ── the exits ──
 module _ (l : List ℕ) (w : ℕ) where

@@ -12,7 +12,7 @@ use Rattle.loops.specs.Every.{bool-ext}
 use Rattle.loops.specs.Count.{count, count-le, count-ext, count-one, count-apart, count-fewer, without, count-without}
 use Rattle.tables.specs.State.{Opt, none, some, Area, K, Table, not-none, none-of}
 use Rattle.tables.specs.View.{view}
-use Rattle.tables.specs.Encode.{encode, Canon, Is, is-canon}
+use Rattle.tables.specs.Encode.{encode, Canon, Is, is-one, is-canon}
 use Rattle.tables.specs.Back.{Fit}
 use Rattle.tables.specs.FitView.{fit-view}
 use Rattle.tables.specs.Write.{clearRecord}
@@ -39,6 +39,10 @@ branchOf t p = branch (t .k .parent) p
 pub record Cleared (before : List ℕ) (p n : ℕ) (after : List ℕ) : Type 0 where
   pub number : n ≡ count 16 (branchOf (view before) p)
   pub is : Is after (zeroRecords (view before) (branchOf (view before) p))
+
+-- two results are equal: the number, and every word
+pub cleared-one : {before : List ℕ} {p n m : ℕ} {a b : List ℕ} → Cleared before p n a → Cleared before p m b → (n ≡ m) × (a ≡ b)
+cleared-one x y = (x .number ∙ sym (y .number), is-one (x .is) (y .is))
 
 pub cleared-few : {l m : List ℕ} {p n : ℕ} → Cleared l p n m → n ≤ 16
 cleared-few {l} {p = p} c = omega (arith, c .number, count-le 16 (branchOf (view l) p))

@@ -2,13 +2,13 @@
 use mathlib.Core.Path.{_≡_, refl, ap}
 use mathlib.Core.Bool.{Bool, true, false, cond, false≢true}
 use Prim.Native.Nat.{ℕ}
-use native.Mathlib.Omega.{arith}
 use lib.Dec.{eqb}
 use borrow.Author.Tests.{eqb-true}
 use Rattle.words.specs.declared.call_word.CallFields.{CallFields}
 use Rattle.tables.specs.State.{Opt, some, Table}
 use Rattle.sound.specs.Clauses.{has}
 use Rattle.services.specs.Rules.{Result, done, refused, check, create, delete, prepare, collect, give, take, cut, merge, load, unload, readRegion, find, switch, clearOut, Uses, uses, unused, known, numbered, perform, serve}
+use Rattle.services.specs.Ran.{check-done}
 
 pub record EachService {ℓ} (C : Result → Type ℓ) (t : Table) (f : CallFields) : Type ℓ where
   pub create : f .service ≡ 1 → C (create t (f .slot .0))
@@ -66,12 +66,8 @@ module _ {ℓ} (C : Result → Type ℓ) (t : Table) (f : CallFields) where
 -- ── what is done ──
 module _ (t : Table) (f : CallFields) {v w : ℕ} {t′ : Table} where
   pub serve-done : serve t f ≡ done v w t′ → (known f ≡ true) × (perform t f ≡ done v w t′)
-  unfolding check serve
-  serve-done = go (known f) refl
-    where
-      go : (b : Bool) → known f ≡ b → check 2 b (perform t f) ≡ done v w t′ → (known f ≡ true) × (perform t f ≡ done v w t′)
-      go true h z = (h, z)
-      go false h z = absurd (let q : _≡_ {A = ℕ} 0 1 = cc in omega arith)
+  unfolding serve
+  serve-done z = check-done 2 (known f) z
 
   -- .. was done by one of the services
   pub done-each : {A : Type 0} → serve t f ≡ done v w t′ → EachService (λ r. r ≡ done v w t′ → A) t f → A

@@ -1,16 +1,23 @@
 -- The checks 4, 5, 6 of slot S of the caller, whatever follows them.
-use mathlib.Core.Path.{_≡_, refl, subst}
+use mathlib.Core.Path.{_≡_, refl, ap, sym, subst, _∙_}
 use mathlib.Core.Bool.{true, false}
 use mathlib.Core.List.{List}
 use Prim.Native.Nat.{ℕ}
+use native.Mathlib.Omega.{arith}
 use borrow.Author.Tests.{eq-eqb, ne-eqb}
 use Rattle.words.specs.declared.slot_word.SlotFields.{SlotFields}
-use Rattle.tables.specs.State.{Entry}
+use Rattle.tables.specs.State.{Entry, Table}
 use Rattle.tables.specs.View.{view, entryOf, entryIn}
-use Rattle.tables.specs.Seen.{Seen}
+use Rattle.tables.specs.Seen.{Seen, seen-one}
 use Rattle.services.specs.declared.pick.Picked.{Picked}
 use Rattle.services.specs.declared.pick.Picked.the-variants.{Entry as Is, Refused as No}
-use Rattle.services.specs.Rules.{Result, refused, check, need, freeEntry}
+use Rattle.services.specs.Rules.{Result, done, refused, check, need, freeEntry}
+
+goes-on : {n : ℕ} {t : Table} → done 0 0 t ≡ refused n → ⊥
+goes-on q = absurd (let z : _≡_ {A = ℕ} 0 1 = cc in omega arith)
+
+number : {n m : ℕ} → refused n ≡ refused m → n ≡ m
+number q = cc
 
 -- what was read of the caller, whose number was read first
 pub at-caller : {l : List ℕ} {c s : ℕ} {f : SlotFields} → view l .k .current ≡ c → Seen l c s f → Seen l (view l .k .current) s f
@@ -28,6 +35,13 @@ pub record Free (l : List ℕ) (s : ℕ) (f : SlotFields) : Type 0 where
 pub data Picks (l : List ℕ) (s : ℕ) : Picked → Type 0 where
   found : {f : SlotFields} → Free l s f → Picks l s (Is f)
   ends : {n : ℕ} → ((next : Entry → Result) → freeEntry (view l) s next ≡ refused n) → Picks l s (No n)
+
+-- two results are equal
+pub picks-one : {l : List ℕ} {s : ℕ} {r q : Picked} → Picks l s r → Picks l s q → r ≡ q
+picks-one (found x) (found y) = ap Is (seen-one (x .seen) (y .seen))
+picks-one {l} (found x) (ends h) = absurd (goes-on (sym (x .rule (λ _. done 0 0 (view l))) ∙ h (λ _. done 0 0 (view l))))
+picks-one {l} (ends h) (found x) = absurd (goes-on (sym (x .rule (λ _. done 0 0 (view l))) ∙ h (λ _. done 0 0 (view l))))
+picks-one (ends g) (ends h) = ap No (number (sym (g (λ _. refused 0)) ∙ h (λ _. refused 0)))
 
 module _ {l : List ℕ} {s c : ℕ} {f : SlotFields} (now : view l .k .current ≡ c) (v : Seen l c s f) where
   here : Seen l (view l .k .current) s f

@@ -10,7 +10,7 @@ use Rattle.tables.specs.declared.Outcome.{Outcome}
 use Rattle.tables.specs.declared.Outcome.the-variants.{Done, Refused}
 use Rattle.services.specs.Rules.{Result, done, refused, check, need, wordsAfter}
 
--- the number and the values of each case
+-- the outcome of a result: its number and values are those of `answered`
 unfoldable pub outcomeOf : Result → Outcome
 outcomeOf (done v w t) = Done v w
 outcomeOf (refused n) = Refused n
@@ -18,6 +18,10 @@ outcomeOf (refused n) = Refused n
 pub record Ran (res : Result) (before : List ℕ) (r : Outcome) (after : List ℕ) : Type 0 where
   pub outcome : r ≡ outcomeOf res
   pub words : after ≡ wordsAfter before res
+
+-- two results are equal: the outcome, and every word
+pub ran-one : {res : Result} {before : List ℕ} {r s : Outcome} {a b : List ℕ} → Ran res before r a → Ran res before s b → (r ≡ s) × (a ≡ b)
+ran-one x y = (x .outcome ∙ sym (y .outcome), x .words ∙ sym (y .words))
 
 -- ── equal outcomes ──
 pub refused-done : {n v w : ℕ} → _≡_ {A = Outcome} (Refused n) (Done v w) → ⊥
@@ -68,6 +72,12 @@ pass n h e = rw h e
 pub fail : (n : ℕ) {b : Bool} (r : Result) → b ≡ false → check n b r ≡ refused n
 unfolding check
 fail n r h = rw h refl
+
+-- what is done has passed the check
+pub check-done : (n : ℕ) (b : Bool) {r : Result} {v w : ℕ} {t : Table} → check n b r ≡ done v w t → (b ≡ true) × (r ≡ done v w t)
+unfolding check
+check-done n true z = (refl, z)
+check-done n false z = absurd (let q : _≡_ {A = ℕ} 0 1 = cc in omega arith)
 
 pub there : {A : Type 0} (n : ℕ) {o : Opt A} (f : A → Result) {s : Result} (a : A) → o ≡ some a → f a ≡ s → need n o f ≡ s
 unfolding need

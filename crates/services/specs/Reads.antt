@@ -1,16 +1,14 @@
 -- Find and read region leave every word of the table as it was.
 use mathlib.Core.Path.{_≡_, refl, ap, sym, _∙_}
-use mathlib.Core.Bool.{Bool, true, false, cond, _||_}
+use mathlib.Core.Bool.{Bool, true, false, _||_}
 use mathlib.Core.List.{List}
 use mathlib.Core.Logic.{_⊎_, inl, inr}
 use Prim.Native.Nat.{ℕ}
 use lib.Dec.{eqb}
 use borrow.Author.Tests.{eqb-true, ne-eqb}
-use Rattle.words.specs.Parts.{clean}
-use Rattle.words.specs.Kind.{fieldsIn}
+use Rattle.words.specs.Kind.{fieldsIn, zeroed}
 use Rattle.words.specs.Words.{call}
 use Rattle.words.specs.declared.call_word.CallFields.{CallFields}
-use Rattle.words.specs.declared.call_word.CallRead.the-variants.{Fields, Refused as Unread}
 use Rattle.tables.specs.State.{Opt, none, some}
 use Rattle.tables.specs.View.{view}
 use Rattle.tables.specs.Encode.{encode, canon-is}
@@ -21,8 +19,9 @@ use Rattle.sound.specs.Clauses.{sound}
 use Rattle.sound.specs.Canonical.{sound-canon}
 use Rattle.sound.specs.Whole.{sound-means, sound-right}
 use Rattle.sound.specs.Settled.{right-settled, settled-words}
-use Rattle.services.specs.Rules.{Result, refused, check, need, readRegion, find, known, perform, serve, serveRead, callOn, wordsAfter}
+use Rattle.services.specs.Rules.{Result, check, need, readRegion, find, known, perform, serve, callOn, wordsAfter}
 use Rattle.services.specs.Each.{perform-at}
+use Rattle.services.specs.Calls.{call-as}
 
 -- 11 read region, 12 find
 abbrev reader : CallFields → Bool
@@ -73,16 +72,15 @@ module _ {l : List ℕ} (same : encode (settled (view l)) ≡ l) where
 
 -- done or refused, a call that only reads leaves every word as it was
 pub reads-stand : (l : List ℕ) (w : ℕ) → Words l → onlyReads w ≡ true → wordsAfter l (callOn l w) ≡ l
-unfolding onlyReads callOn serveRead call wordsAfter
-reads-stand l w small q = go (sound l) refl (clean (call .parts) w)
+unfolding onlyReads check wordsAfter
+reads-stand l w small q = rw (call-as l w) (go (sound l) refl)
   where
     same : sound l ≡ true → encode (settled (view l)) ≡ l
     same h =
         let s = sound-means l .0 h in
-        let canon = sound-canon (small .small) s in
+        let canon = sound-canon small s in
         sym (settled-words (canon-is canon) (right-settled (sound-right canon s)))
 
-    go : (a : Bool) → sound l ≡ a → (b : Bool) → wordsAfter l (cond a (serveRead (view l) (cond b (Fields (fieldsIn call w)) (Unread 2))) (refused 1)) ≡ l
-    go true h true = serve-stands (same h) (fieldsIn call w) q
-    go true h false = refl
-    go false h b = refl
+    go : (a : Bool) → sound l ≡ a → wordsAfter l (check 1 a (check 2 (zeroed call w) (serve (view l) (fieldsIn call w)))) ≡ l
+    go true h = checked 2 (zeroed call w) _ (serve-stands (same h) (fieldsIn call w) q)
+    go false h = refl

@@ -2,12 +2,13 @@ ghost use mathlib.Core.Path.{_≡_};
 ghost use mathlib.Core.Bool.{true, _||_};
 ghost use Rattle.words.specs.Kind.{reading};
 ghost use Rattle.words.specs.Words.{call};
+ghost use Rattle.words.specs.Fields.{SmallCall};
 ghost use Rattle.tables.specs.View.{view};
 ghost use Rattle.tables.specs.Encode.{Canon};
 ghost use Rattle.sound.specs.Whole.{Right};
 ghost use Rattle.services.specs.Rules.{noRights, unused, known, perform, serve, serveRead};
 ghost use Rattle.services.specs.Ran.{Ran};
-ghost use Rattle.services.specs.Calls.{InFields, Answers};
+ghost use Rattle.services.specs.Calls.{Answers};
 ghost use Rattle.services.specs.Reads.{onlyReads};
 use crate::Answer;
 use tables::Outcome;
@@ -85,7 +86,7 @@ fn known(f: CallFields) -> bool
 
 // The service of a call word whose fields are in order.
 fn perform(t: &mut [u64; 641], f: CallFields) -> Outcome
-    requires { ⌜ Canon (now t) × InFields f × (known f ≡ true) × Right (view (now t)) ⌝ }
+    requires { ⌜ Canon (now t) × SmallCall f × (known f ≡ true) × Right (view (now t)) ⌝ }
     ensures { λ r. ⌜ Ran (perform (view (now (t .entry))) f) (now (t .entry)) r (now (t .exit)) ⌝ }
 {
     let service = f.service;
@@ -110,7 +111,7 @@ fn perform(t: &mut [u64; 641], f: CallFields) -> Outcome
 
 // The fields of a call word: its service, or 2 where they are not in order.
 fn serve(t: &mut [u64; 641], f: CallFields) -> Outcome
-    requires { ⌜ Canon (now t) × InFields f × Right (view (now t)) ⌝ }
+    requires { ⌜ Canon (now t) × SmallCall f × Right (view (now t)) ⌝ }
     ensures { λ r. ⌜ Ran (serve (view (now (t .entry))) f) (now (t .entry)) r (now (t .exit)) ⌝ }
 {
     if !known(f) {

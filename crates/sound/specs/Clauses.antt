@@ -2,20 +2,19 @@
 use mathlib.Core.Bool.{Bool, true, false, cond, not, _&&_, _||_, Bool·beq}
 use mathlib.Core.List.{List}
 use Prim.Native.Nat.{ℕ, _+_, _*_, _/_, _%_}
-use lib.ListN.{length, getD}
+use lib.ListN.{length}
 use lib.Dec.{leb, ltb, eqb}
 use Rattle.loops.specs.Every.{all, any}
 use Rattle.loops.specs.Climb.{reaches}
-use Rattle.words.specs.Kind.{fieldsIn}
-use Rattle.words.specs.Parts.{clean}
+use Rattle.words.specs.Kind.{zeroed}
 use Rattle.words.specs.Words.{first, header, structure, regions, slot}
 use Rattle.words.specs.declared.Rights.{Rights}
 use Rattle.words.specs.declared.regions_word.Region.{Region}
 use Rattle.tables.specs.State.{Opt, none, some, Entry, Area, K, Table}
-use Rattle.tables.specs.View.{areaPlace, slotPlace, nth, view}
+use Rattle.tables.specs.View.{firstWord, areaWordAt, regionsWordAt, slotWordAt, nth, regionsAt, view}
 use Rattle.tables.specs.Search.{isSome, present, child, holds}
 use Rattle.tables.specs.Settle.{meets, apart, openAt}
-use Rattle.tables.specs.ZeroRecord.{zeroRecord}
+use Rattle.tables.specs.ZeroRecord.{zeroBlanks, zeroRecord}
 
 -- a test of what is there; nothing passes
 unfoldable pub when : {A : Type 0} → (A → Bool) → Opt A → Bool
@@ -53,19 +52,19 @@ s2 l k p = cond (eqb p 0) (s2Root k p) (cond (present k p) (s2Other k p) (zeroRe
 unfoldable pub blankRegion : Region → Bool
 blankRegion r = r .loaded || eqb (r .slot .0) 0
 
--- word o of a record has its zero bits zero
-unfoldable pub s3Word : ℕ → ℕ → Bool
-s3Word o w =
-    cond (ltb o 8)
-    (cond (eqb o 5) (clean (regions .parts) w && all 8 (λ r. blankRegion (nth (fieldsIn regions w) r)))
-    (cond (eqb o 0) (clean (header .parts) w) (cond (ltb o 5) (clean (structure .parts) w) (eqb w 0))))
-    (clean (slot .parts) w)
+unfoldable pub s3Regions : List ℕ → ℕ → Bool
+s3Regions l p = zeroed regions (regionsWordAt l p) && all 8 (λ r. blankRegion (nth (regionsAt l p) r))
 
 unfoldable pub s3First : List ℕ → Bool
-s3First l = clean (first .parts) (getD l 0 0)
+s3First l = zeroed first (firstWord l)
 
 unfoldable pub s3 : List ℕ → ℕ → Bool
-s3 l p = all 40 (λ o. s3Word o (getD l (1 + 40 * p + o) 0))
+s3 l p =
+    zeroed header (areaWordAt l p 0)
+    && all 4 (λ j. zeroed structure (areaWordAt l p (1 + j)))
+    && s3Regions l p
+    && zeroBlanks l p
+    && all 32 (λ i. zeroed slot (slotWordAt l p i))
 
 -- ── S4 ──
 -- the two areas 0, 0 of the root
@@ -78,14 +77,14 @@ s4Area k p j = when (λ a. cond (rooted p j) (isNowhere a) (long a)) (k .area p 
 
 -- structure j of p, where it is absent: a zero word, and not the root's structure 0
 unfoldable pub s4Absent : List ℕ → K → ℕ → ℕ → Bool
-s4Absent l k p j = isSome (k .area p (1 + j)) || (eqb (getD l (areaPlace p (1 + j)) 0) 0 && not (rooted p (1 + j)))
+s4Absent l k p j = isSome (k .area p (1 + j)) || (eqb (areaWordAt l p (1 + j)) 0 && not (rooted p (1 + j)))
 
 unfoldable pub s4 : List ℕ → K → ℕ → Bool
 s4 l k p = all 5 (s4Area k p) && all 4 (s4Absent l k p)
 
 -- ── S5 ──
 unfoldable pub s5Slot : List ℕ → K → ℕ → ℕ → Bool
-s5Slot l k p i = cond (isSome (k .slot p i)) (isSome (k .area p (1 + i / 8)) && when (λ e. ltb (e .start) (e .stop)) (k .slot p i)) (eqb (getD l (slotPlace p i) 0) 0)
+s5Slot l k p i = cond (isSome (k .slot p i)) (isSome (k .area p (1 + i / 8)) && when (λ e. ltb (e .start) (e .stop)) (k .slot p i)) (eqb (slotWordAt l p i) 0)
 
 unfoldable pub s5 : List ℕ → K → ℕ → Bool
 s5 l k p = all 32 (s5Slot l k p)

@@ -1,21 +1,17 @@
 -- Soundness without words, open bits and regions: what the theory of the services is proved over. A sound table has it, and it has the clauses' parts.
 use mathlib.Core.Path.{_≡_, refl, sym, _∙_}
-use mathlib.Core.Bool.{Bool, true, false, cond}
 use mathlib.Core.List.{List}
 use mathlib.Core.Logic.{_⊎_, inl, inr, _↔_, ⊎-elim}
 use Prim.Native.Nat.{ℕ, zero, suc, _+_, _/_, _≤_, _<_}
 use native.Mathlib.Decide.{decLt, ℕ-discrete}
 use native.Mathlib.Omega.{arith}
-use lib.Dec.{eqb, ltb}
-use borrow.Author.Tests.{ltb-true}
 use Rattle.loops.specs.Climb.{Reaches}
-use Rattle.words.specs.Kind.{fieldsIn}
-use Rattle.words.specs.Words.{header, structure}
 use Rattle.tables.specs.State.{Opt, none, some, Entry, Area, nowhere, K, not-none, same-at}
-use Rattle.tables.specs.View.{headerArea, structureArea, areaIn, headerAt, areaAt, parentAt, viewK, view, inside-some}
+use Rattle.tables.specs.View.{view, slot-bounds, area-bounds}
+use Rattle.tables.specs.Spelling.{zero-areas}
+use Rattle.tables.specs.ZeroWord.{no-area, no-parent}
 use Rattle.tables.specs.Lines.{In, InA, Holds}
 use Rattle.sound.specs.Sound.{Present, Rooted, Equals, Sub, allRights, S1, S2, S6, S7, S8, S11, Sound}
-use Rattle.sound.specs.Tests.{slot-range, area-range}
 
 -- around an entry of c: an entry that c's parent gave it, with all its rights
 pub record Inside (slot : ℕ → ℕ → Opt Entry) (up : ℕ → ℕ) (c : ℕ) (e : Entry) : Type 0 where
@@ -60,40 +56,22 @@ pub record Core (k : K) : Type 0 where
   pub s11 : (i : ℕ) (e : Entry) → k .slot 0 i ≡ some e → e .rights ≡ allRights
 
 -- ── from a sound table ──
--- a zero word is no area
-no-area : (j : ℕ) → areaIn j 0 ≡ none
-unfolding areaIn headerArea structureArea header structure
-no-area j = go (eqb j 0)
-  where
-    go : (b : Bool) → cond b (headerArea (fieldsIn header 0)) (structureArea (fieldsIn structure 0)) ≡ none
-    go true = refl
-    go false = refl
-
 module _ (l : List ℕ) (h : Sound l) where
   -- the words of an absent partition are zero: it has no area ..
   absent : (p j : ℕ) (a : Area) → view l .k .area p j ≡ some a → Present (view l .k) p
-  unfolding view viewK
   absent p j a u = go (view l .k .area p 0) refl
     where
       go : (o : Opt Area) → view l .k .area p 0 ≡ o → Present (view l .k) p
-      go none q =
-          let (hp, hj, v) = inside-some 16 5 (areaAt l) p j a u in
-          let z = h .s2 p hp .absent q j (omega arith) in
-          not-none (areaIn j 0) (no-area j) (rw z at v)
+      go none q = not-none (view l .k .area p j) (no-area l p j (λ b. zero-areas l p (h .s2 p b .absent q) j)) u
       go (some b) q = (b, q)
 
   -- .. and its parent is 0
   orphan : (p : ℕ) → view l .k .area p 0 ≡ none → view l .k .parent p ≡ 0
-  unfolding view viewK parentAt header
-  orphan p q = go (ltb p 16) refl
-    where
-      go : (x : Bool) → ltb p 16 ≡ x → cond x (headerAt l p .parent .0) 0 ≡ 0
-      go true b = rw (h .s2 p (ltb-true p 16 b) .absent q 0 (omega arith)) refl
-      go false b = refl
+  orphan p q = no-parent l p (λ b. zero-areas l p (h .s2 p b .absent q) 0 (omega arith))
 
   -- the root's parent is the root
   up : (p : ℕ) → Present (view l .k) p → Present (view l .k) (view l .k .parent p)
-  up p a = go (ℕ-discrete p 0) (h .s2 p (area-range l p 0 (a .0) (a .1) .0))
+  up p a = go (ℕ-discrete p 0) (h .s2 p (area-bounds l p 0 (a .0) (a .1) .0))
     where
       go : Dec (p ≡ 0) → S2 l (view l .k) p → Present (view l .k) (view l .k .parent p)
       go (yes z) s = rw (s .root z .1 ∙ sym z) a
@@ -101,15 +79,15 @@ module _ (l : List ℕ) (h : Sound l) where
 
   inside : (c i : ℕ) (e : Entry) → view l .k .slot c i ≡ some e → (c ≡ 0 → ⊥) → Inside (view l .k .slot) (view l .k .parent) c e
   inside c i e u n =
-      let hc = slot-range l c i e u .0 in
+      let hc = slot-bounds l c i e u .0 in
       let (j, f, g) = h .s7 c hc .inside n i e u in
       record { i = j; f = f; at = g .at; given = g .given; from = g .around .from; to = g .around .to; sub = h .s11 c hc .child n i j e f u g }
 
   -- S7 says it of the child, here it is said of the giver
   cover : (p i : ℕ) (f : Entry) (n : ℕ) → view l .k .slot p i ≡ some f → (f .given ≡ 0 → ⊥) → In n f → Holds (view l .k .slot) (f .given) n
   cover p i f n u z x =
-      let (a, e) = h .s7 p (slot-range l p i f u .0) .given i f u z in
-      h .s7 (f .given) (area-range l (f .given) 0 (a .0) (a .1) .0) .cover z a i f (rw e u) refl n x
+      let (a, e) = h .s7 p (slot-bounds l p i f u .0) .given i f u z in
+      h .s7 (f .given) (area-bounds l (f .given) 0 (a .0) (a .1) .0) .cover z a i f (rw e u) refl n x
 
   backed : (p j : ℕ) (a : Area) → view l .k .area p j ≡ some a → (Rooted p j → ⊥) → Backed (view l .k .slot) (view l .k .parent) p j a
   backed p j a u n = go j u n
@@ -118,10 +96,10 @@ module _ (l : List ℕ) (h : Sound l) where
       by q w b = record { q = q; who = w; i = b .i; e = b .e; at = b .at; free = b .free; lo = b .lo; hi = b .hi }
 
       go : (j : ℕ) → view l .k .area p j ≡ some a → (Rooted p j → ⊥) → Backed (view l .k .slot) (view l .k .parent) p j a
-      go zero u n = by (view l .k .parent p) (inl refl) (h .s8 p (area-range l p 0 a u .0) .header (λ z. n (z, omega arith)) a u)
+      go zero u n = by (view l .k .parent p) (inl refl) (h .s8 p (area-bounds l p 0 a u .0) .header (λ z. n (z, omega arith)) a u)
       go (suc j) u n =
           let e : 1 + j ≡ suc j = omega arith in
-          let s = h .s8 p (area-range l p (suc j) a u .0) .structure j a (rw e u) (λ r. n (r .0, omega arith)) in
+          let s = h .s8 p (area-bounds l p (suc j) a u .0) .structure j a (rw e u) (λ r. n (r .0, omega arith)) in
           ⊎-elim (by p (inr (refl, omega arith))) (by (view l .k .parent p) (inl refl)) s
 
   -- S8 says it of two owners in order
@@ -129,8 +107,8 @@ module _ (l : List ℕ) (h : Sound l) where
   apart p j q i a b n u v x y = go (decLt q p)
     where
       go : Dec (q < p) → (p ≡ q) × (j ≡ i)
-      go (yes z) = let (s, t) = h .s8 q (area-range l q i b v .0) .apart i p j b a n (omega arith) v u y x in (sym s, sym t)
-      go (no z) = h .s8 p (area-range l p j a u .0) .apart j q i a b n (omega arith) u v x y
+      go (yes z) = let (s, t) = h .s8 q (area-bounds l q i b v .0) .apart i p j b a n (omega arith) v u y x in (sym s, sym t)
+      go (no z) = h .s8 p (area-bounds l p j a u .0) .apart j q i a b n (omega arith) u v x y
 
   pub sound-core : Core (view l .k)
   sound-core =
@@ -139,17 +117,17 @@ module _ (l : List ℕ) (h : Sound l) where
         s1 = h .s1 .range;
         s1-current = h .s1 .current;
         s2-root = (root .0, h .s4 0 (omega arith) .root refl, root .1);
-        s2-range = area-range l;
+        s2-range = area-bounds l;
         s2-absent = absent;
         s2-parent = orphan;
         s2-up = up;
-        s2-climb = λ p a. h .s2 p (area-range l p 0 (a .0) (a .1) .0) .walk a;
-        s4 = λ p j a u n. h .s4 p (area-range l p j a u .0) .long j a u n;
-        s5 = λ p i e u. h .s5 p (slot-range l p i e u .0) .structure i e u;
-        s5-range = λ p i e u. h .s5 p (slot-range l p i e u .0) .range i e u;
-        s6 = λ p i j e f n u. h .s6 p (slot-range l p i e u .0) i j e f n u;
+        s2-climb = λ p a. h .s2 p (area-bounds l p 0 (a .0) (a .1) .0) .walk a;
+        s4 = λ p j a u n. h .s4 p (area-bounds l p j a u .0) .long j a u n;
+        s5 = λ p i e u. h .s5 p (slot-bounds l p i e u .0) .structure i e u;
+        s5-range = λ p i e u. h .s5 p (slot-bounds l p i e u .0) .range i e u;
+        s6 = λ p i j e f n u. h .s6 p (slot-bounds l p i e u .0) i j e f n u;
         s7-root = h .s7 0 (omega arith) .root refl;
-        s7-given = λ p i e u. h .s7 p (slot-range l p i e u .0) .given i e u;
+        s7-given = λ p i e u. h .s7 p (slot-bounds l p i e u .0) .given i e u;
         s7-in = inside;
         s7-cover = cover;
         s8 = backed;

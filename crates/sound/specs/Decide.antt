@@ -20,7 +20,7 @@ use Rattle.sound.specs.MeansWords.{s2-means, s5-means}
 use Rattle.sound.specs.Entries.{Solid, exactly, s7-parts}
 use Rattle.sound.specs.Absent.{absent-s3, absent-s4, absent-s5, absent-s6, absent-s7, absent-s8, absent-s9, absent-s10, absent-s11}
 use Rattle.sound.specs.AtOnce.{restAt, shapeAt, Shaped, areasApart, atOnce, Passes, rest-true, rest-says, sound-at-once, shaped-record}
-use Rattle.sound.specs.Order.{Orders}
+use Rattle.sound.specs.Order.{Orders, SameOrders, orders-one}
 
 -- a test that cannot pass is false
 pub never : (b : Bool) → (b ≡ true → ⊥) → false ≡ b
@@ -96,6 +96,10 @@ pub record CanDecide (l o c : List ℕ) (n : ℕ) (s e : List ℕ) : Type 0 wher
 pub record Decided (l : List ℕ) (r : Bool) (o c : List ℕ) : Type 0 where
   pub says : r ≡ sound l
   pub orders : r ≡ true → Orders (view l .k) o c
+
+-- two results are equal; where they are true, so are the number and the order of the entries of each partition that is present
+pub decided-one : {l : List ℕ} {r r′ : Bool} {o c o′ c′ : List ℕ} → Decided l r o c → Decided l r′ o′ c′ → (r ≡ r′) × (r ≡ true → SameOrders (view l .k) 16 o c o′ c′)
+decided-one x y = let z = x .says ∙ sym (y .says) in (z, λ q. orders-one (x .orders q) (y .orders (sym z ∙ q)))
 
 -- the clauses of present_sound, with what each check said
 module _ {l o c : List ℕ} {n : ℕ} {s e : List ℕ} (can : CanDecide l o c n s e) (p : ℕ) (b : p < 16) (here : present (view l .k) p ≡ true) where

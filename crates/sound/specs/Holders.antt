@@ -1,19 +1,17 @@
 -- Who holds a line: root first, each the parent of the next.
-use mathlib.Core.Path.{_≡_, refl, ap, ap₂, sym, subst, _∙_}
+use mathlib.Core.Path.{_≡_, refl, ap, sym, subst, _∙_}
 use mathlib.Core.Bool.{Bool, true, false, cond, _&&_}
-use mathlib.Core.List.{List, [], _∷_, _++_, append-assoc}
-use lib.ListN.{length, drop, set, length-append}
-use lib.Seq.{drop-cons, set-append-seam, set-split}
-use native.Mathlib.Numerals.{add-one}
+use mathlib.Core.List.{List}
+use lib.ListN.{length}
 use lib.Dec.{leb, ltb, eqb}
 use borrow.Author.Tests.{eq-eqb, ne-eqb, lt-leb, le-leb, le-ltb, lt-ltb}
 use Prim.Native.Nat.{ℕ, zero, suc, _+_, _-_, _≤_, _<_}
 use native.Mathlib.Omega.{arith}
-use Rattle.loops.specs.Climb.{climb, climb-root, climb-lost, climb-step}
 use Rattle.tables.specs.State.{Opt, none, some, Entry, K}
 use Rattle.words.specs.declared.slot_word.SlotFields.{SlotFields}
 use Rattle.tables.specs.View.{view, entryIn}
 use Rattle.tables.specs.Search.{lowest, holdsAt}
+use Rattle.tables.specs.WayUp.{wayUp, digits, wayIn, over, WayWritten, way-few, way-told}
 use Rattle.tables.specs.declared.Outcome.{Outcome}
 use Rattle.tables.specs.declared.Outcome.the-variants.{Done, Refused}
 use Rattle.sound.specs.Clauses.{sound}
@@ -40,14 +38,10 @@ deepest k l p (suc n) = cond (eqb (heir k l p) 0) p (deepest k l (heir k l p) n)
 
 -- the way from p up to the root, root first
 unfoldable pub trail : K → ℕ → ℕ → List ℕ
-trail k p n = climb (k .parent) (λ s. 0 ∷ []) [] (λ q r. r ++ (q ∷ [])) p n
+trail k p n = wayUp (k .parent) n p
 
 unfoldable pub holdersOf : K → ℕ → List ℕ
 holdersOf k l = trail k (deepest k l 0 15) 15
-
--- the first bytes are hs, the rest stay
-abbrev pub over : List ℕ → List ℕ → List ℕ
-over hs bytes = hs ++ drop (length hs) bytes
 
 -- ── what holders answers, and the bytes after it ──
 unfoldable pub inMemory : K → ℕ → Bool
@@ -87,12 +81,6 @@ module _ (k : K) (l p n : ℕ) where
       go zero z h = absurd (z refl)
       go (suc n) z h = let e : suc n - 1 ≡ n = omega arith in rw (ne-eqb (heir k l p) 0 h, e) refl
 
--- what the climb promises: how many names it wrote, and the bytes after it
-pub record Trailed (k : K) (p n : ℕ) (before : List ℕ) (r : ℕ) (after : List ℕ) : Type 0 where
-  pub number : r ≡ length (trail k p n)
-  pub bytes : after ≡ over (trail k p n) before
-  pub few : r ≤ n + 1
-
 -- ── the exits of heir ──
 module _ (k : K) (l p : ℕ) where
   pub heir-none : lowest 32 (holdsAt k p l) ≡ none → 0 ≡ heir k l p
@@ -113,39 +101,10 @@ pub record Descending (k : K) (l p left : ℕ) : Type 0 where
   pub small : p < 16
   pub comes : deepest k l p left ≡ deepest k l 0 15
 
--- ── the exits of the climb ──
--- one more name stored after hs
-over-more : (hs bytes : List ℕ) (x : ℕ) → length hs < length bytes → set (over hs bytes) (length hs) x ≡ over (hs ++ (x ∷ [])) bytes
-over-more hs bytes x h =
-    rw (drop-cons bytes (length hs) 0 h, set-append-seam)
-    (simp (length-append, append-assoc, add-one))
-
-module _ (k : K) (p n : ℕ) (before : List ℕ) where
-  pub trailed-root : p ≡ 0 → 1 ≤ length before → Trailed k p n before 1 (set before 0 0)
-  unfolding trail
-  trailed-root z h =
-      let e : 0 ∷ [] ≡ trail k p n = climb-root (k .parent) (λ s. 0 ∷ []) [] (λ q r. r ++ (q ∷ [])) p n z in
-      record { number = ap length e; bytes = set-split before 0 0 (omega arith) ∙ ap (λ (hs : List ℕ). over hs before) e; few = omega arith }
-
-  pub trailed-lost : (p ≡ 0 → ⊥) → n ≡ 0 → Trailed k p n before 0 before
-  unfolding trail
-  trailed-lost z h =
-      let e : [] ≡ trail k p n = climb-lost (k .parent) (λ s. 0 ∷ []) [] (λ q r. r ++ (q ∷ [])) p n z h in
-      record { number = ap length e; bytes = ap (λ (hs : List ℕ). over hs before) e; few = omega arith }
-
-  pub trailed-step : {q r : ℕ} {mid : List ℕ} → (p ≡ 0 → ⊥) → (n ≡ 0 → ⊥) → k .parent p ≡ q → n + 1 ≤ length before → Trailed k q (n - 1) before r mid
-      → Trailed k p n before (r + 1) (set mid r p)
-  unfolding trail
-  trailed-step {q} {r} {mid} z h u b w =
-      let e : trail k q (n - 1) ++ (p ∷ []) ≡ trail k p n = climb-step (k .parent) (λ s. 0 ∷ []) [] (λ q r. r ++ (q ∷ [])) p n z h (sym u) refl in
-      record {
-        number = rw (← e, length-append) (ap (λ (x : ℕ). x + 1) (w .number));
-        bytes =
-            ap₂ (λ (x : List ℕ) (i : ℕ). set x i p) (w .bytes) (w .number)
-            ∙ over-more (trail k q (n - 1)) before p (omega (arith, w .number, w .few))
-            ∙ ap (λ (hs : List ℕ). over hs before) e;
-        few = omega (arith, w .few);
-      }
+-- there are at most 16
+pub holders-few : (k : K) (l : ℕ) → length (holdersOf k l) ≤ 16
+unfolding holdersOf trail
+holders-few k l = way-few (k .parent) 15 (deepest k l 0 15)
 
 -- the holders of line l, written
 pub record Writes (k : K) (l : ℕ) (before : List ℕ) (r : ℕ) (after : List ℕ) : Type 0 where
@@ -153,16 +112,29 @@ pub record Writes (k : K) (l : ℕ) (before : List ℕ) (r : ℕ) (after : List 
   pub bytes : after ≡ over (holdersOf k l) before
   pub few : r ≤ 16
 
-pub writes-from : {k : K} {l p r : ℕ} {before after : List ℕ} → p ≡ deepest k l 0 15 → Trailed k p 15 before r after → Writes k l before r after
-unfolding holdersOf
-writes-from {k} {l} {p} {r} {before} {after} q w =
-    let e : trail k p 15 ≡ trail k (deepest k l 0 15) 15 = ap (λ (x : ℕ). trail k x 15) q in
-    record { number = w .number ∙ ap length e; bytes = w .bytes ∙ ap (λ (hs : List ℕ). over hs before) e; few = w .few }
+pub writes-one : {k : K} {l : ℕ} {before : List ℕ} {r s : ℕ} {a b : List ℕ} → Writes k l before r a → Writes k l before s b → (r ≡ s) × (a ≡ b)
+writes-one x y = (x .number ∙ sym (y .number), x .bytes ∙ sym (y .bytes))
+
+-- .. from the climb of the deepest, which the word w tells
+pub writes-from : (t : List ℕ) {l p w r : ℕ} {before after : List ℕ} → p ≡ deepest (view t .k) l 0 15 → p < 16
+    → w ≡ digits (wayUp (view t .k .parent) 15 p) 0 → WayWritten w before r after → Writes (view t .k) l before r after
+unfolding holdersOf trail
+writes-from t {l} {p} {w} {r} {before} q b u h =
+    let e : wayIn w ≡ holdersOf (view t .k) l = ap wayIn u ∙ way-told t 15 p b (omega arith) (omega arith) ∙ ap (λ (x : ℕ). trail (view t .k) x 15) q in
+    record {
+      number = h .number ∙ ap length e;
+      bytes = h .bytes ∙ ap (λ (hs : List ℕ). over hs before) e;
+      few = omega (arith, h .number, ap length e, holders-few (view t .k) l);
+    }
 
 -- what holders promises: its outcome, and every byte of the list
 pub record Listed (t : List ℕ) (l : ℕ) (before : List ℕ) (r : Outcome) (after : List ℕ) : Type 0 where
   pub outcome : r ≡ holdersOutcome t l (length before)
   pub bytes : after ≡ holdersBytes t l before
+
+-- two results are equal: the outcome, and every byte of the list
+pub listed-one : {t : List ℕ} {l : ℕ} {before : List ℕ} {r s : Outcome} {a b : List ℕ} → Listed t l before r a → Listed t l before s b → (r ≡ s) × (a ≡ b)
+listed-one x y = (x .outcome ∙ sym (y .outcome), x .bytes ∙ sym (y .bytes))
 
 -- ── the exits of holders ──
 module _ {t : List ℕ} {l : ℕ} {before : List ℕ} where
@@ -210,21 +182,3 @@ module _ (k : K) (l : ℕ) where
 -- .. of the copy that was made of the words
 pub listed-copy : {m t : List ℕ} {l : ℕ} {before : List ℕ} {r : Outcome} {after : List ℕ} → m ≡ t → Listed m l before r after → Listed t l before r after
 listed-copy {l = l} {before} {r} {after} e h = subst (λ (x : List ℕ). Listed x l before r after) e h
-
--- ── there are at most 16 ──
-trail-few : (k : K) (p n : ℕ) → length (trail k p n) ≤ n + 1
-unfolding trail climb
-trail-few k p zero = go (eqb p 0)
-  where
-    go : (b : Bool) → length {A = ℕ} (cond b (0 ∷ []) []) ≤ 1
-    go true = omega arith
-    go false = omega arith
-trail-few k p (suc n) = go (eqb p 0) (trail-few k (k .parent p) n)
-  where
-    go : (b : Bool) → length (trail k (k .parent p) n) ≤ n + 1 → length (cond b (0 ∷ []) (trail k (k .parent p) n ++ (p ∷ []))) ≤ suc n + 1
-    go true h = omega arith
-    go false h = rw (length-append) (omega (arith, h))
-
-pub holders-few : (k : K) (l : ℕ) → length (holdersOf k l) ≤ 16
-unfolding holdersOf
-holders-few k l = trail-few k (deepest k l 0 15) 15

@@ -10,12 +10,12 @@ use lib.Dec.{ltb, eqb}
 use borrow.Author.Tests.{ltb-true, lt-ltb, eqb-true, eq-eqb}
 use Rattle.loops.specs.Every.{all, all-at, all-of}
 use Rattle.tables.specs.State.{some, Area, K}
-use Rattle.tables.specs.View.{view}
+use Rattle.tables.specs.View.{view, area-bounds}
 use Rattle.tables.specs.Lines.{InA}
 use Rattle.tables.specs.Settle.{apart}
 use Rattle.sound.specs.Sound.{Rooted, Equals, S8}
 use Rattle.sound.specs.Clauses.{rooted, equals, s8Backed, s8Apart, s8}
-use Rattle.sound.specs.Tests.{and-says, and-true, or-says, or-left, or-right, then-says, then-true, not-says, not-of, when-says, when-true, area-range}
+use Rattle.sound.specs.Tests.{and-says, and-true, or-says, or-left, or-right, then-says, then-true, not-says, not-of, when-says, when-true}
 use Rattle.sound.specs.Meets.{apart-means}
 use Rattle.sound.specs.MeansEntries.{else-says, else-true, Slots32, some-means, slots32}
 
@@ -136,4 +136,4 @@ module _ (k : K) (slots : Slots32 k) where
             (omega arith, omega arith)
 
 pub s8-means : (l : List ℕ) (p : ℕ) → (s8 (view l .k) p ≡ true) ↔ S8 (view l .k) p
-s8-means l = s8-of (view l .k) (slots32 l) (area-range l)
+s8-means l = s8-of (view l .k) (slots32 l) (area-bounds l)

@@ -1,23 +1,23 @@
 -- The tests of S6 and S7 say what the clauses say.
-use mathlib.Core.Path.{_≡_, refl, ap, _∙_}
+use mathlib.Core.Path.{_≡_, refl}
 use mathlib.Core.Bool.{Bool, true, false, cond, not, _&&_, _||_, false≢true}
 use mathlib.Core.Logic.{_↔_}
 use mathlib.Core.List.{List}
-use Prim.Native.Nat.{ℕ, _+_, _-_, _≤_, _<_}
+use Prim.Native.Nat.{ℕ, _-_, _≤_, _<_}
 use native.Mathlib.Decide.{ℕ-discrete, decLt}
 use native.Mathlib.Omega.{arith}
-use lib.ListN.{getD}
 use lib.Dec.{leb, ltb, eqb}
 use borrow.Author.Tests.{ltb-true, lt-ltb, leb-true, le-leb, eqb-true, eqb-false, eq-eqb, ne-eqb}
 use Rattle.loops.specs.Every.{all, any, all-at, all-of, any-at, any-of}
-use Rattle.words.specs.Words.{slot}
 use Rattle.tables.specs.State.{Opt, none, some, Entry, Area, K, not-none, some-inj, same}
-use Rattle.tables.specs.View.{slotPlace, entryIn, slotAt, viewK, view, inside-some}
+use Rattle.tables.specs.View.{view, slot-bounds}
+use Rattle.tables.specs.Spelling.{zero-slots}
+use Rattle.tables.specs.ZeroWord.{no-entry}
 use Rattle.tables.specs.Lines.{In, Holds}
 use Rattle.tables.specs.Search.{isSome, present, child, holds}
 use Rattle.sound.specs.Sound.{Present, Around, Granted, S2, S5, S6, S7}
 use Rattle.sound.specs.Clauses.{when, has, apartE, s6, held, covered, s7Root, s7Given, grants, s7Inside, s7Cover, s7}
-use Rattle.sound.specs.Tests.{and-says, and-true, then-says, then-true, not-says, when-says, when-true, every-says, every-true, some-says, some-true, slot-range}
+use Rattle.sound.specs.Tests.{and-says, and-true, then-says, then-true, not-says, when-says, when-true, every-says, every-true, some-says, some-true}
 use Rattle.sound.specs.Meets.{meets-not}
 use Rattle.sound.specs.Cover.{Covered, ends-cover, cover-ends}
 
@@ -250,21 +250,14 @@ module _ (k : K) (slots : Slots32 k) where
 -- ── the table that words are ──
 module _ (l : List ℕ) where
   pub slots32 : Slots32 (view l .k)
-  slots32 p i e q = slot-range l p i e q .1
-
-  -- a zero word is no entry
-  pub no-entry : (p i : ℕ) (e : Entry) → getD l (slotPlace p i) 0 ≡ 0 → view l .k .slot p i ≡ some e → ⊥
-  unfolding view viewK entryIn slot
-  no-entry p i e z q = not-none none refl (rw z at (inside-some 16 32 (λ p i. entryIn (slotAt l p i)) p i e q .2))
+  slots32 p i e q = slot-bounds l p i e q .1
 
   -- the owner of an entry is present
   pub owner-present : (p i : ℕ) (e : Entry) → S2 l (view l .k) p → view l .k .slot p i ≡ some e → Present (view l .k) p
   owner-present p i e h u = go (view l .k .area p 0) refl
     where
       go : (o : Opt Area) → view l .k .area p 0 ≡ o → Present (view l .k) p
-      go none q =
-          let b = slot-range l p i e u in
-          absurd (no-entry p i e (ap (λ (n : ℕ). getD l n 0) (omega arith) ∙ h .absent q (8 + i) (omega arith)) u)
+      go none q = not-none (view l .k .slot p i) (no-entry l p i (λ _. zero-slots l p (h .absent q) i)) u
       go (some a) q = (a, q)
 
   pub s6-means : (p : ℕ) → (s6 (view l .k) p ≡ true) ↔ S6 (view l .k) p

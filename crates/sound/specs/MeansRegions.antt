@@ -1,5 +1,5 @@
 -- The tests of S9, S10 and S11 are true exactly where the clauses hold.
-use mathlib.Core.Path.{_≡_, refl, sym, _∙_}
+use mathlib.Core.Path.{_≡_, refl, sym}
 use mathlib.Core.Bool.{Bool, true, false, not, _&&_, _||_, Bool·beq, false≢true}
 use mathlib.Core.List.{List}
 use mathlib.Core.Logic.{_↔_}
@@ -9,17 +9,17 @@ use native.Mathlib.Omega.{arith}
 use lib.Dec.{eqb}
 use borrow.Author.Tests.{eqb-true, eq-eqb, ne-eqb}
 use Rattle.loops.specs.Every.{all, all-at, all-of, bool-ext}
-use Rattle.words.specs.Words.{slot}
 use Rattle.words.specs.declared.Rights.{Rights}
 use Rattle.tables.specs.State.{Opt, none, some, Entry, not-none}
-use Rattle.tables.specs.View.{slotAt, view, inside-in}
+use Rattle.tables.specs.View.{view, slot-bounds, area-bounds, region-bounds}
+use Rattle.tables.specs.ZeroWord.{not-open}
 use Rattle.tables.specs.Lines.{Clear}
 use Rattle.tables.specs.Search.{isSome}
 use Rattle.tables.specs.Settle.{openBit, openAt}
 use Rattle.sound.specs.Sound.{Sub, allRights, S5, S9, S10, S11}
 use Rattle.sound.specs.Clauses.{when, grants, full, within, s9, s10Names, s10Once, s10, s11}
 use Rattle.sound.specs.MeansEntries.{grants-means}
-use Rattle.sound.specs.Tests.{and-says, and-true, then-says, then-true, not-says, not-of, when-says, when-true, every-says, every-true, slot-range, area-range, region-range}
+use Rattle.sound.specs.Tests.{and-says, and-true, then-says, then-true, not-says, not-of, when-says, when-true, every-says, every-true}
 use Rattle.sound.specs.Opens.{open-clear}
 
 -- ── S9 ──
@@ -28,11 +28,6 @@ beq-means true true = (λ q. refl, λ e. refl)
 beq-means true false = (λ q. absurd (false≢true q), λ e. sym e)
 beq-means false true = (λ q. absurd (false≢true q), λ e. e)
 beq-means false false = (λ q. refl, λ e. refl)
-
--- an empty slot is a zero word, so it is not open
-closed : (l : List ℕ) (p i : ℕ) → p < 16 → i < 32 → S5 l (view l .k) p → view l .k .slot p i ≡ none → view l .opened p i ≡ false
-unfolding view slot
-closed l p i hp hi s u = inside-in false 16 32 (λ p i. slotAt l p i .opened) p i hp hi ∙ rw (s .other i hi u) refl
 
 pub s9-means : (l : List ℕ) → ((q : ℕ) → q < 16 → S5 l (view l .k) q) → (p : ℕ) → p < 16 → (s9 (view l) p ≡ true) ↔ S9 (view l) p
 unfolding s9 openAt openBit
@@ -45,15 +40,16 @@ s9-means l s p hp = (to, λ h. all-of 32 f (λ i b. same i .1 (back h i b (view 
     same i = beq-means (view l .opened p i) (openAt (view l .k) p i)
 
     clear : (e : Entry) → (openBit (view l .k .area) (some e) ≡ true) ↔ Clear (view l .k .area) e
-    clear e = open-clear (view l .k .area) (area-range l) e
+    clear e = open-clear (view l .k .area) (area-bounds l) e
 
     to : s9 (view l) p ≡ true → S9 (view l) p
     to q i e u =
-        let b = same i .0 (all-at 32 f q i (slot-range l p i e u .1)) in
+        let b = same i .0 (all-at 32 f q i (slot-bounds l p i e u .1)) in
         rw (b, u) (clear e)
 
     back : S9 (view l) p → (i : ℕ) → i < 32 → (o : Opt Entry) → view l .k .slot p i ≡ o → view l .opened p i ≡ openBit (view l .k .area) o
-    back h i b none u = closed l p i hp b (s p hp) u
+    -- an empty slot is a zero word
+    back h i b none u = not-open l p i (λ _ _. s p hp .other i b u)
     back h i b (some e) u = bool-ext (view l .opened p i) (openBit (view l .k .area) (some e)) (λ x. clear e .1 (h i e u .0 x)) (λ x. h i e u .1 (clear e .0 x))
 
 -- ── S10 ──
@@ -66,7 +62,7 @@ module _ (l : List ℕ) (p : ℕ) where
       ↔ ((r i : ℕ) → view l .region p r ≡ some i → ((e : Entry) × (view l .k .slot p i ≡ some e)) × (view l .opened p i ≡ true))
   unfolding s10Names
   names-means = (
-    λ q r i u. let (a, b) = and-says _ _ (every-says 8 f (view l .region p) q r i (region-range l p r i u .1) u) in (there (view l .k .slot p i) .0 a, b),
+    λ q r i u. let (a, b) = and-says _ _ (every-says 8 f (view l .region p) q r i (region-bounds l p r i u .1) u) in (there (view l .k .slot p i) .0 a, b),
     λ h. every-true 8 f (view l .region p) (λ r i b u. let w = h r i u in and-true _ _ (there (view l .k .slot p i) .1 (w .0)) (w .1)),
   )
     where
@@ -88,7 +84,7 @@ module _ (l : List ℕ) (p : ℕ) where
 
       below : all 8 f ≡ true → (r q i : ℕ) → q < r → view l .region p r ≡ some i → view l .region p q ≡ some i → ⊥
       below h r q i b u v =
-          let x = all-at r (s10Once (view l) p r) (all-at 8 f h r (region-range l p r i u .1)) q b in
+          let x = all-at r (s10Once (view l) p r) (all-at 8 f h r (region-bounds l p r i u .1)) q b in
           not-says (eqb i i) (when-says _ (view l .region p q) (when-says _ (view l .region p r) x i u) i v) (eq-eqb i i refl)
 
       to : all 8 f ≡ true → (r q i : ℕ) → view l .region p r ≡ some i → view l .region p q ≡ some i → Dec (r ≡ q) → Dec (q < r) → r ≡ q
@@ -132,7 +128,7 @@ unfolding s11
 s11-means l p hp = go (ℕ-discrete p 0)
   where
     inSlots : (q i : ℕ) (e : Entry) → view l .k .slot q i ≡ some e → i < 32
-    inSlots q i e u = slot-range l q i e u .1
+    inSlots q i e u = slot-bounds l q i e u .1
 
     -- the tests: of an entry of the root; of an entry e of a child, with an entry f of its parent, and with each
     root : ℕ → Entry → Bool

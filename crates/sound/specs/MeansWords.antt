@@ -3,25 +3,22 @@ use mathlib.Core.Path.{_≡_, refl, ap, sym, _∙_}
 use mathlib.Core.Bool.{Bool, true, false, _||_, false≢true}
 use mathlib.Core.List.{List}
 use mathlib.Core.Logic.{_↔_}
-use Prim.Native.Nat.{ℕ, zero, suc, _+_, _-_, _*_, _/_, _≤_, _<_}
+use Prim.Native.Nat.{ℕ, zero, suc, _+_, _/_, _≤_, _<_}
 use native.Mathlib.Omega.{arith}
-use native.Mathlib.Decide.{ℕ-discrete, decLt}
-use lib.ListN.{getD}
+use native.Mathlib.Decide.{ℕ-discrete}
 use lib.Dec.{eqb}
-use borrow.Author.Tests.{lt-ltb, le-ltb, eqb-true, eq-eqb, ne-eqb}
-use Rattle.loops.specs.Every.{all-at, all-of}
+use borrow.Author.Tests.{eqb-true, eq-eqb}
 use Rattle.loops.specs.Climb.{Reaches, at-root, reaches-iff}
-use Rattle.words.specs.Kind.{fieldsIn, Zeroed}
-use Rattle.words.specs.Parts.{Part, clean, Clean, clean-true, clean-says}
+use Rattle.words.specs.Kind.{zeroed, Zeroed, zeroed-means}
 use Rattle.words.specs.Words.{first, header, structure, regions, slot}
 use Rattle.words.specs.declared.regions_word.Region.{Region}
 use Rattle.tables.specs.State.{Opt, none, some, Entry, Area, nowhere, K, not-none, none-of, some-inj, sameA}
-use Rattle.tables.specs.View.{areaPlace, regionsPlace, slotPlace, nth, view}
+use Rattle.tables.specs.View.{firstWord, areaWordAt, regionsWordAt, slotWordAt, nth, regionsAt, view, slot-bounds, area-bounds}
 use Rattle.tables.specs.Search.{isSome, present}
 use Rattle.sound.specs.Sound.{Present, Rooted, S1, S2, S3, S4, S5}
-use Rattle.tables.specs.ZeroRecord.{zeroTo}
-use Rattle.sound.specs.Clauses.{isNowhere, long, s1, s2Root, s2Other, s2, blankRegion, s3Word, s3First, s3, s4Area, s4Absent, s4, s5Slot, s5}
-use Rattle.sound.specs.Tests.{slot-range, area-range}
+use Rattle.tables.specs.Spelling.{ZeroWords}
+use Rattle.tables.specs.ZeroRecord.{zero-record-means, zero-blanks-mean}
+use Rattle.sound.specs.Clauses.{isNowhere, long, s1, s2Root, s2Other, s2, blankRegion, s3Regions, s3First, s3, s4Area, s4Absent, s4, s5Slot, s5}
 use Rattle.sound.specs.MeansEntries.{is-some-means}
 use Rattle.sound.specs.MeansAreas.{rooted-means}
 use Rattle.sound.specs.Means.{eq-means, lt-means, le-means, and-means, not-means, if-means, all-means, when-means, has-means}
@@ -51,10 +48,10 @@ module _ (l : List ℕ) (k : K) (p : ℕ) where
   S2Other = (Present k (k .parent p) × ((a : Area) → k .area p 0 ≡ some a → a ≡ nowhere → ⊥)) × Reaches (k .parent) 15 p
 
   abbrev S2Is : Type 0
-  S2Is = (p ≡ 0 → S2Root) × ((p ≡ 0 → ⊥) → (Present k p → S2Other) × ((Present k p → ⊥) → (o : ℕ) → o < 40 → getD l (1 + 40 * p + o) 0 ≡ 0))
+  S2Is = (p ≡ 0 → S2Root) × ((p ≡ 0 → ⊥) → (Present k p → S2Other) × ((Present k p → ⊥) → ZeroWords l p))
 
   s2-test : (s2 l k p ≡ true) ↔ S2Is
-  unfolding s2 s2Root s2Other zeroTo present
+  unfolding s2 s2Root s2Other present
   s2-test =
       if-means (eq-means p 0)
       (and-means (has-means (k .area p 0) is-nowhere) (eq-means (k .parent p) 0))
@@ -62,7 +59,7 @@ module _ (l : List ℕ) (k : K) (p : ℕ) where
       (and-means
       (and-means (is-some-means (k .area (k .parent p) 0)) (when-means (k .area p 0) (λ a. not-means (is-nowhere a))))
       (reaches-iff (k .parent) 15 p))
-      (all-means 40 (λ o. eqb (getD l (1 + 40 * p + o) 0) 0) (λ o b. eq-means _ 0)))
+      (zero-record-means l p))
 
   s2-to : S2Is → Dec (p ≡ 0) → S2 l k p
   s2-to q (yes z) =
@@ -99,38 +96,6 @@ s2-means l p _ =
     (λ q. s2-to l k p (s2-test l k p .0 q) (ℕ-discrete p 0), λ h. s2-test l k p .1 (s2-back l k p h))
 
 -- ── S3 ──
--- what holds of the header, four structures, the regions, two blank words and 32 slots holds of all 40 words of a record
-pub each-word : (P : ℕ → Type 0) → P 0 → ((j : ℕ) → j < 4 → P (1 + j)) → P 5 → ((o : ℕ) → o < 2 → P (6 + o)) → ((i : ℕ) → i < 32 → P (8 + i)) → (o : ℕ) → o < 40 → P o
-each-word P h s r b e o l = go (ℕ-discrete o 0) (decLt o 5) (ℕ-discrete o 5) (decLt o 8)
-  where
-    go : Dec (o ≡ 0) → Dec (o < 5) → Dec (o ≡ 5) → Dec (o < 8) → P o
-    go (yes z) _ _ _ = rw z h
-    go (no z) (yes x) _ _ = let q : 1 + (o - 1) ≡ o = omega arith in rw q at (s (o - 1) (omega arith))
-    go (no z) (no x) (yes y) _ = rw y r
-    go (no z) (no x) (no y) (yes w) = let q : 6 + (o - 6) ≡ o = omega arith in rw q at (b (o - 6) (omega arith))
-    go (no z) (no x) (no y) (no w) = let q : 8 + (o - 8) ≡ o = omega arith in rw q at (e (o - 8) (omega arith))
-
--- the places of the regions and of the slots, counted from the record's first word
-pub regions-place : (p : ℕ) → 1 + 40 * p + 5 ≡ regionsPlace p
-regions-place p = omega arith
-
-pub slot-place : (p i : ℕ) → 1 + 40 * p + (8 + i) ≡ slotPlace p i
-slot-place p i = omega arith
-
--- ── what the test of S3 asks of each word ──
-clean-means : (ps : List Part) (w : ℕ) → (clean ps w ≡ true) ↔ Clean ps w
-clean-means ps w = (clean-says ps w, clean-true ps w)
-
-header-word : (w : ℕ) → (s3Word 0 w ≡ true) ↔ Zeroed header w
-unfolding s3Word
-header-word w = clean-means (header .parts) w
-
-structure-word : (j w : ℕ) → j < 4 → (s3Word (1 + j) w ≡ true) ↔ Zeroed structure w
-unfolding s3Word
-structure-word j w h =
-    rw (lt-ltb (1 + j) 8 (omega arith), ne-eqb (1 + j) 5 (λ e. omega arith), ne-eqb (1 + j) 0 (λ e. omega arith), lt-ltb (1 + j) 5 (omega arith))
-    (clean-means (structure .parts) w)
-
 blank-region : (r : Region) → (blankRegion r ≡ true) ↔ (r .loaded ≡ false → r .slot .0 ≡ 0)
 unfolding blankRegion
 blank-region r = go (r .loaded)
@@ -139,51 +104,34 @@ blank-region r = go (r .loaded)
     go true = (λ _ e. absurd (false≢true (sym e)), λ _. refl)
     go false = (λ q _. eqb-true _ 0 q, λ h. eq-eqb _ 0 (h refl))
 
-regions-word : (w : ℕ) → (s3Word 5 w ≡ true) ↔ (Zeroed regions w × ((r : ℕ) → r < 8 → nth (fieldsIn regions w) r .loaded ≡ false → nth (fieldsIn regions w) r .slot .0 ≡ 0))
-unfolding s3Word
-regions-word w =
-    and-means (clean-means (regions .parts) w) (all-means 8 (λ r. blankRegion (nth (fieldsIn regions w) r)) (λ r b. blank-region (nth (fieldsIn regions w) r)))
+regions-mean : (l : List ℕ) (p : ℕ) → (s3Regions l p ≡ true)
+    ↔ (Zeroed regions (regionsWordAt l p) × ((r : ℕ) → r < 8 → nth (regionsAt l p) r .loaded ≡ false → nth (regionsAt l p) r .slot .0 ≡ 0))
+unfolding s3Regions
+regions-mean l p =
+    and-means (zeroed-means regions (regionsWordAt l p)) (all-means 8 (λ r. blankRegion (nth (regionsAt l p) r)) (λ r b. blank-region (nth (regionsAt l p) r)))
 
-blank-word : (o w : ℕ) → o < 2 → (s3Word (6 + o) w ≡ true) ↔ (w ≡ 0)
-unfolding s3Word
-blank-word o w h =
-    rw (lt-ltb (6 + o) 8 (omega arith), ne-eqb (6 + o) 5 (λ e. omega arith), ne-eqb (6 + o) 0 (λ e. omega arith), le-ltb (6 + o) 5 (omega arith))
-    (eq-means w 0)
-
-slot-word : (i w : ℕ) → (s3Word (8 + i) w ≡ true) ↔ Zeroed slot w
-unfolding s3Word
-slot-word i w = rw (le-ltb (8 + i) 8 (omega arith)) (clean-means (slot .parts) w)
-
-pub s3-first-means : (l : List ℕ) → (s3First l ≡ true) ↔ Zeroed first (getD l 0 0)
+pub s3-first-means : (l : List ℕ) → (s3First l ≡ true) ↔ Zeroed first (firstWord l)
 unfolding s3First
-s3-first-means l = clean-means (first .parts) (getD l 0 0)
+s3-first-means l = zeroed-means first (firstWord l)
 
 pub s3-means : (l : List ℕ) (p : ℕ) → (s3 l p ≡ true) ↔ S3 l p
 unfolding s3
-s3-means l p = (
-  λ q.
-      let at = all-at 40 test q in
-      let r = regions-word (getD l (regionsPlace p) 0) .0 (rw (regions-place p) at (at 5 (omega arith))) in
-      record {
-        header-bits = header-word _ .0 (at 0 (omega arith));
-        structure-bits = λ j b. structure-word j _ b .0 (at (1 + j) (omega arith));
-        region-bits = r .0;
-        unloaded = r .1;
-        blank = λ o b. blank-word o _ b .0 (at (6 + o) (omega arith));
-        slot-bits = λ i b. slot-word i _ .0 (rw (slot-place p i) at (at (8 + i) (omega arith)));
-      },
-  λ h.
-      all-of 40 test
-      (each-word (λ o. test o ≡ true)
-      (header-word _ .1 (h .header-bits))
-      (λ j b. structure-word j _ b .1 (h .structure-bits j b))
-      (rw (regions-place p) (regions-word _ .1 (h .region-bits, h .unloaded)))
-      (λ o b. blank-word o _ b .1 (h .blank o b))
-      (λ i b. rw (slot-place p i) (slot-word i _ .1 (h .slot-bits i b)))),
-)
-  where
-    test : ℕ → Bool
-    test o = s3Word o (getD l (1 + 40 * p + o) 0)
+s3-means l p =
+    let m =
+    and-means
+    (and-means
+    (and-means
+    (and-means
+    (zeroed-means header (areaWordAt l p 0))
+    (all-means 4 (λ j. zeroed structure (areaWordAt l p (1 + j))) (λ j b. zeroed-means structure (areaWordAt l p (1 + j)))))
+    (regions-mean l p))
+    (zero-blanks-mean l p))
+    (all-means 32 (λ i. zeroed slot (slotWordAt l p i)) (λ i b. zeroed-means slot (slotWordAt l p i))) in (
+      λ q.
+          let ((((h, s), r), b), e) = m .0 q in
+          record { header-bits = h; structure-bits = s; region-bits = r .0; unloaded = r .1; blank = b; slot-bits = e },
+      λ h. m .1 ((((h .header-bits, h .structure-bits), (h .region-bits, h .unloaded)), h .blank), h .slot-bits),
+    )
 
 -- ── S4 ──
 module _ (l : List ℕ) (k : K) (p : ℕ) where
@@ -192,7 +140,7 @@ module _ (l : List ℕ) (k : K) (p : ℕ) where
   AreaIs j = (a : Area) → k .area p j ≡ some a → (Rooted p j → a ≡ nowhere) × ((Rooted p j → ⊥) → a .lo + 16 ≤ a .hi)
 
   abbrev AbsentIs : ℕ → Type 0
-  AbsentIs j = k .area p (1 + j) ≡ none → (getD l (areaPlace p (1 + j)) 0 ≡ 0) × (Rooted p (1 + j) → ⊥)
+  AbsentIs j = k .area p (1 + j) ≡ none → (areaWordAt l p (1 + j) ≡ 0) × (Rooted p (1 + j) → ⊥)
 
   s4-area : (j : ℕ) → (s4Area k p j ≡ true) ↔ AreaIs j
   unfolding s4Area long
@@ -218,7 +166,7 @@ s4-means l h p hp = (
       record {
         absent = λ j b n. word j b n .0;
         root = λ z. there (k .area p 1) (λ a u. area 1 (omega arith) a u .0 (z, omega arith)) (λ n. word 0 (omega arith) n .1 (z, omega arith));
-        long = λ j a u r. area j (area-range l p j a u .1) a u .1 r;
+        long = λ j a u r. area j (area-bounds l p j a u .1) a u .1 r;
       },
   λ s.
       s4-test l k p .1 (
@@ -249,7 +197,7 @@ module _ (l : List ℕ) (k : K) (p : ℕ) where
   abbrev SlotIs : ℕ → Type 0
   SlotIs i =
       (Held i → ((a : Area) × (k .area p (1 + i / 8) ≡ some a)) × ((e : Entry) → k .slot p i ≡ some e → e .start < e .stop))
-      × ((Held i → ⊥) → getD l (slotPlace p i) 0 ≡ 0)
+      × ((Held i → ⊥) → slotWordAt l p i ≡ 0)
 
   s5-test : (s5 l k p ≡ true) ↔ ((i : ℕ) → i < 32 → SlotIs i)
   unfolding s5 s5Slot
@@ -266,8 +214,8 @@ s5-means l p _ =
       λ q.
           let at = s5-test l k p .0 q in
           record {
-            structure = λ i e u. at i (slot-range l p i e u .1) .0 (e, u) .0;
-            range = λ i e u. at i (slot-range l p i e u .1) .0 (e, u) .1 e u;
+            structure = λ i e u. at i (slot-bounds l p i e u .1) .0 (e, u) .0;
+            range = λ i e u. at i (slot-bounds l p i e u .1) .0 (e, u) .1 e u;
             other = λ i b n. at i b .1 (λ h. not-none (k .slot p i) n (h .1));
           },
       λ h. s5-test l k p .1 (λ i b. (λ u. (h .structure i (u .0) (u .1), h .range i), λ n. h .other i b (none-of (k .slot p i) (λ e u. n (e, u))))),

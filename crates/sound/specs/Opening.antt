@@ -39,6 +39,13 @@ pub record Skipped (n : ℕ) (e : List ℕ) (a line r : ℕ) : Type 0 where
   pub by : (b : ℕ) → a ≤ b → b < r → getD e b 0 ≤ line
   pub after : r < n → line < getD e r 0
 
+-- two results are equal
+not-past : {n : ℕ} {e : List ℕ} {a line r s : ℕ} → Skipped n e a line r → Skipped n e a line s → r < s → ⊥
+not-past {r = r} x y h = omega (arith, x .after (omega (arith, y .within)), y .by r (x .from) h)
+
+pub skipped-one : {n : ℕ} {e : List ℕ} {a line r s : ℕ} → Skipped n e a line r → Skipped n e a line s → r ≡ s
+skipped-one x y = omega (arith, not-past x y, not-past y x)
+
 -- .. so far
 pub record Behind (n : ℕ) (e : List ℕ) (a line b : ℕ) : Type 0 where
   pub from : a ≤ b

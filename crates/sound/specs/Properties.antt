@@ -7,10 +7,9 @@ use native.Mathlib.Decide.{ℕ-discrete}
 use native.Mathlib.Omega.{arith}
 use Rattle.loops.specs.Climb.{Reaches, at-root, by-step}
 use Rattle.tables.specs.State.{some, Entry, Area, K, Table, same-at}
-use Rattle.tables.specs.View.{view}
+use Rattle.tables.specs.View.{view, slot-bounds, region-bounds}
 use Rattle.tables.specs.Lines.{In, InA, Holds}
 use Rattle.sound.specs.Sound.{Present, Sound}
-use Rattle.sound.specs.Tests.{slot-range, region-range}
 use Rattle.sound.specs.Core.{Core, sound-core}
 
 -- ── the paper's sets; AllPaddr[MappedBlocks[p]] is Holds ──
@@ -120,8 +119,8 @@ sound-isolated l h =
       horizontal = λ p d f n s t m u v. m (siblings-one c (s .other) (t .other) (s .parent ∙ sym (t .parent)) u v);
       kernel = λ p q n u v.
           let o = u .entry in
-          h .s9 p (slot-range l p (u .i) (u .e) (o .at) .0) (u .i) (u .e) (o .at) .0 (o .opened) q (v .j) (v .a) n (v .at) (v .holds) (u .holds);
+          h .s9 p (slot-bounds l p (u .i) (u .e) (o .at) .0) (u .i) (u .e) (o .at) .0 (o .opened) q (v .j) (v .a) n (v .at) (v .holds) (u .holds);
       regions = λ p r i u.
-          let ((e, a), o) = h .s10 p (region-range l p r i u .0) .names r i u in
+          let ((e, a), o) = h .s10 p (region-bounds l p r i u .0) .names r i u in
           (e, record { at = a; opened = o });
     }

@@ -3,14 +3,15 @@ use mathlib.Core.Path.{_≡_}
 use mathlib.Core.Bool.{true, false}
 use mathlib.Core.List.{List}
 use mathlib.Core.Logic.{_⊎_, _↔_}
-use Prim.Native.Nat.{ℕ, _+_, _*_, _/_, _≤_, _<_}
-use lib.ListN.{length, getD}
+use Prim.Native.Nat.{ℕ, _+_, _/_, _≤_, _<_}
+use lib.ListN.{length}
 use Rattle.loops.specs.Climb.{Reaches}
-use Rattle.words.specs.Kind.{fieldsIn, Zeroed}
+use Rattle.words.specs.Kind.{Zeroed}
 use Rattle.words.specs.Words.{first, header, structure, regions, slot}
 use Rattle.words.specs.declared.Rights.{Rights}
 use Rattle.tables.specs.State.{none, some, Entry, Area, nowhere, K, Table}
-use Rattle.tables.specs.View.{areaPlace, regionsPlace, slotPlace, nth, view}
+use Rattle.tables.specs.View.{firstWord, areaWordAt, regionsWordAt, blankWordAt, slotWordAt, nth, regionsAt, view}
+use Rattle.tables.specs.Spelling.{ZeroWords}
 use Rattle.tables.specs.Lines.{In, InA, Holds, Clear}
 
 -- ── words used below ──
@@ -58,7 +59,7 @@ pub record S1 (k : K) : Type 0 where
 -- S2 an absent partition's 40 words are zero; the root is present with parent 0 and area 0, 0; any other has a present parent and an area, and the walk
 -- from a partition up to the root ends within 15 steps.
 pub record S2 (l : List ℕ) (k : K) (p : ℕ) : Type 0 where
-  pub absent : k .area p 0 ≡ none → (o : ℕ) → o < 40 → getD l (1 + 40 * p + o) 0 ≡ 0
+  pub absent : k .area p 0 ≡ none → ZeroWords l p
   pub root : p ≡ 0 → (k .area p 0 ≡ some nowhere) × (k .parent p ≡ 0)
   pub parent : (p ≡ 0 → ⊥) → Present k p → Present k (k .parent p)
   pub area : (p ≡ 0 → ⊥) → k .area p 0 ≡ some nowhere → ⊥
@@ -66,17 +67,17 @@ pub record S2 (l : List ℕ) (k : K) (p : ℕ) : Type 0 where
 
 -- S3 all zero bits are zero; regions not loaded are zero bytes.
 pub record S3 (l : List ℕ) (p : ℕ) : Type 0 where
-  pub header-bits : Zeroed header (getD l (areaPlace p 0) 0)
-  pub structure-bits : (j : ℕ) → j < 4 → Zeroed structure (getD l (areaPlace p (1 + j)) 0)
-  pub region-bits : Zeroed regions (getD l (regionsPlace p) 0)
-  pub unloaded : (r : ℕ) → r < 8 → nth (fieldsIn regions (getD l (regionsPlace p) 0)) r .loaded ≡ false → nth (fieldsIn regions (getD l (regionsPlace p) 0)) r .slot .0 ≡ 0
-  pub blank : (o : ℕ) → o < 2 → getD l (1 + 40 * p + (6 + o)) 0 ≡ 0
-  pub slot-bits : (i : ℕ) → i < 32 → Zeroed slot (getD l (slotPlace p i) 0)
+  pub header-bits : Zeroed header (areaWordAt l p 0)
+  pub structure-bits : (j : ℕ) → j < 4 → Zeroed structure (areaWordAt l p (1 + j))
+  pub region-bits : Zeroed regions (regionsWordAt l p)
+  pub unloaded : (r : ℕ) → r < 8 → nth (regionsAt l p) r .loaded ≡ false → nth (regionsAt l p) r .slot .0 ≡ 0
+  pub blank : (o : ℕ) → o < 2 → blankWordAt l p o ≡ 0
+  pub slot-bits : (i : ℕ) → i < 32 → Zeroed slot (slotWordAt l p i)
 
 -- S4 absent structures are zero words; root structure 0 is present with area 0, 0; any other present structure has an area; 0, 0 counts as no area, and
 -- every area has 16 lines or more.
 pub record S4 (l : List ℕ) (k : K) (p : ℕ) : Type 0 where
-  pub absent : (j : ℕ) → j < 4 → k .area p (1 + j) ≡ none → getD l (areaPlace p (1 + j)) 0 ≡ 0
+  pub absent : (j : ℕ) → j < 4 → k .area p (1 + j) ≡ none → areaWordAt l p (1 + j) ≡ 0
   pub root : p ≡ 0 → k .area p 1 ≡ some nowhere
   pub long : (j : ℕ) (a : Area) → k .area p j ≡ some a → (Rooted p j → ⊥) → a .lo + 16 ≤ a .hi
 
@@ -84,7 +85,7 @@ pub record S4 (l : List ℕ) (k : K) (p : ℕ) : Type 0 where
 pub record S5 (l : List ℕ) (k : K) (p : ℕ) : Type 0 where
   pub structure : (i : ℕ) (e : Entry) → k .slot p i ≡ some e → (a : Area) × (k .area p (1 + i / 8) ≡ some a)
   pub range : (i : ℕ) (e : Entry) → k .slot p i ≡ some e → e .start < e .stop
-  pub other : (i : ℕ) → i < 32 → k .slot p i ≡ none → getD l (slotPlace p i) 0 ≡ 0
+  pub other : (i : ℕ) → i < 32 → k .slot p i ≡ none → slotWordAt l p i ≡ 0
 
 -- S6 no line lies in two entries of one partition.
 abbrev pub S6 : K → ℕ → Type 0
@@ -123,7 +124,7 @@ pub record Sound (l : List ℕ) : Type 0 where
   pub size : length l ≡ 641
   pub s1 : S1 (view l .k)
   pub s2 : (p : ℕ) → p < 16 → S2 l (view l .k) p
-  pub s3-first : Zeroed first (getD l 0 0)
+  pub s3-first : Zeroed first (firstWord l)
   pub s3 : (p : ℕ) → p < 16 → S3 l p
   pub s4 : (p : ℕ) → p < 16 → S4 l (view l .k) p
   pub s5 : (p : ℕ) → p < 16 → S5 l (view l .k) p

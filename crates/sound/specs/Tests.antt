@@ -2,11 +2,9 @@
 use mathlib.Core.Path.{_≡_, refl}
 use mathlib.Core.Bool.{Bool, true, false, not, _&&_, _||_, and-eq-true-iff, false≢true}
 use mathlib.Core.Logic.{_⊎_, inl, inr}
-use mathlib.Core.List.{List}
 use Prim.Native.Nat.{ℕ, _<_}
 use Rattle.loops.specs.Every.{all, any, all-at, all-of, any-at, any-of, bool-ext}
-use Rattle.tables.specs.State.{Opt, none, some, Entry, Area}
-use Rattle.tables.specs.View.{view, viewK, entryIn, slotAt, areaAt, regionAt, inside-some}
+use Rattle.tables.specs.State.{Opt, none, some}
 use Rattle.sound.specs.Clauses.{when, has}
 
 pub and-says : (a b : Bool) → a && b ≡ true → (a ≡ true) × (b ≡ true)
@@ -95,17 +93,3 @@ all-and n f g = bool-ext _ _ (λ q. and-true _ _ (all-of n f (λ i b. at q i b .
 
     back : all n f && all n g ≡ true → all n (λ i. f i && g i) ≡ true
     back q = let (u, v) = and-says (all n f) (all n g) q in all-of n _ (λ i b. and-true _ _ (all-at n f u i b) (all-at n g v i b))
-
--- ── only what the table has ──
-module _ (l : List ℕ) where
-  pub slot-range : (p i : ℕ) (e : Entry) → view l .k .slot p i ≡ some e → (p < 16) × (i < 32)
-  unfolding view viewK
-  slot-range p i e q = let s = inside-some 16 32 (λ p i. entryIn (slotAt l p i)) p i e q in (s .0, s .1)
-
-  pub area-range : (p j : ℕ) (a : Area) → view l .k .area p j ≡ some a → (p < 16) × (j < 5)
-  unfolding view viewK
-  area-range p j a q = let s = inside-some 16 5 (areaAt l) p j a q in (s .0, s .1)
-
-  pub region-range : (p r i : ℕ) → view l .region p r ≡ some i → (p < 16) × (r < 8)
-  unfolding view
-  region-range p r i q = let s = inside-some 16 8 (regionAt l) p r i q in (s .0, s .1)

@@ -12,14 +12,14 @@ use Rattle.loops.specs.Every.{all}
 use Rattle.words.specs.declared.Rights.{Rights}
 use Rattle.words.specs.declared.slot_word.SlotFields.{SlotFields}
 use Rattle.tables.specs.State.{Opt, none, some, Entry, Same, some-inj, not-none, same}
-use Rattle.tables.specs.View.{entryOf, entryIn, view}
+use Rattle.tables.specs.View.{entryOf, entryIn, view, slot-bounds}
 use Rattle.tables.specs.Lines.{In}
 use Rattle.tables.specs.Rising.{lowOf, highOf}
 use Rattle.tables.specs.Search.{present}
 use Rattle.tables.specs.Seen.{Seen}
 use Rattle.sound.specs.Sound.{Around, allRights}
 use Rattle.sound.specs.Clauses.{s7Root, s7Inside, s7Cover, within, s11}
-use Rattle.sound.specs.Tests.{and-says, and-true, slot-range}
+use Rattle.sound.specs.Tests.{and-says, and-true}
 use Rattle.sound.specs.MeansEntries.{present-means, slots32, root-means, inside-means, cover-means}
 use Rattle.sound.specs.MeansRegions.{within-means, s11-means}
 use Rattle.sound.specs.MeansWords.{s2-means}
@@ -54,7 +54,7 @@ pub record Tiling (E : ℕ → Entry) (i k lo hi at : ℕ) (r : Rights) : Type 0
   pub up : i ≤ k
   pub on : lo ≤ at
   pub piece : (a : ℕ) → i ≤ a → a < k → Piece (E a) lo hi at r
-  pub cover : (l : ℕ) → lo ≤ l → l < at → (a : ℕ) × (a < k) × In l (E a)
+  pub cover : (l : ℕ) → lo ≤ l → l < at → (a : ℕ) × (i ≤ a) × (a < k) × In l (E a)
 
 -- E k goes on from there
 pub record Fits (E : ℕ → Entry) (n k hi at : ℕ) (r : Rights) : Type 0 where
@@ -67,6 +67,46 @@ pub record Fits (E : ℕ → Entry) (n k hi at : ℕ) (r : Rights) : Type 0 wher
 pub data Tiled (E : ℕ → Entry) (n i lo hi : ℕ) (r : Rights) (x : ℕ) : Type 0 where
   fitted : (at : ℕ) → x ≤ n → hi ≤ at → Tiling E i x lo hi at r → Tiled E n i lo hi r x
   stuck : (k at : ℕ) → n < 33 → x ≡ 33 → at < hi → Tiling E i k lo hi at r → (Fits E n k hi at r → ⊥) → Tiled E n i lo hi r x
+
+-- two results are equal, in a row where each has a line and ends by the start of those after it
+module _ {E : ℕ → Entry} {n i lo hi : ℕ} {r : Rights} (line : (a : ℕ) → a < n → E a .start < E a .stop) (ends : (a b : ℕ) → a < b → b < n → E a .stop ≤ E b .start) where
+  -- one place more would be in the range, which those before it cover
+  no-further : {x y at at′ : ℕ} → y ≤ n → hi ≤ at → Tiling E i x lo hi at r → Tiling E i y lo hi at′ r → x < y → ⊥
+  no-further {x} few far t u h =
+      let e = u .piece x (t .up) h in
+      let (a, _, b, v) = t .cover (E x .start) (e .from) (omega (arith, line x (omega arith), e .to)) in
+      omega (arith, v .to, ends a x b (omega arith))
+
+  -- where they tile the range, the walk is not stuck
+  no-stop : {x k at at′ : ℕ} → x ≤ n → hi ≤ at → Tiling E i x lo hi at r → at′ < hi → Tiling E i k lo hi at′ r → Fits E n k hi at′ r
+  no-stop {x} {k} {at} {at′} few far t c u =
+      let (a, from, b, v) = t .cover at′ (u .on) (omega arith) in
+      go a b v (reached a from v (decLt a k))
+    where
+      reached : (a : ℕ) → i ≤ a → In at′ (E a) → Dec (a < k) → k ≤ a
+      reached a from v (yes h) = absurd (omega (arith, v .to, u .piece a from h .before))
+      reached a from v (no h) = omega arith
+
+      starts : (a : ℕ) → k ≤ a → a < n → In at′ (E a) → Dec (k ≡ a) → E k .start ≤ at′
+      starts a h b v (yes z) = rw z (v .from)
+      starts a h b v (no z) = omega (arith, v .from, line k (omega arith), ends k a (omega arith) b)
+
+      at-least : k < n → lo ≤ E k .start → Dec (E k .start < at′) → at′ ≤ E k .start
+      at-least b from (yes h) = let (a, _, d, v) = u .cover (E k .start) from h in absurd (omega (arith, v .to, ends a k d b))
+      at-least b from (no h) = omega arith
+
+      go : (a : ℕ) → a < x → In at′ (E a) → k ≤ a → Fits E n k hi at′ r
+      go a b v h =
+          let e = t .piece k (u .up) (omega arith) in
+          let low = starts a h (omega arith) v (ℕ-discrete k a) in
+          let high = at-least (omega arith) (e .from) (decLt (E k .start) at′) in
+          record { there = omega arith; start = omega arith; to = e .to; rights = e .rights }
+
+  row-one : {x y : ℕ} → Tiled E n i lo hi r x → Tiled E n i lo hi r y → x ≡ y
+  row-one (fitted at few far t) (fitted at′ few′ far′ u) = omega (arith, no-further few′ far t u, no-further few far′ u t)
+  row-one (fitted at few far t) (stuck k at′ _ z c u no-fit) = absurd (no-fit (no-stop few far t c u))
+  row-one (stuck k at _ z c t no-fit) (fitted at′ few′ far′ u) = absurd (no-fit (no-stop few′ far′ u c t))
+  row-one (stuck k at _ z c t no-fit) (stuck k′ at′ _ z′ c′ u no-fit′) = z ∙ sym z′
 
 -- ── laws of the walk along one range ──
 module _ {E : ℕ → Entry} {i lo hi : ℕ} {r : Rights} where
@@ -90,9 +130,9 @@ module _ {E : ℕ → Entry} {i lo hi : ℕ} {r : Rights} where
       piece a b c (yes z) = rw z (record { from = omega (arith, inv .on, f .start); to = f .to; before = omega arith; rights = f .rights })
       piece a b c (no z) = let e = inv .piece a b (omega arith) in record { from = e .from; to = e .to; before = omega (arith, e .before, f .start); rights = e .rights }
 
-      cover : (l : ℕ) → lo ≤ l → l < E k .stop → Dec (l < at) → (a : ℕ) × (a < k + 1) × In l (E a)
-      cover l b c (yes d) = let (a, h, u) = inv .cover l b d in (a, omega arith, u)
-      cover l b c (no d) = (k, omega arith, record { from = omega (arith, f .start); to = c })
+      cover : (l : ℕ) → lo ≤ l → l < E k .stop → Dec (l < at) → (a : ℕ) × (i ≤ a) × (a < k + 1) × In l (E a)
+      cover l b c (yes d) = let (a, g, h, u) = inv .cover l b d in (a, g, omega arith, u)
+      cover l b c (no d) = (k, inv .up, omega arith, record { from = omega (arith, f .start); to = c })
 
   pub tile-end : {n k at : ℕ} → Tiling E i k lo hi at r → k ≤ n → hi ≤ at → Tiled E n i lo hi r k
   tile-end {at = at} inv few c = fitted at few c inv
@@ -148,7 +188,10 @@ module _ {E F : ℕ → Entry} {p : ℕ} where
           inside a b (no d) = let e = t .piece a (omega arith) b in (j, omega arith, given, record { from = e .from; to = e .to })
 
           cover : (b : ℕ) → b < j + 1 → Dec (b ≡ j) → F b .given ≡ p → (l : ℕ) → In l (F b) → (a : ℕ) × (a < x) × In l (E a)
-          cover b h (yes z) g l u = let v : In l (F j) = subst (λ (b : ℕ). In l (F b)) z u in t .cover l (v .from) (omega (arith, v .to))
+          cover b h (yes z) g l u =
+              let v : In l (F j) = subst (λ (b : ℕ). In l (F b)) z u in
+              let (a, _, d, w) = t .cover l (v .from) (omega (arith, v .to)) in
+              (a, d, w)
           cover b h (no z) g l u = let (a, d, v) = inv .cover b (omega arith) g l u in (a, omega (arith, t .up), v)
 
           rights : (a b : ℕ) → a < x → b < j + 1 → Dec (a < i) → Dec (b ≡ j) → F b .given ≡ p → Around (E a) (F b) → within (E a .rights) (F b .rights) ≡ true
@@ -185,7 +228,7 @@ module _ {E F : ℕ → Entry} {p : ℕ} where
 
           exactly-at : k < n → E k .start ≤ at → Around (E k) (F j) → Dec (E k .start < at) → E k .start ≡ at
           exactly-at d s v (yes h) =
-              let (a, e, u) = t .cover (E k .start) (v .from) h in
+              let (a, _, e, u) = t .cover (E k .start) (v .from) h in
               absurd (omega (arith, u .to, w .ends a k e d))
           exactly-at d s v (no h) = omega arith
 
@@ -246,7 +289,7 @@ module _ {l o : List ℕ} {p n : ℕ} (h : InOrder l o p n) where
   row-every : (j : ℕ) (e : Entry) → view l .k .slot p j ≡ some e → (a : ℕ) × (a < n) × (rowOf l o p a ≡ e)
   unfolding entryOr
   row-every j e u =
-      let (a, b, z) = h .rows .ordered .every j _ (slot-range l p j e u .1) (lines-of (view l .k) p j e u) in
+      let (a, b, z) = h .rows .ordered .every j _ (slot-bounds l p j e u .1) (lines-of (view l .k) p j e u) in
       (a, b, ap (λ (j : ℕ). entryOr (view l .k .slot p j)) z ∙ ap entryOr u)
 
   row-line : (a : ℕ) → a < n → rowOf l o p a .start < rowOf l o p a .stop
@@ -260,6 +303,9 @@ module _ {l o : List ℕ} {p n : ℕ} (h : InOrder l o p n) where
       omega (arith, x, y, h .rows .apart .ends a b c d)
 
 -- ── the walk along one range, as the code reads the entries ──
+pub tiled-one : {l o : List ℕ} {p n i lo hi : ℕ} {r : Rights} {x y : ℕ} → InOrder l o p n → Tiled (rowOf l o p) n i lo hi r x → Tiled (rowOf l o p) n i lo hi r y → x ≡ y
+tiled-one h = row-one (row-line h) (row-ends h)
+
 module _ {l o : List ℕ} {p n i k lo hi at : ℕ} {r : Rights} (h : InOrder l o p n) (inv : Tiling (rowOf l o p) i k lo hi at r) where
   no-place : at < hi → (Fits (rowOf l o p) n k hi at r → ⊥) → Tiled (rowOf l o p) n i lo hi r 33
   no-place c no-fit = stuck k at (omega (arith, h .rows .ordered .few)) refl c inv no-fit

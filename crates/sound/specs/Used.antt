@@ -5,12 +5,11 @@ use mathlib.Core.List.{List}
 use Prim.Native.Nat.{ℕ, zero, suc, _+_, _-_, _*_, _/_, _≤_, _<_}
 use native.Mathlib.Decide.{ℕ-discrete}
 use native.Mathlib.Omega.{arith}
-use lib.Dec.{ltb}
 use Rattle.loops.specs.Scan.{seek, Seeking, seek-on, seek-end}
-use Rattle.words.specs.Words.{slot}
 use Rattle.words.specs.declared.structure_word.StructureFields.{StructureFields}
 use Rattle.tables.specs.State.{none, some, Area, K, not-none, none-of}
-use Rattle.tables.specs.View.{structureArea, slotAt, inside, view}
+use Rattle.tables.specs.View.{structureArea, view}
+use Rattle.tables.specs.ZeroWord.{not-open}
 use Rattle.tables.specs.Seen.{SeenStructure}
 use Rattle.tables.specs.Search.{isSome}
 use Rattle.sound.specs.Sound.{S5}
@@ -36,6 +35,10 @@ lastStructure k q = lastOf 4 (λ j. isSome (k .area q (1 + j)))
 pub record Used (l : List ℕ) (q r : ℕ) : Type 0 where
   pub is : r ≡ 8 * lastStructure (view l .k) q
   pub bound : Bound l q r
+
+-- two results are equal
+pub used-one : {l : List ℕ} {q r s : ℕ} → Used l q r → Used l q s → r ≡ s
+used-one x y = x .is ∙ sym (y .is)
 
 -- the structures of q from j on are absent
 pub record Absent (l : List ℕ) (q j : ℕ) : Type 0 where
@@ -88,13 +91,7 @@ module _ {l : List ℕ} {q : ℕ} (shaped : Shaped l) (in16 : q < 16) where
 
   -- an empty slot is a zero word
   pub empty-closed : (i : ℕ) → i < 32 → view l .k .slot q i ≡ none → view l .opened q i ≡ false
-  unfolding view inside slot
-  empty-closed i b n = go (ltb q 16) (ltb i 32)
-    where
-      go : (x y : Bool) → cond x (cond y (slotAt l q i .opened) false) false ≡ false
-      go true true = rw (s5 .other i b n) refl
-      go true false = refl
-      go false y = refl
+  empty-closed i b n = not-open l q i (λ _ _. s5 .other i b n)
 
   -- .. so the slots behind the last structure are
   absent-bound : {j : ℕ} → Absent l q j → Bound l q (8 * j)

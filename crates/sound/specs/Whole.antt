@@ -4,21 +4,23 @@ use mathlib.Core.Bool.{true, false}
 use mathlib.Core.Logic.{_↔_}
 use mathlib.Core.List.{List}
 use Prim.Native.Nat.{ℕ, _+_, _/_, _^_, _<_}
+use native.Mathlib.Omega.{arith}
 use lib.ListN.{length}
 use borrow.Author.Tests.{eqb-true, eq-eqb}
 use Rattle.tables.specs.State.{none, some, Table, none-of, not-none}
-use Rattle.tables.specs.View.{view}
+use Rattle.tables.specs.View.{view, slot-bounds, region-bounds}
 use Rattle.tables.specs.Encode.{Canon, canon-length}
-use Rattle.tables.specs.FitView.{zero-slot, fit-view}
+use Rattle.tables.specs.FitView.{zero-slot, zero-structure, fit-view}
+use Rattle.tables.specs.Canonical.{first-clean, Nothing, absent-zero}
 use Rattle.sound.specs.Sound.{Sound, S9, S10}
 use Rattle.sound.specs.Clauses.{sound, s1, s2, s3, s4, s5, s6, s7, s8, s9, s10, s11}
-use Rattle.sound.specs.Tests.{and-says, and-true, slot-range, region-range}
+use Rattle.sound.specs.Tests.{and-says, and-true}
 use Rattle.sound.specs.Means.{all-means}
 use Rattle.sound.specs.MeansWords.{s1-means, s2-means, s3-first-means, s3-means, s4-means, s5-means}
 use Rattle.sound.specs.MeansEntries.{s6-means, s7-means}
 use Rattle.sound.specs.MeansAreas.{s8-means}
 use Rattle.sound.specs.MeansRegions.{s9-means, s10-means, s11-means}
-use Rattle.sound.specs.Canonical.{canon-s3-first, canon-s3, canon-structure, canon-absent, Nothing}
+use Rattle.sound.specs.Canonical.{canon-s3}
 use Rattle.sound.specs.Core.{Core, core-sound, sound-core}
 
 module _ (l : List ℕ) where
@@ -100,11 +102,11 @@ sound-right {l} c h = record {
   core = sound-core l h;
   stop = fit-view c .stop;
   closed = fit-view c .closed;
-  eight = λ p r i u. region-range l p r i u .1;
-  s9 = λ p i e u. h .s9 p (slot-range l p i e u .0) i e u;
+  eight = λ p r i u. region-bounds l p r i u .1;
+  s9 = λ p i e u. h .s9 p (slot-bounds l p i e u .0) i e u;
   s10 = λ p. record {
-    names = λ r i u. h .s10 p (region-range l p r i u .0) .names r i u;
-    once = λ r q i u. h .s10 p (region-range l p r i u .0) .once r q i u;
+    names = λ r i u. h .s10 p (region-bounds l p r i u .0) .names r i u;
+    once = λ r q i u. h .s10 p (region-bounds l p r i u .0) .once r q i u;
   };
 }
 
@@ -127,15 +129,15 @@ right-sound {l} c h =
       size = canon-length c;
       s1 = g .s1;
       s2 = λ p b. record {
-        absent = λ u o d. canon-absent c p b (nothing h p u) o d;
+        absent = λ u. absent-zero c p b (nothing h p u);
         root = g .s2-root p;
         parent = g .s2-parent p;
         area = g .s2-area p;
         walk = g .s2-walk p;
       };
-      s3-first = canon-s3-first c;
+      s3-first = first-clean c;
       s3 = canon-s3 c;
-      s4 = λ p b. record { absent = λ j d u. canon-structure c p j b d u; root = g .s4-root p; long = g .s4-long p };
+      s4 = λ p b. record { absent = λ j d. zero-structure c p (1 + j) b (omega arith) (omega arith); root = g .s4-root p; long = g .s4-long p };
       s5 = λ p b. record { structure = g .s5-structure p; range = g .s5-range p; other = λ i d u. zero-slot c p i b d u };
       s6 = λ p b. g .s6 p;
       s7 = λ p b. g .s7 p;

@@ -1,8 +1,8 @@
 ghost use mathlib.Core.Path.{_≡_};
-ghost use Prim.Native.Nat.{_+_, _≤_, _<_};
+ghost use Prim.Native.Nat.{_≤_, _<_};
 ghost use lib.ListN.{length};
 ghost use Rattle.tables.specs.View.{view};
-ghost use Rattle.sound.specs.Holders.{heir, deepest, Trailed, Listed, Writes};
+ghost use Rattle.sound.specs.Holders.{heir, deepest, Listed, Writes};
 use crate::decide::is_sound;
 use tables::Found;
 use tables::Outcome;
@@ -42,31 +42,15 @@ fn deepest_holder(t: &[u64; 641], l: Line) -> Partition
     p
 }
 
-// writes the way from p up to the root, root first; how many there are
-fn trail(t: &[u64; 641], p: Partition, steps: u32, list: &mut [u8]) -> usize
-    requires { ⌜ (p .0 < 16) × (steps + 1 ≤ length (now list)) ⌝ }
-    ensures { λ r. ⌜ Trailed (view (now (t .entry)) .k) (p .0) steps (now (list .entry)) r (now (list .exit)) ⌝ }
-{
-    if p.0 == 0 {
-        list[0] = 0;
-        return 1;
-    }
-    if steps == 0 {
-        return 0;
-    }
-    let h = tables::read::header(t, p);
-    let n = trail(t, h.parent, steps - 1, list);
-    list[n] = p.0 as u8;
-    n + 1
-}
-
 // Writes the holders of a line of memory; the list has room for all.
 fn write_holders(t: &[u64; 641], l: Line, list: &mut [u8]) -> usize
     requires { ⌜ 16 ≤ length (now list) ⌝ }
     ensures { λ r. ⌜ Writes (view (now (t .entry)) .k) (l .0) (now (list .entry)) r (now (list .exit)) ⌝ }
 {
     let p = deepest_holder(t, l);
-    trail(t, p, 15, list)
+    let mut way = 0u64;
+    tables::climb::climb(t, p, 15, &mut way);
+    tables::climb::write_way(way, list)
 }
 
 // Holders of a line of a table that stands in an array: `holders` without its length and its copy.

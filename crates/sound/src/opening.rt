@@ -7,19 +7,20 @@ ghost use Rattle.sound.specs.Opening.{Skipped, noneBefore, CanOpen, some
 use crate::order::entry_at;
 use tables::read;
 use tables::regions;
+use words::Line;
 use words::Partition;
 use words::Slot;
 use words::regions_word::Region;
 use words::regions_word::RegionsFields;
 
 // The first area from number a on that ends after the line. Those before it are done with: the entries come by rising start.
-fn skip_areas(n: usize, e: &[u32; 80], a: usize, line: u32) -> usize
+fn skip_areas(n: usize, e: &[u32; 80], a: usize, line: Line) -> usize
     requires { ⌜ (n ≤ 80) × (a ≤ n) ⌝ }
-    ensures { λ r. ⌜ Skipped n (now (e .entry)) a line r ⌝ }
+    ensures { λ r. ⌜ Skipped n (now (e .entry)) a (line .0) r ⌝ }
 {
     let mut b = a;
     while b < n {
-        if e[b] > line {
+        if e[b] > line.0 {
             return b;
         }
         b += 1;
@@ -28,12 +29,12 @@ fn skip_areas(n: usize, e: &[u32; 80], a: usize, line: u32) -> usize
 }
 
 // no area from number a on starts before the line
-fn none_before(n: usize, s: &[u32; 80], a: usize, line: u32) -> bool
+fn none_before(n: usize, s: &[u32; 80], a: usize, line: Line) -> bool
     requires { ⌜ n ≤ 80 ⌝ }
-    ensures { λ r. ⌜ r ≡ noneBefore n (now (s .entry)) a line ⌝ }
+    ensures { λ r. ⌜ r ≡ noneBefore n (now (s .entry)) a (line .0) ⌝ }
 {
     if a < n {
-        return s[a] >= line;
+        return s[a] >= line.0;
     }
     true
 }
@@ -55,8 +56,8 @@ pub fn opens_right(
     let mut k = 0u32;
     while k < c {
         let f = entry_at(t, p, order, k);
-        a = skip_areas(n, e, a, f.start.0);
-        if f.opened != none_before(n, s, a, f.end.0) {
+        a = skip_areas(n, e, a, f.start);
+        if f.opened != none_before(n, s, a, f.end) {
             return false;
         }
         k += 1;

@@ -1,12 +1,12 @@
 ghost use mathlib.Core.Path.{_≡_};
 ghost use mathlib.Core.Bool.{_&&_};
-ghost use Prim.Native.Nat.{_+_, _*_, _^_, _<_};
-ghost use lib.ListN.{getD};
+ghost use Prim.Native.Nat.{_^_, _<_};
 ghost use Rattle.loops.specs.Every.{all};
 ghost use Rattle.tables.specs.View.{nth, view};
-ghost use Rattle.sound.specs.Clauses.{isNowhere, s1, s2Root, s2, blankRegion, s3First, s3, s4, s5};
-ghost use Rattle.sound.specs.Records.{wordTest, areaTest, headerTest, structureTest, slotTest};
+ghost use Rattle.sound.specs.Clauses.{isNowhere, s1, s2Root, s2, blankRegion, s3Regions, s3First, s3, s4, s5};
+ghost use Rattle.sound.specs.Records.{areaTest, headerTest, structureTest, slotTest};
 use crate::is_rooted;
+use tables::zeros;
 use words::Line;
 use words::Partition;
 use words::Slot;
@@ -24,7 +24,7 @@ pub fn first_sound(t: &[u64; 641]) -> bool
     if !tables::search::is_present(t, f.current) {
         return false;
     }
-    words::first_word::zero_bits(t[0]) == 0
+    zeros::first_bits(t)
 }
 
 fn is_nowhere(a: Line, b: Line) -> bool
@@ -69,16 +69,8 @@ pub fn family_sound(t: &[u64; 641], p: Partition) -> bool
     if is_nowhere(h.start, h.end) {
         return false;
     }
-    tables::climb::reaches_root(t, p, 15)
-}
-
-// word o of the 40 of p
-fn word(t: &[u64; 641], p: Partition, o: u32) -> u64
-    requires { ⌜ (p .0 < 16) × (o < 40) ⌝ }
-    ensures { λ r. ⌜ r ≡ getD (now (t .entry)) (1 + 40 * p .0 + o) 0 ⌝ }
-{
-    let at = (1 + 40 * p.0 + o) as usize;
-    t[at]
+    let mut way = 0u64;
+    tables::climb::climb(t, p, 15, &mut way)
 }
 
 // a to b as area j of p: 0, 0 at the root, elsewhere 16 lines or more
@@ -97,7 +89,7 @@ fn header_sound(t: &[u64; 641], p: Partition) -> bool
     requires { ⌜ p .0 < 16 ⌝ }
     ensures { λ r. ⌜ r ≡ headerTest (now (t .entry)) (view (now (t .entry)) .k) (p .0) ⌝ }
 {
-    if words::header_word::zero_bits(word(t, p, 0)) != 0 {
+    if !zeros::header_bits(t, p) {
         return false;
     }
     let h = tables::read::header(t, p);
@@ -112,15 +104,14 @@ fn structure_sound(t: &[u64; 641], p: Partition, j: u32) -> bool
     requires { ⌜ (p .0 < 16) × (j < 4) ⌝ }
     ensures { λ r. ⌜ r ≡ structureTest (now (t .entry)) (view (now (t .entry)) .k) (p .0) j ⌝ }
 {
-    let w = word(t, p, 1 + j);
-    if words::structure_word::zero_bits(w) != 0 {
+    if !zeros::structure_bits(t, p, j) {
         return false;
     }
     let s = tables::read::structure(t, p, j);
     if s.present {
         return area_sound(p, 1 + j, s.start, s.end);
     }
-    if w != 0 {
+    if !zeros::structure_word(t, p, j) {
         return false;
     }
     !is_rooted(p, 1 + j)
@@ -168,16 +159,15 @@ fn all_blank(f: RegionsFields) -> bool
 // S3 of the regions; a zero word has none loaded
 fn regions_sound(t: &[u64; 641], p: Partition) -> bool
     requires { ⌜ p .0 < 16 ⌝ }
-    ensures { λ r. ⌜ r ≡ wordTest (now (t .entry)) (p .0) 5 ⌝ }
+    ensures { λ r. ⌜ r ≡ s3Regions (now (t .entry)) (p .0) ⌝ }
 {
-    let w = word(t, p, 5);
-    if w == 0 {
+    if zeros::regions_word(t, p) {
         return true;
     }
-    if words::regions_word::zero_bits(w) != 0 {
+    if !zeros::regions_bits(t, p) {
         return false;
     }
-    all_blank(words::regions_word::fields(w))
+    all_blank(tables::read::regions(t, p))
 }
 
 // S3 and S5 of slot i: a zero word, or an entry in a present structure, start < end
@@ -185,11 +175,10 @@ fn slot_sound(t: &[u64; 641], p: Partition, i: Slot) -> bool
     requires { ⌜ (p .0 < 16) × (i .0 < 32) ⌝ }
     ensures { λ r. ⌜ r ≡ slotTest (now (t .entry)) (view (now (t .entry)) .k) (p .0) (i .0) ⌝ }
 {
-    let w = word(t, p, 8 + i.0);
-    if w == 0 {
+    if zeros::slot_word(t, p, i) {
         return true;
     }
-    if words::slot_word::zero_bits(w) != 0 {
+    if !zeros::slot_bits(t, p, i) {
         return false;
     }
     let f = tables::read::entry(t, p, i);
@@ -232,8 +221,7 @@ pub fn record_sound(t: &[u64; 641], p: Partition) -> bool
     if !regions_sound(t, p) {
         return false;
     }
-    let blank = word(t, p, 6) | word(t, p, 7);
-    if blank != 0 {
+    if !zeros::blank_words(t, p) {
         return false;
     }
     slots_sound(t, p)

@@ -11,6 +11,7 @@ ghost use Rattle.sound.specs.Tiles.{rowOf, InOrder, ChildOf, Tiled};
 use crate::entries::full_each;
 use crate::order::entry_at;
 use tables::read;
+use words::Line;
 use words::Partition;
 use words::Rights;
 
@@ -44,30 +45,30 @@ fn tile(
     order: &[u8; 512],
     n: u32,
     i: u32,
-    lo: u32,
-    hi: u32,
+    lo: Line,
+    hi: Line,
     r: Rights,
 ) -> u32
     requires { ⌜ InOrder (now t) (now order) (p .0) n × (i ≤ n) ⌝ }
-    ensures { λ x. ⌜ Tiled (rowOf (now (t .entry)) (now (order .entry)) (p .0)) n i lo hi r x ⌝ }
+    ensures { λ x. ⌜ Tiled (rowOf (now (t .entry)) (now (order .entry)) (p .0)) n i (lo .0) (hi .0) r x ⌝ }
 {
     let mut at = lo;
     let mut k = i;
-    while at < hi {
+    while at.0 < hi.0 {
         if k >= n {
             return 33;
         }
         let f = entry_at(t, p, order, k);
-        if f.start.0 != at {
+        if f.start.0 != at.0 {
             return 33;
         }
-        if f.end.0 > hi {
+        if f.end.0 > hi.0 {
             return 33;
         }
         if !rights_within(f.rights, r) {
             return 33;
         }
-        at = f.end.0;
+        at = f.end;
         k += 1;
     }
     k
@@ -90,7 +91,7 @@ fn tiles_grants(
     while j < m {
         let g = entry_at(t, q, order, j);
         if g.given.0 == p.0 {
-            i = tile(t, p, order, n, i, g.start.0, g.end.0, g.rights);
+            i = tile(t, p, order, n, i, g.start, g.end, g.rights);
             if i > n {
                 return false;
             }
@@ -114,7 +115,7 @@ fn tiles_whole(t: &[u64; 641], p: Partition, order: &[u8; 512], n: u32) -> bool
         write: true,
         execute: true,
     };
-    tile(t, p, order, n, 0, f.base.0, f.end.0, r) == n
+    tile(t, p, order, n, 0, f.base, f.end, r) == n
 }
 
 // S7 at p, which is present, but for `given`, and S11: by one walk, since the entries of each partition are in order

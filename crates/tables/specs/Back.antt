@@ -10,13 +10,15 @@ use native.Mathlib.Omega.{arith}
 use native.Mathlib.Decide.{ℕ-discrete}
 use Rattle.words.specs.Kind.{fieldsIn, wordOf, InRange, fields-back}
 use Rattle.words.specs.Words.{first, header, structure, regions, slot}
+use Rattle.words.specs.Fields.{header-zero, structure-zero, slot-zero}
 use Rattle.words.specs.Laws.{first-range, header-range, structure-range, regions-range, slot-range, first-lawful, header-lawful, structure-lawful, regions-lawful, slot-lawful}
 use Rattle.words.specs.declared.header_word.HeaderFields.{HeaderFields}
 use Rattle.words.specs.declared.regions_word.RegionsFields.{RegionsFields}
 use Rattle.words.specs.declared.slot_word.SlotFields.{SlotFields}
 use Rattle.tables.specs.State.{Opt, none, some, Entry, Area, Table, none-of}
-use Rattle.tables.specs.View.{areaPlace, regionsPlace, slotPlace, entryIn, headerArea, structureArea, areaIn, nth, named, slotAt, headerAt, areaAt, regionAt, inside, parentAt, viewK, view}
-use Rattle.tables.specs.Encode.{slotFor, slotWord, headerFor, headerWord, structureFor, structureWord, regionFor, regionsFor, regionsWord, firstFor, wordFor, encode, Is, encode-at, encode-is, at-first, at-slot, at-header, at-structure, at-regions}
+use Rattle.tables.specs.View.{areaWordAt, entryIn, headerArea, structureArea, areaIn, nth, named, firstAt, slotAt, headerAt, areaAt, regionAt, inside, parentAt, viewK, view}
+use Rattle.tables.specs.Encode.{slotFor, slotWord, headerFor, headerWord, structureFor, structureWord, regionFor, regionsFor, regionsWord, firstFor, wordFor, encode, Canon, Is, encode-is}
+use Rattle.tables.specs.Spelling.{Spells, encode-spells}
 
 -- numbers below their widths, nothing outside 16 by 5, 32 and 8, and nothing said of what is absent
 pub record Fit (t : Table) : Type 0 where
@@ -45,34 +47,34 @@ structure-back a s = fields-back structure-lawful (structureFor a) (structure-ra
 
 module _ (x : Opt Entry) (o : Bool) (h : (e : Entry) → x ≡ some e → (e .given < 16) × (e .start < 2 ^ 27) × (e .stop < 2 ^ 27)) where
   slot-read : entryIn (fieldsIn slot (slotWord x o)) ≡ x
-  unfolding slotWord entryIn slot
+  unfolding slotWord entryIn
   slot-read = go x h
     where
       go : (x : Opt Entry) → ((e : Entry) → x ≡ some e → (e .given < 16) × (e .start < 2 ^ 27) × (e .stop < 2 ^ 27)) → entryIn (fieldsIn slot (slotWord x o)) ≡ x
-      go none h = refl
+      go none h = ap entryIn slot-zero
       go (some e) h = let b = h e refl in ap entryIn (slot-back e o (b .0) (b .1) (b .2))
 
   open-read : (x ≡ none → o ≡ false) → fieldsIn slot (slotWord x o) .opened ≡ o
-  unfolding slotWord slot
+  unfolding slotWord
   open-read = go x h
     where
       go : (x : Opt Entry) → ((e : Entry) → x ≡ some e → (e .given < 16) × (e .start < 2 ^ 27) × (e .stop < 2 ^ 27)) → (x ≡ none → o ≡ false) → fieldsIn slot (slotWord x o) .opened ≡ o
-      go none h g = sym (g refl)
+      go none h g = ap (λ (f : SlotFields). f .opened) slot-zero ∙ sym (g refl)
       go (some e) h g = let b = h e refl in ap (λ (f : SlotFields). f .opened) (slot-back e o (b .0) (b .1) (b .2))
 
 header-read : (u : ℕ) (x : Opt Area) → u < 16 → ((a : Area) → x ≡ some a → SmallA a) → headerArea (fieldsIn header (headerWord u x)) ≡ x
-unfolding headerWord headerArea header
-header-read u none h g = refl
+unfolding headerWord headerArea
+header-read u none h g = ap headerArea header-zero
 header-read u (some a) h g = ap headerArea (header-back u a h (g a refl))
 
 parent-read : (u : ℕ) (x : Opt Area) → u < 16 → ((a : Area) → x ≡ some a → SmallA a) → (x ≡ none → u ≡ 0) → fieldsIn header (headerWord u x) .parent .0 ≡ u
-unfolding headerWord header
-parent-read u none h g z = sym (z refl)
+unfolding headerWord
+parent-read u none h g z = ap (λ (f : HeaderFields). f .parent .0) header-zero ∙ sym (z refl)
 parent-read u (some a) h g z = ap (λ (f : HeaderFields). f .parent .0) (header-back u a h (g a refl))
 
 structure-read : (x : Opt Area) → ((a : Area) → x ≡ some a → SmallA a) → structureArea (fieldsIn structure (structureWord x)) ≡ x
-unfolding structureWord structureArea structure
-structure-read none g = refl
+unfolding structureWord structureArea
+structure-read none g = ap structureArea structure-zero
 structure-read (some a) g = ap structureArea (structure-back a (g a refl))
 
 pub nth-for : (f : ℕ → Opt ℕ) (r : ℕ) → r < 8 → nth (regionsFor f) r ≡ regionFor (f r)
@@ -93,14 +95,14 @@ slot-small none g = omega arith
 slot-small (some i) g = g i refl
 
 -- regions that name slots are in range, and come back from their word
-pub regions-small : (f : ℕ → Opt ℕ) → ((r i : ℕ) → f r ≡ some i → i < 32) → InRange regions (regionsFor f)
-regions-small f g =
+pub regions-fit : (f : ℕ → Opt ℕ) → ((r i : ℕ) → f r ≡ some i → i < 32) → InRange regions (regionsFor f)
+regions-fit f g =
     let s : (q : ℕ) → regionFor (f q) .slot .0 < 32 = λ q. slot-small (f q) (g q) in
     regions-range (regionsFor f) (s 0) (s 1) (s 2) (s 3) (s 4) (s 5) (s 6) (s 7)
 
 pub regions-back : (f : ℕ → Opt ℕ) → ((r i : ℕ) → f r ≡ some i → i < 32) → fieldsIn regions (regionsWord f) ≡ regionsFor f
 unfolding regionsWord
-regions-back f g = fields-back regions-lawful (regionsFor f) (regions-small f g)
+regions-back f g = fields-back regions-lawful (regionsFor f) (regions-fit f g)
 
 name-for : (x : Opt ℕ) → named (regionFor x) ≡ x
 unfolding regionFor named
@@ -129,11 +131,8 @@ module _ (t : Table) (h : Fit t) where
   range : (p i : ℕ) (e : Entry) → t .k .slot p i ≡ some e → (e .given < 16) × (e .start < 2 ^ 27) × (e .stop < 2 ^ 27)
   range p i e u = let b = h .slot p i e u in (b .2, b .3, b .4)
 
-  slot-word : (p i : ℕ) → p < 16 → i < 32 → getD (encode t) (slotPlace p i) 0 ≡ slotWord (t .k .slot p i) (t .opened p i)
-  slot-word p i a b = encode-at t (slotPlace p i) (omega arith) ∙ at-slot t p i b
-
-  header-word : (p : ℕ) → p < 16 → getD (encode t) (areaPlace p 0) 0 ≡ headerWord (t .k .parent p) (t .k .area p 0)
-  header-word p a = encode-at t (areaPlace p 0) (omega arith) ∙ at-header t p
+  spelt : Spells (encode t) t
+  spelt = encode-spells t
 
   no-area : (p j : ℕ) → ((p < 16) × (j < 5) → ⊥) → t .k .area p j ≡ none
   no-area p j out = none-of (t .k .area p j) (λ a u. let b = h .area p j a u in out (b .0, b .1))
@@ -141,9 +140,9 @@ module _ (t : Table) (h : Fit t) where
   no-slot : (p i : ℕ) → ((p < 16) × (i < 32) → ⊥) → t .k .slot p i ≡ none
   no-slot p i out = none-of (t .k .slot p i) (λ e u. let b = h .slot p i e u in out (b .0, b .1))
 
-  first-is : fieldsIn first (getD (encode t) 0 0) ≡ firstFor (t .k)
+  first-is : firstAt (encode t) ≡ firstFor (t .k)
   first-is =
-      ap (fieldsIn first) (encode-at t 0 (omega arith) ∙ at-first t)
+      ap (fieldsIn first) (spelt .first)
       ∙ fields-back first-lawful (firstFor (t .k)) (first-range (firstFor (t .k)) (h .base) (h .stop) (h .current))
 
   parent-is : (p : ℕ) → parentAt (encode t) p ≡ t .k .parent p
@@ -152,7 +151,7 @@ module _ (t : Table) (h : Fit t) where
     where
       go : (b : Bool) → ltb p 16 ≡ b → cond b (headerAt (encode t) p .parent .0) 0 ≡ t .k .parent p
       go true u =
-          ap (λ (w : ℕ). fieldsIn header w .parent .0) (header-word p (ltb-true p 16 u))
+          ap (λ (w : ℕ). fieldsIn header w .parent .0) (spelt .at p (ltb-true p 16 u) .header)
           ∙ parent-read (t .k .parent p) (t .k .area p 0) (h .parent p) (small p 0) (h .orphan p)
       go false u = sym (h .orphan p (no-area p 0 (λ b. let w = ltb-false p 16 u in omega arith)))
 
@@ -160,31 +159,31 @@ module _ (t : Table) (h : Fit t) where
   unfolding areaIn
   area-is p j = inside-is none 16 5 (areaAt (encode t)) (t .k .area) p j (λ a b. go a b (ℕ-discrete j 0)) (λ out. no-area p j (λ b. out (b .0) (b .1)))
     where
-      go : p < 16 → j < 5 → Dec (j ≡ 0) → areaIn j (getD (encode t) (areaPlace p j) 0) ≡ t .k .area p j
+      go : p < 16 → j < 5 → Dec (j ≡ 0) → areaIn j (areaWordAt (encode t) p j) ≡ t .k .area p j
       go a b (yes z) =
-          rw z (ap (λ (w : ℕ). headerArea (fieldsIn header w)) (header-word p a) ∙ header-read (t .k .parent p) (t .k .area p 0) (h .parent p) (small p 0))
+          rw z (ap (λ (w : ℕ). headerArea (fieldsIn header w)) (spelt .at p a .header) ∙ header-read (t .k .parent p) (t .k .area p 0) (h .parent p) (small p 0))
       go a b (no z) =
           rw (ne-eqb j 0 z)
-          (ap (λ (w : ℕ). structureArea (fieldsIn structure w)) (encode-at t (areaPlace p j) (omega arith) ∙ at-structure t p j (omega arith) b)
+          (ap (λ (w : ℕ). structureArea (fieldsIn structure w)) (spelt .at p a .structure j (omega arith) b)
           ∙ structure-read (t .k .area p j) (small p j))
 
   slot-is : (p i : ℕ) → inside none 16 32 (λ p i. entryIn (slotAt (encode t) p i)) p i ≡ t .k .slot p i
   slot-is p i =
       inside-is none 16 32 (λ p i. entryIn (slotAt (encode t) p i)) (t .k .slot) p i
-      (λ a b. ap (λ (w : ℕ). entryIn (fieldsIn slot w)) (slot-word p i a b) ∙ slot-read (t .k .slot p i) (t .opened p i) (range p i))
+      (λ a b. ap (λ (w : ℕ). entryIn (fieldsIn slot w)) (spelt .at p a .slot i b) ∙ slot-read (t .k .slot p i) (t .opened p i) (range p i))
       (λ out. no-slot p i (λ b. out (b .0) (b .1)))
 
   open-is : (p i : ℕ) → inside false 16 32 (λ p i. slotAt (encode t) p i .opened) p i ≡ t .opened p i
   open-is p i =
       inside-is false 16 32 (λ p i. slotAt (encode t) p i .opened) (t .opened) p i
-      (λ a b. ap (λ (w : ℕ). fieldsIn slot w .opened) (slot-word p i a b) ∙ open-read (t .k .slot p i) (t .opened p i) (range p i) (h .closed p i))
+      (λ a b. ap (λ (w : ℕ). fieldsIn slot w .opened) (spelt .at p a .slot i b) ∙ open-read (t .k .slot p i) (t .opened p i) (range p i) (h .closed p i))
       (λ out. h .closed p i (no-slot p i (λ b. out (b .0) (b .1))))
 
   region-is : (p r : ℕ) → inside none 16 8 (regionAt (encode t)) p r ≡ t .region p r
   region-is p r =
       inside-is none 16 8 (regionAt (encode t)) (t .region) p r
       (λ a b.
-      ap (λ (w : ℕ). named (nth (fieldsIn regions w) r)) (encode-at t (regionsPlace p) (omega arith) ∙ at-regions t p)
+      ap (λ (w : ℕ). named (nth (fieldsIn regions w) r)) (spelt .at p a .regions)
       ∙ region-read (t .region p) (λ q i u. h .region p q i u .2) r b)
       (λ out. none-of (t .region p r) (λ i u. let b = h .region p r i u in out (b .0) (b .1)))
 
@@ -202,6 +201,9 @@ module _ (t : Table) (h : Fit t) where
     opened = λ p i. open-is p i x;
     region = λ p r. region-is p r x;
   }
+
+pub fit-canon : {t : Table} → Fit t → Canon (encode t)
+fit-canon {t} h = record { same = ap encode (view-encode t h) }
 
 -- words that are those of a table that fits
 pub is-from : (l : List ℕ) (t : Table) → length l ≡ 641 → Fit t → ((n : ℕ) → n < 641 → getD l n 0 ≡ wordFor t n) → Is l t

@@ -8,13 +8,15 @@ use native.Mathlib.Omega.{arith}
 use native.Mathlib.Decide.{decLt}
 use lib.Dec.{eqb}
 use lib.ListN.{length, getD, set, List·getD-eq-default, replicate, length-replicate, getD-replicate, length-set}
-use lib.Seq.{getD-set-same, getD-set-other}
+use lib.Seq.{ext-getD, getD-set-same, getD-set-other}
 use borrow.Author.Count.{below-more}
 use borrow.Author.Tests.{eqb-true}
 use Rattle.loops.specs.Every.{all, all-at}
 use Rattle.loops.specs.Carry.{done-keeps}
 use Rattle.loops.specs.Rewrite.{tabFrom, tab-is, tab-ext, Filling, fill-start, fill-tab}
 use Rattle.words.specs.Parts.{pack}
+use Rattle.tables.specs.View.{recordWord, areaWordAt}
+use Rattle.tables.specs.Spelling.{ZeroWords}
 use Rattle.tables.specs.Bytes.{octets, wordAt, byteAt, byteOf, wordsOf, bytesOf, putWord}
 use Rattle.tables.specs.ByteTrips.{byte-place}
 
@@ -22,13 +24,9 @@ use Rattle.tables.specs.ByteTrips.{byte-place}
 unfoldable pub zeroBytes : List ℕ → ℕ → Bool
 zeroBytes b p = all 320 (λ o. eqb (getD b (8 + 320 * p + o) 0) 0)
 
--- the 40 words of record p are zero
-abbrev pub ZeroWords : List ℕ → ℕ → Type 0
-ZeroWords l p = (o : ℕ) → o < 40 → getD l (1 + 40 * p + o) 0 ≡ 0
-
 -- A record that begins with a zero word is zero, as in a sound table: there only an absent partition begins so.
 pub record HeaderTells (l : List ℕ) : Type 0 where
-  pub zero : (p : ℕ) → p < 16 → getD l (1 + 40 * p) 0 ≡ 0 → ZeroWords l p
+  pub zero : (p : ℕ) → p < 16 → areaWordAt l p 0 ≡ 0 → ZeroWords l p
 
 -- at k, t has the words of the bytes b below k, and is zero from there on
 abbrev pub Loading : List ℕ → ℕ → List ℕ → Type 0
@@ -39,6 +37,10 @@ pub record ZeroFrom (n : ℕ) (s : List ℕ) : Type 0 where
   pub size : length s ≡ 5128
   pub zero : (i : ℕ) → n ≤ i → getD s i 0 ≡ 0
 
+-- two results of a function that clears all bytes are equal
+pub zero-from-one : {s t : List ℕ} → ZeroFrom 0 s → ZeroFrom 0 t → s ≡ t
+zero-from-one {s} {t} x y = ext-getD 0 s t (x .size ∙ sym (y .size)) (λ i _. x .zero i (omega arith) ∙ sym (y .zero i (omega arith)))
+
 -- the bytes of s below n are those of the table l, and the others are zero
 pub record StoredTo (l : List ℕ) (n : ℕ) (s : List ℕ) : Type 0 where
   pub below : (i : ℕ) → i < n → getD s i 0 ≡ byteOf l i
@@ -47,6 +49,21 @@ pub record StoredTo (l : List ℕ) (n : ℕ) (s : List ℕ) : Type 0 where
 -- .. those of the words below k
 abbrev pub Storing : List ℕ → ℕ → List ℕ → Type 0
 Storing l k s = StoredTo l (8 * k) s
+
+-- two results of one that loads or stores a record are equal
+pub loading-one : (b : List ℕ) {k : ℕ} {s t : List ℕ} → Loading b k s → Loading b k t → s ≡ t
+loading-one b {k} {s} {t} x y = ext-getD 0 s t (x .size ∙ sym (y .size)) (λ i _. go i (decLt i k))
+  where
+    go : (i : ℕ) → Dec (i < k) → getD s i 0 ≡ getD t i 0
+    go i (yes h) = x .below i h ∙ sym (y .below i h)
+    go i (no h) = x .above i (omega arith) ∙ sym (y .above i (omega arith))
+
+pub stored-one : {l : List ℕ} {n : ℕ} {s t : List ℕ} → StoredTo l n s → StoredTo l n t → s ≡ t
+stored-one {n = n} {s} {t} x y = ext-getD 0 s t (x .rest .size ∙ sym (y .rest .size)) (λ i _. go i (decLt i n))
+  where
+    go : (i : ℕ) → Dec (i < n) → getD s i 0 ≡ getD t i 0
+    go i (yes h) = x .below i h ∙ sym (y .below i h)
+    go i (no h) = x .rest .zero i (omega arith) ∙ sym (y .rest .zero i (omega arith))
 
 -- elements that are right as they stand
 fill-skip : {g : ℕ → ℕ → ℕ} {l s : List ℕ} {n i : ℕ} → Filling g l n i s → (j : ℕ) → i ≤ j → j ≤ n → ((k : ℕ) → i ≤ k → k < j → getD s k 0 ≡ g k (getD l k 0)) → Filling g l n j s
@@ -83,6 +100,7 @@ unfolding byteAt
 byte-zero j h = getD-replicate 8 j 0 0 h
 
 record-byte : (l : List ℕ) (p : ℕ) → ZeroWords l p → (i : ℕ) → 8 + 320 * p ≤ i → i < 328 + 320 * p → byteOf l i ≡ 0
+unfolding recordWord
 record-byte l p z i h g = rw (word (i / 8 - (1 + 40 * p)) (omega arith) (omega arith)) (byte-zero (i % 8) (omega arith))
   where
     word : (o : ℕ) → i / 8 ≡ 1 + 40 * p + o → o < 40 → getD l (i / 8) 0 ≡ 0

@@ -1,13 +1,17 @@
 -- Words to bytes and back, bytes to words and back.
 use mathlib.Core.Path.{_≡_, refl, ap, _∙_}
+use mathlib.Core.Bool.{Bool, true, false}
 use mathlib.Core.List.{List}
 use Prim.Native.Nat.{ℕ, _+_, _*_, _/_, _%_, _^_, _<_}
 use native.Mathlib.Omega.{arith}
-use lib.Dec.{lit<}
-use lib.ListN.{length, getD}
+use lib.Dec.{ltb, lit<}
+use lib.ListN.{length, getD, List·getD-eq-default}
+use borrow.Author.Tests.{ltb-true, ltb-false}
 use Rattle.loops.specs.Rewrite.{tab, tabFrom, length-tab, tab-at, tab-getD, tab-ext}
-use Rattle.words.specs.Parts.{pack, unpack, pack-unpack, unpack-pack}
-use Rattle.tables.specs.Bytes.{octets, wordAt, byteAt, byteOf, wordsOf, bytesOf}
+use Rattle.words.specs.Parts.{pack, unpack, pack-unpack, unpack-pack, pack-lt}
+use Rattle.tables.specs.Fitting.{Words}
+use Rattle.tables.specs.View.{recordWord}
+use Rattle.tables.specs.Bytes.{octets, wordAt, byteAt, byteOf, wordsOf, bytesOf, recordByte}
 
 pub length-wordsOf : (b : List ℕ) → length (wordsOf b) ≡ 641
 unfolding wordsOf
@@ -45,6 +49,15 @@ unfolding byteAt tabFrom
 byteAt-pack f j small h =
     ap (λ (l : List ℕ). getD l j 0) (unpack-pack octets (tab 8 f) (search lit<)) ∙ tab-at 8 f j h
 
+-- words of bytes are below 2^64
+pub words-small : (b : List ℕ) → ((i : ℕ) → getD b i 0 < 256) → Words (wordsOf b)
+unfolding wordsOf wordAt tabFrom
+words-small b small = record { small = λ k. go k (ltb k 641) refl }
+  where
+    go : (k : ℕ) (x : Bool) → ltb k 641 ≡ x → getD (wordsOf b) k 0 < 2 ^ 64
+    go k true u = rw (tab-at 641 (wordAt b) k (ltb-true k 641 u)) (pack-lt octets (tab 8 (λ j. getD b (8 * k + j) 0)) (search small))
+    go k false u = rw (List·getD-eq-default (wordsOf b) 0 {n = k} (omega (arith, ltb-false k 641 u, length-wordsOf b))) (omega arith)
+
 -- bytes to words and back
 pub bytes-words : (b : List ℕ) → length b ≡ 5128 → ((i : ℕ) → i < 5128 → getD b i 0 < 256) → bytesOf (wordsOf b) ≡ b
 unfolding bytesOf wordsOf wordAt
@@ -55,3 +68,11 @@ bytes-words b h small =
     ∙ byteAt-pack (λ j. getD b (8 * (i / 8) + j) 0) (i % 8) (λ j r. small (8 * (i / 8) + j) (omega arith)) (omega arith)
     ∙ ap (λ (n : ℕ). getD b n 0) (omega arith))
     ∙ tab-getD 5128 b h
+
+-- byte n of a record is one of its word n / 8
+pub record-byte : (l : List ℕ) (p n : ℕ) → p < 16 → n < 320 → recordByte (bytesOf l) p n ≡ byteAt (recordWord l p (n / 8)) (n % 8)
+unfolding recordByte bytesOf recordWord
+record-byte l p n a b =
+    let i : (8 + 320 * p + n) / 8 ≡ 1 + 40 * p + n / 8 = omega arith in
+    let j : (8 + 320 * p + n) % 8 ≡ n % 8 = omega arith in
+    tab-at 5128 (byteOf l) (8 + 320 * p + n) (omega arith) ∙ rw (i, j) refl

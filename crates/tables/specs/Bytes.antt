@@ -33,3 +33,7 @@ bytesOf l = tab 5128 (byteOf l)
 -- the bytes b with w put at word k, one byte after the other
 abbrev pub putWord : List ℕ → ℕ → ℕ → List ℕ
 putWord b k w = done (λ j s. set s (8 * k + j) (byteAt w j)) b 8
+
+-- byte n of the 320 of partition p
+unfoldable pub recordByte : List ℕ → ℕ → ℕ → ℕ
+recordByte b p n = getD b (8 + 320 * p + n) 0

@@ -1,5 +1,5 @@
 -- Zero words but for word 0: base to end, and no partition.
-use mathlib.Core.Path.{_≡_, refl, _∙_}
+use mathlib.Core.Path.{_≡_, refl, sym, _∙_}
 use mathlib.Core.Bool.{Bool, true, false, cond}
 use mathlib.Core.List.{List}
 use lib.ListN.{getD, set, replicate, length-replicate, getD-replicate, length-set}
@@ -10,10 +10,10 @@ use Prim.Native.Nat.{ℕ, _^_, _<_}
 use native.Mathlib.Omega.{arith}
 use native.Mathlib.Decide.{ℕ-discrete}
 use Rattle.words.specs.Kind.{wordOf, writing}
-use Rattle.words.specs.Words.{first, regions}
+use Rattle.words.specs.Words.{first}
 use Rattle.words.specs.Laws.{first-range}
 use Rattle.tables.specs.State.{none, not-none}
-use Rattle.tables.specs.Encode.{headerWord, structureWord, slotWord, regionFor, regionsWord, firstFor, partWord, wordFor, Is}
+use Rattle.tables.specs.Encode.{headerWord, structureWord, slotWord, regionsWord, regions-none, firstFor, partWord, wordFor, Is}
 use Rattle.tables.specs.Back.{Fit, is-from}
 use Rattle.tables.specs.Write.{emptyTable}
 use Rattle.tables.specs.Store.{stored, store-word}
@@ -23,11 +23,11 @@ zeros = replicate 641 0
 
 module _ (base end : ℕ) where
   part-zero : (p o : ℕ) → 0 ≡ partWord (emptyTable base end) p o
-  unfolding partWord headerWord structureWord slotWord regionsWord regionFor regions
+  unfolding partWord headerWord structureWord slotWord
   part-zero p o = go (ltb o 8) (eqb o 5) (eqb o 0) (ltb o 5)
     where
       go : (a b c d : Bool) → 0 ≡ cond a (cond b (regionsWord (λ r. none)) (cond c (headerWord 0 none) (cond d (structureWord none) 0))) (slotWord none false)
-      go true true c d = refl
+      go true true c d = sym regions-none
       go true false true d = refl
       go true false false true = refl
       go true false false false = refl

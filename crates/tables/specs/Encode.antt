@@ -10,6 +10,7 @@ use native.Mathlib.Omega.{arith}
 use Rattle.loops.specs.Rewrite.{tab, length-tab, tab-at, tab-is}
 use Rattle.words.specs.Kind.{wordOf}
 use Rattle.words.specs.Words.{first, header, structure, regions, slot}
+use Rattle.words.specs.Fields.{noRegion, no-regions-word}
 use Rattle.words.specs.declared.first_word.FirstFields.{FirstFields}
 use Rattle.words.specs.declared.header_word.HeaderFields.{HeaderFields}
 use Rattle.words.specs.declared.regions_word.Region.{Region}
@@ -17,7 +18,7 @@ use Rattle.words.specs.declared.regions_word.RegionsFields.{RegionsFields}
 use Rattle.words.specs.declared.slot_word.SlotFields.{SlotFields}
 use Rattle.words.specs.declared.structure_word.StructureFields.{StructureFields}
 use Rattle.tables.specs.State.{Opt, none, some, Entry, Area, K, Table}
-use Rattle.tables.specs.View.{areaPlace, regionsPlace, slotPlace, noRegion, view}
+use Rattle.tables.specs.View.{areaPlace, regionsPlace, slotPlace, view}
 
 -- ── each word: an absent thing is a zero word ──
 abbrev pub slotFor : Entry → Bool → SlotFields
@@ -60,6 +61,11 @@ regionsFor f = record {
 unfoldable pub regionsWord : (ℕ → Opt ℕ) → ℕ
 regionsWord f = wordOf regions (regionsFor f)
 
+-- no region is loaded
+pub regions-none : regionsWord (λ r. none) ≡ 0
+unfolding regionsWord regionFor
+regions-none = no-regions-word
+
 abbrev pub firstFor : K → FirstFields
 firstFor k = record { base = record { 0 = k .base }; end = record { 0 = k .stop }; current = record { 0 = k .current } }
 
@@ -71,6 +77,16 @@ partWord t p o =
     (cond (eqb o 0) (headerWord (t .k .parent p) (t .k .area p 0))
     (cond (ltb o 5) (structureWord (t .k .area p o)) 0)))
     (slotWord (t .k .slot p (o - 8)) (t .opened p (o - 8)))
+
+-- it is made of p's own parts; below the slots, and the regions apart, of its parent and areas alone
+module _ (t u : Table) (p o : ℕ) (parent : u .k .parent p ≡ t .k .parent p) (area : (j : ℕ) → u .k .area p j ≡ t .k .area p j) where
+  pub part-ext : u .region p ≡ t .region p → ((i : ℕ) → u .k .slot p i ≡ t .k .slot p i) → ((i : ℕ) → u .opened p i ≡ t .opened p i) → partWord u p o ≡ partWord t p o
+  unfolding partWord
+  part-ext region slot opened = rw (region, parent, area 0, area o, slot (o - 8), opened (o - 8)) refl
+
+  pub part-low : o < 8 → (o ≡ 5 → ⊥) → partWord u p o ≡ partWord t p o
+  unfolding partWord
+  part-low h n = rw (lt-ltb o 8 h, ne-eqb o 5 n, parent, area 0, area o) refl
 
 unfoldable pub wordFor : Table → ℕ → ℕ
 wordFor t n = cond (eqb n 0) (wordOf first (firstFor (t .k))) (partWord t ((n - 1) / 40) ((n - 1) % 40))
@@ -86,6 +102,10 @@ pub record Canon (l : List ℕ) : Type 0 where
 pub record Is (l : List ℕ) (t : Table) : Type 0 where
   pub viewed : view l ≡ t
   pub encoded : encode t ≡ l
+
+-- two lists of words of one table are equal
+pub is-one : {l m : List ℕ} {t : Table} → Is l t → Is m t → l ≡ m
+is-one x y = sym (x .encoded) ∙ y .encoded
 
 -- ── laws ──
 pub encode-length : (t : Table) → length (encode t) ≡ 641
@@ -136,6 +156,13 @@ module _ (t : Table) where
   at-regions p =
       let n : regionsPlace p ≡ 1 + 40 * p + 5 = omega arith in
       rw n (at-part p 5 (omega arith))
+
+  -- words 6 and 7 of a record
+  pub at-blank : (p o : ℕ) → o < 2 → wordFor t (1 + 40 * p + (6 + o)) ≡ 0
+  unfolding partWord
+  at-blank p o h =
+      at-part p (6 + o) (omega arith)
+      ∙ rw (lt-ltb (6 + o) 8 (omega arith), ne-eqb (6 + o) 5 (λ e. omega arith), ne-eqb (6 + o) 0 (λ e. omega arith), le-ltb (6 + o) 5 (omega arith)) refl
 
 -- ── canonical lists ──
 pub canon-length : {l : List ℕ} → Canon l → length l ≡ 641

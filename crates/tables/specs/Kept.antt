@@ -17,7 +17,7 @@ use Rattle.tables.specs.State.{Opt, none, some, Table, not-none}
 use Rattle.tables.specs.Update.{upd1, upd1-same, upd1-other, row-same, row-other}
 use Rattle.tables.specs.View.{regionsPlace, nth, named, view}
 use Rattle.tables.specs.Encode.{regionFor, regionsFor, regionsWord, partWord, Canon, Is, canon-is}
-use Rattle.tables.specs.Back.{Fit, regions-small}
+use Rattle.tables.specs.Back.{Fit, regions-fit}
 use Rattle.tables.specs.FitView.{fit-view}
 use Rattle.tables.specs.Write.{put-part}
 use Rattle.tables.specs.Writes.{is-fit}
@@ -110,7 +110,7 @@ pub regions-settled : {l : List ℕ} {p : ℕ} {w : Written} → Canon l → p <
     → w ≡ writing regions (regionsFor (λ r. keep (view l .opened p) (view l .region p r))) → Is (stored l (regionsPlace p) w) (keepRegions (view l) p)
 unfolding regionsWord
 regions-settled {l} {p} c hp e =
-    rw (e, store-word regions l (regionsPlace p) {g = regionsFor kept} refl (regions-small kept (λ r i u. small r i u .1)))
+    rw (e, store-word regions l (regionsPlace p) {g = regionsFor kept} refl (regions-fit kept (λ r i u. small r i u .1)))
     (regions-put (canon-is c) p kept hp small)
   where
     kept : ℕ → Opt ℕ

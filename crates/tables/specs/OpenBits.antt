@@ -14,7 +14,7 @@ use Rattle.words.specs.declared.slot_word.SlotFields.{SlotFields}
 use Rattle.tables.specs.State.{none, K, Table}
 use Rattle.tables.specs.Update.{upd1}
 use Rattle.tables.specs.UpTo.{upTo, up-start, up-more, upd1-keep, upd-keep, row-put}
-use Rattle.tables.specs.View.{slotPlace, entryOf, entryIn, view}
+use Rattle.tables.specs.View.{slotPlace, slotWordAt, entryOf, entryIn, view}
 use Rattle.tables.specs.Encode.{slotFor, slotWord, Canon, Is, is-canon, canon-is}
 use Rattle.tables.specs.FitView.{zero-slot}
 use Rattle.tables.specs.Write.{withSlot, putSlot}
@@ -46,7 +46,7 @@ withOpened f o = record { present = f .present; opened = o; rights = f .rights; 
 module _ {l : List ℕ} {p i : ℕ} {f : SlotFields} (v : Seen l p i f) where
   -- the word of an absent slot stays
   pub slot-absent : Canon l → p < 16 → i < 32 → f .present ≡ false → l ≡ set l (slotPlace p i) (settledSlot (view l .k) p i)
-  unfolding slotWord entryIn
+  unfolding slotWordAt slotWord entryIn
   slot-absent c hp hi q =
       let x : view l .k .slot p i ≡ none = v .slot ∙ rw q refl in
       rw (x, ← zero-slot c p i hp hi x) (sym (set-getD l (slotPlace p i) 0))

@@ -8,6 +8,7 @@ use native.Mathlib.Nat.{add-zero}
 use native.Mathlib.Omega.{arith}
 use Rattle.words.specs.Kind.{fieldsIn, writing}
 use Rattle.words.specs.Words.{first, header, structure, regions, slot}
+use Rattle.words.specs.Fields.{noRegion}
 use Rattle.words.specs.Laws.{first-range, header-range, structure-range, slot-range}
 use Rattle.words.specs.declared.Line.{Line}
 use Rattle.words.specs.declared.Partition.{Partition}
@@ -19,9 +20,10 @@ use Rattle.words.specs.declared.slot_word.SlotFields.{SlotFields}
 use Rattle.words.specs.declared.structure_word.StructureFields.{StructureFields}
 use Rattle.tables.specs.State.{Opt, none, some, Area, Table, not-none, some-inj, same, sameA}
 use Rattle.tables.specs.Update.{upd, upd-same, upd-other}
-use Rattle.tables.specs.View.{areaPlace, regionsPlace, slotPlace, entryOf, noRegion, view}
-use Rattle.tables.specs.Encode.{slotFor, slotWord, headerFor, headerWord, structureFor, structureWord, regionFor, regionsFor, regionsWord, firstFor, Is, at-regions, canon-at, canon-is}
-use Rattle.tables.specs.Back.{regions-small, regions-back}
+use Rattle.tables.specs.View.{areaPlace, regionsPlace, slotPlace, entryOf, view}
+use Rattle.tables.specs.Encode.{slotFor, slotWord, headerFor, headerWord, structureFor, structureWord, regionFor, regionsFor, regionsWord, firstFor, Is, canon-is}
+use Rattle.tables.specs.Spelling.{canon-spells}
+use Rattle.tables.specs.Back.{regions-fit, regions-back}
 use Rattle.tables.specs.FitView.{fit-view}
 use Rattle.tables.specs.Regions.{withRegion, with-region-for}
 use Rattle.tables.specs.Seen.{SeenFirst, SeenRegions}
@@ -96,7 +98,7 @@ structure-cleared {p = p} {j} c =
 regions-stored : {l : List ℕ} {p r : ℕ} {f : RegionsFields} (o : Opt ℕ) → CanClear 8 l p r → ((i : ℕ) → o ≡ some i → i < 32) → SeenRegions l p f
     → Is (stored l (regionsPlace p) (writing regions (withRegion f r (regionFor o)))) (putRegion (view l) p r o)
 unfolding regionsWord
-regions-stored {l} {p} {r} {f} o c small seen = rw (store-word regions l (regionsPlace p) is (rw is (regions-small new fits))) put
+regions-stored {l} {p} {r} {f} o c small seen = rw (store-word regions l (regionsPlace p) is (rw is (regions-fit new fits))) put
   where
     new : ℕ → Opt ℕ
     new = upd (view l .region) p r o p
@@ -110,7 +112,7 @@ regions-stored {l} {p} {r} {f} o c small seen = rw (store-word regions l (region
     was : f ≡ regionsFor (view l .region p)
     was =
         seen .is
-        ∙ ap (fieldsIn regions) (canon-at (c .canon) (regionsPlace p) (omega (arith, c .inP)) ∙ at-regions (view l) p)
+        ∙ ap (fieldsIn regions) (canon-spells (c .canon) .at p (c .inP) .regions)
         ∙ regions-back (view l .region p) (λ q i h. fit-view (c .canon) .region p q i h .2)
 
     is : withRegion f r (regionFor o) ≡ regionsFor new

@@ -8,6 +8,8 @@ use borrow.Author.Tests.{ltb-true, lt-ltb}
 use Prim.Native.Nat.{ℕ, _+_, _*_, _<_}
 use Rattle.words.specs.Kind.{fieldsIn}
 use Rattle.words.specs.Words.{first, header, structure, regions, slot}
+use Rattle.words.specs.Fields.{noRegion}
+use Rattle.words.specs.declared.first_word.FirstFields.{FirstFields}
 use Rattle.words.specs.declared.header_word.HeaderFields.{HeaderFields}
 use Rattle.words.specs.declared.regions_word.Region.{Region}
 use Rattle.words.specs.declared.regions_word.RegionsFields.{RegionsFields}
@@ -24,6 +26,29 @@ regionsPlace p = 6 + 40 * p
 
 abbrev pub slotPlace : ℕ → ℕ → ℕ
 slotPlace p i = 9 + 40 * p + i
+
+-- ── words by what they hold: above this crate no word is known by its number ──
+-- base, end and current
+unfoldable pub firstWord : List ℕ → ℕ
+firstWord l = getD l 0 0
+
+-- word o of the 40 of partition p
+unfoldable pub recordWord : List ℕ → ℕ → ℕ → ℕ
+recordWord l p o = getD l (1 + 40 * p + o) 0
+
+-- area j of p: the header's, or that of structure j - 1
+unfoldable pub areaWordAt : List ℕ → ℕ → ℕ → ℕ
+areaWordAt l p j = getD l (areaPlace p j) 0
+
+unfoldable pub regionsWordAt : List ℕ → ℕ → ℕ
+regionsWordAt l p = getD l (regionsPlace p) 0
+
+-- the two that hold nothing
+unfoldable pub blankWordAt : List ℕ → ℕ → ℕ → ℕ
+blankWordAt l p o = getD l (1 + 40 * p + (6 + o)) 0
+
+unfoldable pub slotWordAt : List ℕ → ℕ → ℕ → ℕ
+slotWordAt l p i = getD l (slotPlace p i) 0
 
 -- ── fields as parts of the table ──
 abbrev pub entryOf : SlotFields → Entry
@@ -43,9 +68,6 @@ structureArea f = cond (f .present) (some (record { lo = f .start .0; hi = f .en
 unfoldable pub areaIn : ℕ → ℕ → Opt Area
 areaIn j w = cond (eqb j 0) (headerArea (fieldsIn header w)) (structureArea (fieldsIn structure w))
 
-abbrev pub noRegion : Region
-noRegion = record { loaded = false; slot = record { 0 = 0 } }
-
 unfoldable pub nth : RegionsFields → ℕ → Region
 nth f r = getD (f .region0 ∷ f .region1 ∷ f .region2 ∷ f .region3 ∷ f .region4 ∷ f .region5 ∷ f .region6 ∷ f .region7 ∷ []) r noRegion
 
@@ -53,18 +75,27 @@ nth f r = getD (f .region0 ∷ f .region1 ∷ f .region2 ∷ f .region3 ∷ f .r
 unfoldable pub named : Region → Opt ℕ
 named r = cond (r .loaded) (some (r .slot .0)) none
 
--- ── what stands at a place ──
+-- ── what stands in a word ──
+abbrev pub firstAt : List ℕ → FirstFields
+firstAt l = fieldsIn first (firstWord l)
+
 abbrev pub slotAt : List ℕ → ℕ → ℕ → SlotFields
-slotAt l p i = fieldsIn slot (getD l (slotPlace p i) 0)
+slotAt l p i = fieldsIn slot (slotWordAt l p i)
 
 abbrev pub headerAt : List ℕ → ℕ → HeaderFields
-headerAt l p = fieldsIn header (getD l (areaPlace p 0) 0)
+headerAt l p = fieldsIn header (areaWordAt l p 0)
+
+abbrev pub structureAt : List ℕ → ℕ → ℕ → StructureFields
+structureAt l p j = fieldsIn structure (areaWordAt l p (1 + j))
+
+abbrev pub regionsAt : List ℕ → ℕ → RegionsFields
+regionsAt l p = fieldsIn regions (regionsWordAt l p)
 
 abbrev pub areaAt : List ℕ → ℕ → ℕ → Opt Area
-areaAt l p j = areaIn j (getD l (areaPlace p j) 0)
+areaAt l p j = areaIn j (areaWordAt l p j)
 
 abbrev pub regionAt : List ℕ → ℕ → ℕ → Opt ℕ
-regionAt l p r = named (nth (fieldsIn regions (getD l (regionsPlace p) 0)) r)
+regionAt l p r = named (nth (regionsAt l p) r)
 
 -- only what the table has: z outside n by m
 unfoldable pub inside : {A : Type 0} → A → ℕ → ℕ → (ℕ → ℕ → A) → ℕ → ℕ → A
@@ -76,9 +107,9 @@ parentAt l p = cond (ltb p 16) (headerAt l p .parent .0) 0
 -- ── the table that a list of words is ──
 unfoldable pub viewK : List ℕ → K
 viewK l = record {
-  base = fieldsIn first (getD l 0 0) .base .0;
-  stop = fieldsIn first (getD l 0 0) .end .0;
-  current = fieldsIn first (getD l 0 0) .current .0;
+  base = firstAt l .base .0;
+  stop = firstAt l .end .0;
+  current = firstAt l .current .0;
   parent = parentAt l;
   area = inside none 16 5 (areaAt l);
   slot = inside none 16 32 (λ p i. entryIn (slotAt l p i));
@@ -96,6 +127,16 @@ pub inside-in : {A : Type 0} (z : A) (n m : ℕ) (f : ℕ → ℕ → A) (p i : 
 unfolding inside
 inside-in z n m f p i a b = rw (lt-ltb p n a, lt-ltb i m b) refl
 
+-- where the table has z, and outside, stands z
+pub inside-none : {A : Type 0} (z : A) (n m : ℕ) (f : ℕ → ℕ → A) (p i : ℕ) → (p < n → i < m → f p i ≡ z) → inside z n m f p i ≡ z
+unfolding inside
+inside-none z n m f p i h = go (ltb p n) (ltb i m) refl refl
+  where
+    go : (x y : Bool) → ltb p n ≡ x → ltb i m ≡ y → cond x (cond y (f p i) z) z ≡ z
+    go true true a b = h (ltb-true p n a) (ltb-true i m b)
+    go true false a b = refl
+    go false y a b = refl
+
 pub inside-some : {A : Type 0} (n m : ℕ) (f : ℕ → ℕ → Opt A) (p i : ℕ) (a : A) → inside none n m f p i ≡ some a → (p < n) × (i < m) × (f p i ≡ some a)
 unfolding inside
 inside-some n m f p i a q = go (ltb p n) (ltb i m) refl refl q
@@ -104,3 +145,17 @@ inside-some n m f p i a q = go (ltb p n) (ltb i m) refl refl q
     go true true u v z = (ltb-true p n u, ltb-true i m v, z)
     go true false u v z = not-none none refl z
     go false y u v z = not-none none refl z
+
+-- ── what is there stands within 16 by 32, 5 or 8 ──
+module _ (l : List ℕ) where
+  pub slot-bounds : (p i : ℕ) (e : Entry) → view l .k .slot p i ≡ some e → (p < 16) × (i < 32)
+  unfolding view viewK
+  slot-bounds p i e q = let s = inside-some 16 32 (λ p i. entryIn (slotAt l p i)) p i e q in (s .0, s .1)
+
+  pub area-bounds : (p j : ℕ) (a : Area) → view l .k .area p j ≡ some a → (p < 16) × (j < 5)
+  unfolding view viewK
+  area-bounds p j a q = let s = inside-some 16 5 (areaAt l) p j a q in (s .0, s .1)
+
+  pub region-bounds : (p r i : ℕ) → view l .region p r ≡ some i → (p < 16) × (r < 8)
+  unfolding view
+  region-bounds p r i q = let s = inside-some 16 8 (regionAt l) p r i q in (s .0, s .1)

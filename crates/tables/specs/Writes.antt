@@ -11,11 +11,11 @@ use native.Mathlib.Omega.{arith}
 use native.Mathlib.Decide.{ℕ-discrete}
 use Rattle.loops.specs.Rewrite.{each, length-tab, tab-at}
 use Rattle.words.specs.Kind.{wordOf}
-use Rattle.words.specs.Words.{first, regions}
+use Rattle.words.specs.Words.{first}
 use Rattle.tables.specs.State.{Opt, none, some, Entry, Area, Table, not-none}
 use Rattle.tables.specs.Update.{upd, upd-same, upd-other, upd-from, upd1, upd1-same, upd1-other, upd1-from, row-same, row-other}
 use Rattle.tables.specs.View.{areaPlace, regionsPlace, slotPlace}
-use Rattle.tables.specs.Encode.{slotWord, headerWord, structureWord, regionFor, regionsWord, firstFor, partWord, wordFor, Is, is-canon}
+use Rattle.tables.specs.Encode.{slotWord, headerWord, structureWord, regionsWord, regions-none, firstFor, partWord, wordFor, Is, is-canon}
 use Rattle.tables.specs.Back.{Fit, is-from}
 use Rattle.tables.specs.FitView.{fit-view}
 use Rattle.tables.specs.Write.{putSlot, putHeader, putStructure, putRegion, putCurrent, clearRecord, word-at, put-word, put-part}
@@ -230,12 +230,12 @@ kept f p q j a u = go (ℕ-discrete q p)
 
 module _ (t : Table) (p q m : ℕ) where
   cleared-part : q ≡ p → 0 ≡ partWord (clearRecord t p) q m
-  unfolding partWord headerWord structureWord slotWord regionsWord regionFor regions
+  unfolding partWord headerWord structureWord slotWord
   cleared-part z = go (ltb m 8) (eqb m 5) (eqb m 0) (ltb m 5) refl refl refl refl
     where
       go : (a b c d : Bool) → ltb m 8 ≡ a → eqb m 5 ≡ b → eqb m 0 ≡ c → ltb m 5 ≡ d → 0 ≡ partWord (clearRecord t p) q m
       go false b c d e f g k = rw (e, row-same (t .k .slot) p (λ i. none) q (m - 8) z) refl
-      go true true c d e f g k = rw (e, f) (rw (upd1-same (t .region) p (λ r. none) q z) refl)
+      go true true c d e f g k = rw (e, f) (rw (upd1-same (t .region) p (λ r. none) q z) (sym regions-none))
       go true false true d e f g k = rw (e, f, g, row-same (t .k .area) p (λ j. none) q 0 z) refl
       go true false false true e f g k = rw (e, f, g, k, row-same (t .k .area) p (λ j. none) q m z) refl
       go true false false false e f g k = rw (e, f, g, k) refl

@@ -1,56 +1,61 @@
 -- A record of 40 zero words: its partition has nothing.
-use mathlib.Core.Path.{_≡_, refl, ap}
-use mathlib.Core.Bool.{Bool, true, false, cond}
+use mathlib.Core.Path.{_≡_, sym, _∙_}
+use mathlib.Core.Bool.{Bool, true, _&&_, and-eq-true-iff}
 use mathlib.Core.List.{List}
-use Prim.Native.Nat.{ℕ, _+_, _*_, _≤_, _<_}
+use mathlib.Core.Logic.{_↔_}
+use Prim.Native.Nat.{ℕ, zero, suc, _≤_, _<_}
 use native.Mathlib.Omega.{arith}
-use lib.ListN.{getD}
 use lib.Dec.{eqb}
-use borrow.Author.Tests.{eqb-true}
-use Rattle.loops.specs.Every.{all, all-at}
-use Rattle.words.specs.Words.{header, structure, regions, slot}
-use Rattle.tables.specs.State.{Opt, none, Area, not-none, none-of}
-use Rattle.tables.specs.View.{regionsPlace, slotPlace, entryIn, headerArea, structureArea, areaIn, named, slotAt, areaAt, regionAt, viewK, view, inside-some}
-use Rattle.tables.specs.Encode.{regionFor}
-use Rattle.tables.specs.Back.{nth-for}
+use borrow.Author.Tests.{eqb-true, eq-eqb}
+use Rattle.loops.specs.Every.{all, all-at, all-of}
+use Rattle.tables.specs.State.{none}
+use Rattle.tables.specs.View.{recordWord, blankWordAt, view}
+use Rattle.tables.specs.Spelling.{area-word, ZeroWords, zero-regions, zero-slots}
+use Rattle.tables.specs.ZeroWord.{no-area, no-entry, no-region}
 
 -- the first n words of p are zero
 unfoldable pub zeroTo : ℕ → List ℕ → ℕ → Bool
-zeroTo n l p = all n (λ o. eqb (getD l (1 + 40 * p + o) 0) 0)
+zeroTo n l p = all n (λ o. eqb (recordWord l p o) 0)
 
--- .. all 40 are
+-- the two that hold nothing are
+unfoldable pub zeroBlanks : List ℕ → ℕ → Bool
+zeroBlanks l p = eqb (blankWordAt l p 0) 0 && eqb (blankWordAt l p 1) 0
+
+-- all 40 are
 abbrev pub zeroRecord : List ℕ → ℕ → Bool
 zeroRecord l p = zeroTo 40 l p
 
 module _ {n : ℕ} (l : List ℕ) (p : ℕ) (z : zeroTo n l p ≡ true) where
-  pub zero-word : (o : ℕ) → o < n → getD l (1 + 40 * p + o) 0 ≡ 0
+  zero-word : (o : ℕ) → o < n → recordWord l p o ≡ 0
   unfolding zeroTo
-  zero-word o h = eqb-true _ 0 (all-at n (λ o. eqb (getD l (1 + 40 * p + o) 0) 0) z o h)
+  zero-word o h = eqb-true _ 0 (all-at n (λ o. eqb (recordWord l p o) 0) z o h)
 
   -- the first five are those of its areas
   pub zero-area : 5 ≤ n → (j : ℕ) → view l .k .area p j ≡ none
-  unfolding view viewK headerArea structureArea areaIn header structure
-  zero-area few j = none-of (view l .k .area p j) (λ a u.
-      let (_, b, q) = inside-some 16 5 (areaAt l) p j a u in
-      not-none (areaAt l p j) (rw (zero-word j (omega arith)) (go (eqb j 0))) q)
-    where
-      go : (b : Bool) → _≡_ {A = Opt Area} (cond b none none) none
-      go true = refl
-      go false = refl
+  zero-area few j = no-area l p j (λ _ h. sym (area-word l p j) ∙ zero-word j (omega arith))
+
+pub zero-record-means : (l : List ℕ) (p : ℕ) → (zeroRecord l p ≡ true) ↔ ZeroWords l p
+unfolding zeroTo
+zero-record-means l p = (zero-word l p, λ z. all-of 40 (λ o. eqb (recordWord l p o) 0) (λ o h. eq-eqb _ 0 (z o h)))
+
+pub zero-blanks-mean : (l : List ℕ) (p : ℕ) → (zeroBlanks l p ≡ true) ↔ ((o : ℕ) → o < 2 → blankWordAt l p o ≡ 0)
+unfolding zeroBlanks
+zero-blanks-mean l p = (
+  λ q. two (and-eq-true-iff (eqb (blankWordAt l p 0) 0) (eqb (blankWordAt l p 1) 0) .0 q),
+  λ h. and-eq-true-iff _ _ .1 (eq-eqb _ 0 (h 0 (omega arith)), eq-eqb _ 0 (h 1 (omega arith))),
+)
+  where
+    two : (eqb (blankWordAt l p 0) 0 ≡ true) × (eqb (blankWordAt l p 1) 0 ≡ true) → (o : ℕ) → o < 2 → blankWordAt l p o ≡ 0
+    two h zero b = eqb-true _ 0 (h .0)
+    two h (suc zero) b = eqb-true _ 0 (h .1)
+    two h (suc (suc o)) b = absurd (omega arith)
 
 module _ (l : List ℕ) (p : ℕ) (z : zeroRecord l p ≡ true) where
-  slot-word : (i : ℕ) → i < 32 → getD l (slotPlace p i) 0 ≡ 0
-  slot-word i h = let n : slotPlace p i ≡ 1 + 40 * p + (8 + i) = omega arith in rw n (zero-word l p z (8 + i) (omega arith))
+  words : ZeroWords l p
+  words = zero-word l p z
 
   pub zero-entry : (i : ℕ) → view l .k .slot p i ≡ none
-  unfolding view viewK entryIn slot
-  zero-entry i = none-of (view l .k .slot p i) (λ e u.
-      let (_, b, q) = inside-some 16 32 (λ p i. entryIn (slotAt l p i)) p i e u in
-      not-none none refl (rw (slot-word i b) at q))
+  zero-entry i = no-entry l p i (λ _. zero-slots l p words i)
 
   pub zero-region : (r : ℕ) → view l .region p r ≡ none
-  unfolding view named regionFor regions
-  zero-region r = none-of (view l .region p r) (λ i u.
-      let (_, b, q) = inside-some 16 8 (regionAt l) p r i u in
-      let n : regionsPlace p ≡ 1 + 40 * p + 5 = omega arith in
-      not-none (regionAt l p r) (rw (n, zero-word l p z 5 (omega arith)) (ap named (nth-for (λ r. none) r b))) q)
+  zero-region r = no-region l p r (zero-regions l p words)

@@ -14,6 +14,7 @@ pub mod regions;
 pub mod search;
 pub mod settle;
 pub mod write;
+pub mod zeros;
 
 use words::Partition;
 use words::Slot;

@@ -25,7 +25,7 @@ fn settle_slot(t: &mut [u64; 641], p: Partition, i: Slot, n: usize, s: &[u32; 80
         return;
     }
     let mut g = f;
-    g.opened = areas::clear_of(n, s, e, f.start.0, f.end.0);
+    g.opened = areas::clear_of(n, s, e, f.start, f.end);
     let at = (9 + 40 * p.0 + i.0) as usize;
     store(t, at, words::slot_word::write(g));
 }

@@ -4,6 +4,8 @@ mod text;
 use runs::Run;
 use tables::Outcome;
 use text::Text;
+use words::Line;
+use words::Partition;
 use words::boot_word::BootRead;
 
 // One more, but for the last number there is.
@@ -95,8 +97,13 @@ fn serve_input(t: &mut [u64; 641], piece: &mut [u8], first: usize) -> usize {
     0
 }
 
-fn then_name(line: Text, name: u8) -> Text {
-    text::then_decimal(line, name as u64)
+// A holder as the list has it.
+fn holder(name: u8) -> Partition {
+    Partition(name as u32)
+}
+
+fn then_name(line: Text, name: Partition) -> Text {
+    text::then_decimal(line, name.0 as u64)
 }
 
 // The names of the first n in the list.
@@ -107,7 +114,7 @@ fn names(line: Text, list: &[u8], n: u64) -> Text {
         if i as u64 >= n {
             return next;
         }
-        next = then_name(next, list[i]);
+        next = then_name(next, holder(list[i]));
         i += 1;
     }
     next
@@ -130,13 +137,13 @@ fn print_runs(t: &[u64; 641]) {
     let number = plan.number;
     let mut i = 0usize;
     while i < number {
-        print_run(t, runs::listing::run_between(marks[i], marks[i + 1]));
+        print_run(t, runs::listing::run_at(&marks, i));
         i += 1;
     }
 }
 
-fn session(t: &mut [u64; 641], piece: &mut [u8], len: usize, base: u64, end: u64) {
-    let outcome = services::boot_service::boot_table(t, base, end);
+fn session(t: &mut [u64; 641], piece: &mut [u8], len: usize, base: Line, end: Line) {
+    let outcome = services::boot_service::boot_table(t, base.0 as u64, end.0 as u64);
     if let Outcome::Refused(n) = outcome {
         print_boot(n);
         return;
@@ -159,7 +166,7 @@ fn main() {
     match read {
         BootRead::Fields(f) => {
             let mut t = [0u64; 641];
-            session(&mut t, &mut piece, len, f.base.0 as u64, f.end.0 as u64);
+            session(&mut t, &mut piece, len, f.base, f.end);
         }
         BootRead::Refused(n) => print_boot(n),
     }

@@ -1,9 +1,14 @@
 -- A kind of word: its parts and the struct that has its fields. What a reader and a writer answer, and both round trips, once for every kind.
 use mathlib.Core.Path.{_≡_, refl, ap, sym, subst, _∙_}
-use mathlib.Core.Bool.{cond}
+use mathlib.Core.Bool.{Bool, true, cond}
 use mathlib.Core.List.{List}
+use mathlib.Core.Logic.{_↔_}
 use Prim.Native.Nat.{ℕ, _^_, _<_}
-use Rattle.words.specs.Parts.{Part, width, unpack, pack, clean, fit, Clean, Fit, zeroSum, clean-true, clean-false, sum-clean, clean-sum, fit-true, fit-false, pack-unpack, unpack-fit, unpack-pack, pack-lt, pack-clean}
+use native.Mathlib.Omega.{arith}
+use lib.Dec.{eqb}
+use borrow.Author.Tests.{eqb-true, eq-eqb}
+use Rattle.loops.specs.Every.{bool-ext}
+use Rattle.words.specs.Parts.{Part, width, unpack, pack, clean, fit, Clean, Fit, zeroSum, clean-true, clean-says, clean-false, sum-clean, clean-sum, zero-clean, fit-true, fit-false, pack-unpack, unpack-fit, unpack-pack, pack-lt, pack-clean}
 use Rattle.words.specs.declared.Written.{Written}
 use Rattle.words.specs.declared.Written.the-variants.{Word, Refused}
 
@@ -24,9 +29,13 @@ module _ {A R : Type 0} (k : Kind A R) where
   abbrev pub wordOf : A → ℕ
   wordOf f = pack (k .parts) (k .list f)
 
+  -- no zero bit of the word is set, as a test
+  abbrev pub zeroed : ℕ → Bool
+  zeroed w = clean (k .parts) w
+
   -- the fields, or refused with 2 where a zero bit is set
   abbrev pub reading : ℕ → R
-  reading w = cond (clean (k .parts) w) (k .fields (fieldsIn w)) (k .refused 2)
+  reading w = cond (zeroed w) (k .fields (fieldsIn w)) (k .refused 2)
 
   -- the word, or refused with 2 where a field is too wide
   abbrev pub writing : A → Written
@@ -38,6 +47,20 @@ module _ {A R : Type 0} (k : Kind A R) where
 
   abbrev pub InRange : A → Type 0
   InRange f = Fit (k .parts) (k .list f)
+
+  pub zeroed-means : (w : ℕ) → (zeroed w ≡ true) ↔ Zeroed w
+  zeroed-means w = (clean-says (k .parts) w, clean-true (k .parts) w)
+
+  -- none is set exactly if they add up to 0
+  pub zeroed-sum : (w : ℕ) {z : ℕ} → z ≡ zeroSum (k .parts) w → eqb z 0 ≡ zeroed w
+  zeroed-sum w e =
+      bool-ext _ _
+      (λ q. clean-true (k .parts) w (sum-clean (k .parts) w (sym e ∙ eqb-true _ 0 q)))
+      (λ q. eq-eqb _ 0 (e ∙ clean-sum (k .parts) w (clean-says (k .parts) w q)))
+
+  -- the zero word has none set
+  pub zero-zeroed : Zeroed 0
+  zero-zeroed = zero-clean (k .parts)
 
   -- ── the exits of a reader and of a writer ──
   pub read-done : (w : ℕ) → zeroSum (k .parts) w ≡ 0 → reading w ≡ k .fields (fieldsIn w)
@@ -77,6 +100,10 @@ module _ {A R : Type 0} {k : Kind A R} (law : Lawful k) where
 
   pub fields-back : (f : A) → InRange k f → fieldsIn k (wordOf k f) ≡ f
   fields-back f h = ap (k .of) (unpack-pack (k .parts) (k .list f) h) ∙ law .of-list f
+
+  -- the fields of the zero word are written as the zero word
+  pub zero-back : wordOf k (fieldsIn k 0) ≡ 0
+  zero-back = word-back 0 (omega arith) (zero-zeroed k)
 
   pub word-small : (f : A) → InRange k f → wordOf k f < 2 ^ 64
   word-small f h = subst (λ (n : ℕ). wordOf k f < 2 ^ n) (law .whole) (pack-lt (k .parts) (k .list f) h)

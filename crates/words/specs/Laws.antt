@@ -1,14 +1,15 @@
 -- Of each kind of word: which fields are in range, and that it is lawful, so that both round trips of Kind hold of it.
-use mathlib.Core.Path.{_≡_, refl}
+use mathlib.Core.Path.{_≡_, refl, ap}
 use Prim.Native.Nat.{ℕ, _+_, _/_, _^_, _<_}
 use native.Mathlib.Omega.{arith}
 use Rattle.loops.specs.Bit.{flag-bit, bit-mod, bit-lt}
-use Rattle.words.specs.Kind.{InRange, Lawful}
-use Rattle.words.specs.Words.{first, header, structure, regions, slot, call, boot}
+use Rattle.words.specs.Kind.{fieldsIn, wordOf, InRange, Lawful, fields-back}
+use Rattle.words.specs.Words.{first, header, structure, regions, slot, call, boot, mark}
 use Rattle.words.specs.declared.boot_word.BootFields.{BootFields}
 use Rattle.words.specs.declared.call_word.CallFields.{CallFields}
 use Rattle.words.specs.declared.first_word.FirstFields.{FirstFields}
 use Rattle.words.specs.declared.header_word.HeaderFields.{HeaderFields}
+use Rattle.words.specs.declared.mark_word.MarkFields.{MarkFields}
 use Rattle.words.specs.declared.regions_word.RegionsFields.{RegionsFields}
 use Rattle.words.specs.declared.slot_word.SlotFields.{SlotFields}
 use Rattle.words.specs.declared.structure_word.StructureFields.{StructureFields}
@@ -50,6 +51,10 @@ pub boot-range : (f : BootFields) → f .base .0 < 2 ^ 27 → f .end .0 < 2 ^ 27
 unfolding boot
 boot-range f a b = (a, (b, tt))
 
+pub mark-range : (f : MarkFields) → f .line .0 < 2 ^ 27 → f .holder .0 < 16 → InRange mark f
+unfolding mark
+mark-range f a b = (a, (b, tt))
+
 -- ── lawful ──
 pub first-lawful : Lawful first
 unfolding first
@@ -78,3 +83,33 @@ call-lawful = record { whole = refl; of-list = λ f. simp flag-bit; list-of = λ
 pub boot-lawful : Lawful boot
 unfolding boot
 boot-lawful = record { whole = refl; of-list = λ f. refl; list-of = λ w. refl }
+
+pub mark-lawful : Lawful mark
+unfolding mark
+mark-lawful = record { whole = refl; of-list = λ f. refl; list-of = λ w. refl }
+
+-- ── marks ──
+-- a mark fits 32 bits
+pub mark-small : (f : MarkFields) → f .line .0 < 2 ^ 27 → f .holder .0 < 16 → wordOf mark f < 2 ^ 32
+unfolding mark
+mark-small f a b = omega arith
+
+-- the line and the holder in a mark, and the mark of the two
+abbrev pub lineIn : ℕ → ℕ
+lineIn m = fieldsIn mark m .line .0
+
+abbrev pub holderIn : ℕ → ℕ
+holderIn m = fieldsIn mark m .holder .0
+
+abbrev pub markFor : ℕ → ℕ → ℕ
+markFor l p = wordOf mark (record { line = record { 0 = l }; holder = record { 0 = p } })
+
+module _ (l p : ℕ) (a : l < 2 ^ 27) (b : p < 16) where
+  mark-back : fieldsIn mark (markFor l p) ≡ record { line = record { 0 = l }; holder = record { 0 = p } }
+  mark-back = fields-back mark-lawful _ (mark-range _ a b)
+
+  pub line-in : lineIn (markFor l p) ≡ l
+  line-in = ap (λ (f : MarkFields). f .line .0) mark-back
+
+  pub holder-in : holderIn (markFor l p) ≡ p
+  holder-in = ap (λ (f : MarkFields). f .holder .0) mark-back

@@ -95,6 +95,12 @@ clean-sum [] w h = refl
 clean-sum (bits b ∷ ps) w h = clean-sum ps w h
 clean-sum (zeros b ∷ ps) w h = omega (arith, clean-sum ps w (h .1))
 
+-- the zero word has none set
+pub zero-clean : (ps : List Part) → Clean ps 0
+zero-clean [] = tt
+zero-clean (bits b ∷ ps) = zero-clean ps
+zero-clean (zeros b ∷ ps) = (ap (λ (x : ℕ). x % 2 ^ b) (div-eq-of-lt (pow-pos (width ps))) ∙ zero-mod (2 ^ b), zero-clean ps)
+
 pub fit-true : (ps : List Part) (fs : List ℕ) → Fit ps fs → fit ps fs ≡ true
 fit-true [] [] h = refl
 fit-true [] (f ∷ fs) h = absurd h

@@ -1,7 +1,7 @@
 -- Packed words round-trip both ways: each kind, by the one law of Kind.
 use Rattle.words.specs.Kind.{RoundTrips, round-trips}
-use Rattle.words.specs.Words.{first, header, structure, regions, slot, call, boot}
-use Rattle.words.specs.Laws.{first-lawful, header-lawful, structure-lawful, regions-lawful, slot-lawful, call-lawful, boot-lawful}
+use Rattle.words.specs.Words.{first, header, structure, regions, slot, call, boot, mark}
+use Rattle.words.specs.Laws.{first-lawful, header-lawful, structure-lawful, regions-lawful, slot-lawful, call-lawful, boot-lawful, mark-lawful}
 
 pub first-trips : RoundTrips first
 first-trips = round-trips first-lawful
@@ -23,3 +23,6 @@ call-trips = round-trips call-lawful
 
 pub boot-trips : RoundTrips boot
 boot-trips = round-trips boot-lawful
+
+pub mark-trips : RoundTrips mark
+mark-trips = round-trips mark-lawful

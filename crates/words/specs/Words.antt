@@ -1,5 +1,6 @@
--- 01's packed words, column by column: the parts of each kind, most significant first, and the struct that has its fields.
+-- 01's packed words, column by column, and one of the library's own: the parts of each kind, most significant first, and the struct that has its fields.
 use mathlib.Core.List.{List, [], _∷_, _++_}
+use mathlib.Core.Logic.{_⊎_, inl, inr}
 use Prim.Native.Nat.{ℕ, _+_, _*_}
 use lib.ListN.{getD}
 use lib.Dec.{eqb}
@@ -18,6 +19,7 @@ use Rattle.words.specs.declared.first_word.FirstRead.the-variants.{Field
 use Rattle.words.specs.declared.header_word.HeaderFields.{HeaderFields}
 use Rattle.words.specs.declared.header_word.HeaderRead.{HeaderRead}
 use Rattle.words.specs.declared.header_word.HeaderRead.the-variants.{Fields as HeaderIs, Refused as HeaderRefused}
+use Rattle.words.specs.declared.mark_word.MarkFields.{MarkFields}
 use Rattle.words.specs.declared.regions_word.RegionsFields.{RegionsFields}
 use Rattle.words.specs.declared.regions_word.RegionsRead.{RegionsRead}
 use Rattle.words.specs.declared.regions_word.RegionsRead.the-variants.{Fields as RegionsIs, Refused as RegionsRefused}
@@ -113,4 +115,14 @@ boot = record {
   list = λ f. f .base .0 ∷ f .end .0 ∷ [];
   fields = BootIs;
   refused = BootRefused;
+}
+
+-- a mark: zero 33, line 27, holder 4. Not one of 01's: a list of runs and a way down are kept as marks, 32 bits each
+unfoldable pub mark : Kind MarkFields (MarkFields ⊎ ℕ)
+mark = record {
+  parts = zeros 33 ∷ bits 27 ∷ bits 4 ∷ [];
+  of = λ l. record { line = record { 0 = getD l 0 0 }; holder = record { 0 = getD l 1 0 } };
+  list = λ f. f .line .0 ∷ f .holder .0 ∷ [];
+  fields = inl;
+  refused = inr;
 }

@@ -8,6 +8,7 @@ pub mod boot_word;
 pub mod call_word;
 pub mod first_word;
 pub mod header_word;
+pub mod mark_word;
 pub mod regions_word;
 pub mod slot_word;
 pub mod structure_word;

@@ -1,7 +1,8 @@
 use mathlib.Core.Path.{ap}
-use Prim.Native.Nat.{_-_, _≤_}
+use Prim.Native.Nat.{ℕ, _-_, _≤_}
+use lib.ListN.{replicate, length-replicate}
 use Rattle.runs.specs.declared.listing.Plan.{Plan}
-use Rattle.runs.specs.Listing.{plan-fits}
+use Rattle.runs.specs.Listing.{plan-fits, marks-size}
 use native.Mathlib.Omega.{arith}
 use borrow.Author.Needs.{needs}
 use Rattle.tally.proofs.print_runs.Statement.{statement}
@@ -21,12 +22,7 @@ print-runs-spec =
     μ-loop
     (λ c κs. search needs)
     (λ c. (omega arith, omega (arith, ap (λ (p : Plan). p .number) (c .plan-of .ensures .0), plan-fits (c .before .before .args .t .now) 512 .1)))
-    (λ c. search needs)
-    (λ c. search needs)
-    (λ c. search needs)
-    (λ c. search needs)
-    (λ c. search needs)
-    (λ c κs. search needs)
+    (λ c κs. (marks-size (c .before .before .before .before .before .args .t .now) (replicate 513 0) (length-replicate {A = ℕ} 513 0) (c .before .before .before .plan-of .ensures .1), omega arith))
     (λ c κs. search needs)
     (λ c. search needs)
     (λ c. search needs)

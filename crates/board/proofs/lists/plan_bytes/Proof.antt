@@ -1,9 +1,10 @@
 use mathlib.Core.Path.{refl, ap, sym, subst, _∙_}
 use mathlib.Core.List.{List}
 use Prim.Native.Nat.{ℕ}
+use native.Mathlib.Omega.{arith}
 use borrow.Author.Needs.{needs}
 use Rattle.runs.specs.declared.listing.Plan.{Plan}
-use Rattle.runs.specs.Listing.{planOf, marksOf}
+use Rattle.runs.specs.Listing.{planOf, marksIn}
 use Rattle.board.specs.Board.{resultOf}
 use Rattle.board.specs.Lists.{Small, ready-none, ready-plan, plan-answers}
 use Rattle.board.proofs.lists.plan_bytes.Statement.{statement}
@@ -14,8 +15,8 @@ unfolding resultOf
 plan-bytes-spec =
     tie.close
     (tie.spec
-    (λ c. ready-none _ _ (c .if1 .taken))
-    (λ c κs. (c .before .if1 .left, refl))
-    (λ c κs. search needs)
+    (λ c. ready-none _ _ _ (λ z. omega (arith, z)))
+    (λ c κs. (omega arith, refl))
+    (λ c κs. c .before .before .before .before .before .before .pre)
     (λ c κs. subst (λ (p : Plan). Small (p .outcome)) (sym (c .plan-of .ensures .0)) (plan-answers _ _))
-    (λ c. ready-plan _ _ (c .before .before .before .before .before .before .if1 .left) (c .before .plan-of .ensures .0 ∙ ap (λ (l : List ℕ). planOf l (c .before .before .before .before .before .before .before .before .args .size)) (c .before .before .before .before .load .ensures)) (c .before .plan-of .ensures .1 ∙ ap marksOf (c .before .before .before .before .load .ensures)) (c .answer-word .ensures)))
+    (λ c. ready-plan _ _ _ (c .before .before .before .before .before .before .if1 .left) (c .before .plan-of .ensures .0 ∙ ap (λ (l : List ℕ). planOf l (c .before .before .before .before .before .before .before .before .args .size)) (c .before .before .before .before .load .ensures)) (c .before .plan-of .ensures .1 ∙ ap (λ (l : List ℕ). marksIn l (c .before .before .before .before .before .before .before .before .args .marks .now)) (c .before .before .before .before .load .ensures)) (c .answer-word .ensures)))

@@ -1,5 +1,7 @@
+use mathlib.Core.Path.{ap}
 use native.Mathlib.Omega.{arith}
 use borrow.Author.Needs.{needs}
+use Rattle.words.specs.declared.mark_word.MarkFields.{MarkFields}
 use Rattle.runs.specs.Ways.{Climbing, climb-start, climb-up, climb-root}
 use Rattle.runs.proofs.pieces.climb.Statement.{statement}
 use Rattle.runs.proofs.pieces.climb.Tie as tie
@@ -19,8 +21,9 @@ climb-spec =
     (λ c. climb-start)
     (λ c. omega (arith, c .before .loop .inv .within, c .before .before .pre .deep))
     (λ c. omega (arith, c .before .loop .inv .within, c .before .before .pre .deep, c .before .before .pre .size))
-    (λ c. record { climbing = c .before .before .before .before .loop .inv; low = omega arith })
+    (λ c κs. search needs)
+    (λ c. record { climbing = c .before .before .before .before .before .before .loop .inv; low = omega (arith, ap (λ (f : MarkFields). f .line .0) (c .before .before .before .fields .ensures)) })
     (λ c. search needs)
     (λ c. search needs)
-    (λ c. climb-up (c .before .before .before .before .loop .inv) (omega arith) (omega arith))
+    (λ c. climb-up (c .before .before .before .before .before .before .loop .inv) (omega arith) (omega (arith, ap (λ (f : MarkFields). f .line .0) (c .before .before .before .fields .ensures))))
     (λ c. climb-root (c .before .loop .inv) (c .before .before .pre) (omega arith)))

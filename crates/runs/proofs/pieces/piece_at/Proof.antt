@@ -4,7 +4,7 @@ use borrow.Author.Needs.{needs}
 use Prim.Native.Nat.{_-_}
 use Rattle.tables.specs.View.{view}
 use Rattle.runs.specs.Pieces.{tested, stop-small}
-use Rattle.runs.specs.Ways.{Walking, climbs, walk-start, walk-holds, walk-here, walk-down, walk-last}
+use Rattle.runs.specs.Ways.{Walking, climbs, walk-start, walk-holds, walk-here, low-small, walk-down, walk-last}
 use Rattle.runs.proofs.pieces.piece_at.Statement.{statement}
 use Rattle.runs.proofs.pieces.piece_at.Tie as tie
 
@@ -23,17 +23,18 @@ piece-at-spec =
     (λ c κs. climbs (c .before .pre .2))
     (λ c. omega (arith, c .climb .ensures .climbing .within, c .before .before .pre .2 .way .deep))
     (λ c. omega (arith, c .climb .ensures .climbing .within, c .before .before .pre .2 .way .deep, c .before .before .pre .2 .way .size))
-    (λ c. omega (arith, c .before .climb .ensures .climbing .within, c .before .before .before .pre .2 .way .deep))
-    (λ c. omega (arith, c .before .climb .ensures .climbing .within, c .before .before .before .pre .2 .way .deep, c .before .before .before .pre .2 .way .size))
-    (λ c. walk-start (c .before .before .before .before .pre .2) (c .before .before .climb .ensures))
-    (λ c κs. (c .before .before .before .before .before .before .before .pre .0, c .before .before .before .before .before .before .before .pre .1, c .before .before .loop .inv .passed, walk-holds (tested _ (c .before .before .before .before .before .before .before .pre .0)) (c .before .before .loop .inv) .holds))
     (λ c κs. search needs)
-    (λ c. walk-here (tested _ (c .before .before .before .before .before .before .before .before .before .before .before .before .before .pre .0)) (c .before .before .before .before .before .before .before .before .loop .inv) (c .before .before .before .before .before .hop-at .ensures .0) (c .before .before .before .lower .ensures) (c .before .before .before .before .before .hop-at .ensures .1) (omega arith) (c .if1 .taken))
+    (λ c. walk-start (c .before .before .before .before .before .before .pre .2) (c .before .before .before .before .climb .ensures) (c .before .before .fields .ensures))
+    (λ c κs. (c .before .before .before .before .before .before .before .before .before .pre .0, c .before .before .before .before .before .before .before .before .before .pre .1, c .before .before .loop .inv .passed, walk-holds (tested _ (c .before .before .before .before .before .before .before .before .before .pre .0)) (c .before .before .loop .inv) .holds))
+    (λ c κs. search needs)
+    (λ c. walk-here (tested _ (c .before .before .before .before .before .before .before .before .before .before .before .before .before .before .before .pre .0)) (c .before .before .before .before .before .before .before .before .loop .inv) (c .before .before .before .before .before .hop-at .ensures .0) (c .before .before .before .lower .ensures) (c .before .before .before .before .before .hop-at .ensures .1) (omega arith) (c .if1 .taken))
     (λ c. search needs)
-    (λ c. omega (arith, c .before .before .before .before .lower .ensures, walk-holds (tested _ (c .before .before .before .before .before .before .before .before .before .before .before .before .before .before .pre .0)) (c .before .before .before .before .before .before .before .before .before .loop .inv) .low, stop-small (c .before .before .before .before .before .before .before .before .before .before .before .before .before .before .args .t .now)))
-    (λ c. omega (arith, c .before .before .before .before .before .lower .ensures, walk-holds (tested _ (c .before .before .before .before .before .before .before .before .before .before .before .before .before .before .before .pre .0)) (c .before .before .before .before .before .before .before .before .before .before .loop .inv) .low, stop-small (c .before .before .before .before .before .before .before .before .before .before .before .before .before .before .before .args .t .now), c .before .before .before .before .before .before .before .hop-at .ensures .0 .small))
-    (λ c. omega (arith, c .before .before .before .before .before .before .before .before .before .before .loop .inv .way .deep))
-    (λ c. omega (arith, c .before .before .before .before .before .before .before .before .before .before .loop .inv .way .deep, c .before .before .before .before .before .before .before .before .before .before .loop .inv .way .size))
+    (λ c κs. (
+      low-small (tested _ (c .before .before .before .before .before .before .before .before .before .before .before .before .before .before .before .pre .0)) (c .before .before .before .before .before .before .before .before .loop .inv) (c .before .before .before .before .before .hop-at .ensures .0) (c .before .before .before .lower .ensures) (c .before .before .before .before .before .hop-at .ensures .1) (omega arith) (stop-small (c .before .before .before .before .before .before .before .before .before .before .before .before .before .before .before .args .t .now)),
+      c .before .before .before .before .before .hop-at .ensures .0 .small,
+    ))
+    (λ c. omega (arith, c .before .before .before .before .before .before .before .before .before .loop .inv .way .deep))
+    (λ c. omega (arith, c .before .before .before .before .before .before .before .before .before .loop .inv .way .deep, c .before .before .before .before .before .before .before .before .before .loop .inv .way .size))
     (λ c. search needs)
-    (λ c. walk-down (tested _ (c .before .before .before .before .before .before .before .before .before .before .before .before .before .before .before .pre .0)) (c .before .before .before .before .before .before .before .before .before .before .loop .inv) (c .before .before .before .before .before .before .before .hop-at .ensures .0) (c .before .before .before .before .before .lower .ensures) (c .before .before .before .before .before .before .before .hop-at .ensures .1) (omega arith) (c .before .before .if1 .left))
-    (λ c. walk-last (tested _ (c .before .before .before .before .before .before .pre .0)) (c .before .loop .inv) (omega arith)))
+    (λ c. walk-down (tested _ (c .before .before .before .before .before .before .before .before .before .before .before .before .before .before .before .before .pre .0)) (c .before .before .before .before .before .before .before .before .before .loop .inv) (c .before .before .before .before .before .before .hop-at .ensures .0) (c .before .before .before .before .lower .ensures) (c .before .before .before .before .before .before .hop-at .ensures .1) (omega arith) (stop-small (c .before .before .before .before .before .before .before .before .before .before .before .before .before .before .before .before .args .t .now)) (c .mark-of .ensures) (c .before .if1 .left))
+    (λ c. walk-last (tested _ (c .before .before .before .before .before .before .before .before .pre .0)) (c .before .loop .inv) (omega arith)))

@@ -1,3 +1,4 @@
+use native.Mathlib.Omega.{arith}
 use borrow.Author.Needs.{needs}
 use Rattle.runs.specs.Marks.{marked-same, marked-new}
 use Rattle.runs.proofs.walk.mark.Statement.{statement}
@@ -7,10 +8,9 @@ pub mark-spec : {M : Type 1} → statement M
 mark-spec =
     tie.close
     (tie.spec
-    (λ c. marked-same (c .if1 .taken))
+    (λ c. marked-same (omega arith))
+    (λ c κs. (c .before .before .before .pre .2, c .before .before .before .pre .3))
     (λ c. search needs)
     (λ c. search needs)
     (λ c. search needs)
-    (λ c. search needs)
-    (λ c. search needs)
-    (λ c. marked-new (c .before .before .if1 .left)))
+    (λ c. marked-new (c .mark-of .ensures) (λ z. omega (arith, z))))

@@ -17,6 +17,6 @@ call-table-spec =
     (λ c κs. search needs)
     (λ c κs.
     let h = sound-means _ .0 (sym (c .before .before .before .before .before .before .before .is-sound .ensures) ∙ not-false _ (c .before .before .before .before .before .before .if1 .left)) in
-    let canon = sound-canon (c .before .before .before .before .fits2 .ensures .small) h in
+    let canon = sound-canon (c .before .before .before .before .fits2 .ensures) h in
     (canon, sound-right canon h))
     (λ c. answers-sound _ _ (sym (c .before .before .before .before .before .before .before .before .is-sound .ensures) ∙ not-false _ (c .before .before .before .before .before .before .before .if1 .left)) (c .before .before .before .first .ensures .current) (c .serve-word .ensures)))

@@ -1,6 +1,6 @@
 use mathlib.Core.Path.{sym, _∙_}
 use Rattle.services.specs.Ran.{ran-refused, ran-as}
-use Rattle.services.specs.Calls.{read-in-fields, read-serves, read-refuses}
+use Rattle.services.specs.Calls.{read-small, read-serves, read-refuses}
 use borrow.Author.Needs.{needs}
 use Rattle.services.proofs.calls.serve_word.Statement.{statement}
 use Rattle.services.proofs.calls.serve_word.Tie as tie
@@ -11,7 +11,7 @@ serve-word-spec =
     (tie.spec
     (λ c κs. search needs)
     (λ c. search needs)
-    (λ c κs. (c .before .before .before .before .before .pre .0, read-in-fields _ (sym (c .before .before .before .before .read .ensures) ∙ c .before .before .read2 .given .1), c .before .before .before .before .before .pre .1))
+    (λ c κs. (c .before .before .before .before .before .pre .0, read-small _ (sym (c .before .before .before .before .read .ensures) ∙ c .before .before .read2 .given .1), c .before .before .before .before .before .pre .1))
     (λ c. search needs)
     (λ c. ran-as (read-serves _ _ (sym (c .before .before .before .before .before .read .ensures) ∙ c .before .before .before .read2 .given .1)) (c .serve .ensures))
     (λ c. ran-refused (read-refuses _ _ (sym (c .before .before .before .read .ensures) ∙ c .before .read3 .given .1))))

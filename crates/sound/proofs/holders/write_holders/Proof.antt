@@ -1,5 +1,4 @@
 use Rattle.sound.specs.Holders.{writes-from}
-use native.Mathlib.Omega.{arith}
 use borrow.Author.Needs.{needs}
 use Rattle.sound.proofs.holders.write_holders.Statement.{statement}
 use Rattle.sound.proofs.holders.write_holders.Tie as tie
@@ -9,6 +8,11 @@ write-holders-spec =
     tie.close
     (tie.spec
     (λ c κs. search needs)
-    (λ c κs. (c .before .deepest-holder .ensures .1, omega arith))
+    (λ c κs. search needs)
+    (λ c κs. search needs)
     (λ c. search needs)
-    (λ c. writes-from (c .before .before .before .before .deepest-holder .ensures .0) (c .before .before .trail .ensures)))
+    (λ c.
+    let d = c .before .before in
+    let e = d .before .before in
+    let p = e .before .before .deepest-holder .ensures in
+    writes-from _ (p .0) (p .1) (e .climb .ensures .names) (d .write-way .ensures)))

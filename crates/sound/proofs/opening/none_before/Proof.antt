@@ -1,6 +1,5 @@
 use mathlib.Core.Path.{refl}
 use borrow.Author.Tests.{lt-ltb, le-ltb}
-use native.Mathlib.Omega.{arith}
 use borrow.Author.Needs.{needs}
 use Rattle.sound.specs.Opening.{noneBefore}
 use Rattle.sound.proofs.opening.none_before.Statement.{statement}
@@ -13,5 +12,5 @@ none-before-spec =
     (tie.spec
     (λ c. search needs)
     (λ c. search needs)
-    (λ c. rw (lt-ltb (c .before .before .args .a) (c .before .before .args .n) (omega arith)) refl)
-    (λ c. rw (le-ltb (c .before .args .a) (c .before .args .n) (omega arith)) refl))
+    (λ c. rw (lt-ltb _ _ (c .before .before .if1 .taken)) refl)
+    (λ c. rw (le-ltb _ _ (c .if1 .left)) refl))

@@ -9,13 +9,13 @@ pub skip-areas-spec : {M : Type 1} → statement M
 skip-areas-spec =
     tie.close
     (tie.spec
-    (λ n e a line b₀ b. Behind n e a line b)
+    (λ n e a line b₀ b. Behind n e a (line .0) b)
     (λ n e a line b₀ b. n - b)
     (λ c. behind-start (c .pre .1))
     (λ c. search needs)
     (λ c. search needs)
-    (λ c. skipped-here (c .before .before .before .loop .inv) (omega arith))
+    (λ c. skipped-here (c .before .before .before .before .loop .inv) (omega arith))
     (λ c. search needs)
     (λ c. search needs)
-    (λ c. behind-more (c .before .before .before .loop .inv) (omega arith) (omega arith))
+    (λ c. behind-more (c .before .before .before .before .loop .inv) (omega arith) (omega arith))
     (λ c. skipped-all (c .before .loop .inv) (omega arith)))

@@ -31,7 +31,8 @@ family-sound-spec =
     rw (ne-eqb _ 0 (c .before .before .before .before .before .before .before .if1 .left), h .ensures .area, not-false (h .result .present) (c .before .before .before .before .if2 .left), ← c .before .is-nowhere .ensures, c .if4 .taken, and-false) refl)
     (λ c κs. search needs)
     (λ c.
-    let h = c .before .before .before .before .before .before .before .header in
-    let u = c .before .before .before .before .is-present in
-    rw (ne-eqb _ 0 (c .before .before .before .before .before .before .before .before .if1 .left), h .ensures .area, not-false (h .result .present) (c .before .before .before .before .before .if2 .left), h .ensures .parent, ← u .ensures, not-false (u .result) (c .before .before .before .if3 .left), ← c .before .before .is-nowhere .ensures, c .before .if4 .left)
-    (c .reaches-root .ensures)))
+    let d = c .before in
+    let h = d .before .before .before .before .before .before .before .header in
+    let u = d .before .before .before .before .is-present in
+    rw (ne-eqb _ 0 (d .before .before .before .before .before .before .before .before .if1 .left), h .ensures .area, not-false (h .result .present) (d .before .before .before .before .before .if2 .left), h .ensures .parent, ← u .ensures, not-false (u .result) (d .before .before .before .if3 .left), ← d .before .before .is-nowhere .ensures, d .before .if4 .left)
+    (c .climb .ensures .rooted)))

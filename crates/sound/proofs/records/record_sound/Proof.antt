@@ -1,7 +1,7 @@
 use mathlib.Core.Path.{refl}
 use borrow.Author.Needs.{needs}
-use borrow.Author.Tests.{not-true, not-false, eq-eqb, ne-eqb}
-use Rattle.sound.specs.Records.{recordTest, record-is, blank-bits}
+use borrow.Author.Tests.{not-true, not-false}
+use Rattle.sound.specs.Records.{recordTest, record-is}
 use Rattle.sound.proofs.records.record_sound.Statement.{statement}
 use Rattle.sound.proofs.records.record_sound.Tie as tie
 
@@ -27,22 +27,23 @@ record-sound-spec =
     let h = d .before .header-sound in
     rw (← record-is, ← h .ensures, not-false (h .result) (d .if1 .left), ← s .ensures, not-false (s .result) (e .if2 .left), ← r .ensures, not-true (r .result) (c .if3 .taken)) refl)
     (λ c κs. search needs)
+    (λ c.
+    let b = c .before .blank-words in
+    let f = c .before .before in
+    let r = f .before .regions-sound in
+    let e = f .before .before in
+    let s = e .before .structures-sound in
+    let d = e .before .before in
+    let h = d .before .header-sound in
+    rw (← record-is, ← h .ensures, not-false (h .result) (d .if1 .left), ← s .ensures, not-false (s .result) (e .if2 .left), ← r .ensures, not-false (r .result) (f .if3 .left), ← b .ensures, not-true (b .result) (c .if4 .taken)) refl)
     (λ c κs. search needs)
     (λ c.
+    let b = c .before .before .blank-words in
     let f = c .before .before .before in
     let r = f .before .regions-sound in
     let e = f .before .before in
     let s = e .before .structures-sound in
     let d = e .before .before in
     let h = d .before .header-sound in
-    rw (← record-is, ← h .ensures, not-false (h .result) (d .if1 .left), ← s .ensures, not-false (s .result) (e .if2 .left), ← r .ensures, not-false (r .result) (f .if3 .left), blank-bits _ _ (c .before .before .word .ensures) (c .before .word2 .ensures), ne-eqb _ 0 (c .if4 .taken)) refl)
-    (λ c κs. search needs)
-    (λ c.
-    let f = c .before .before .before .before in
-    let r = f .before .regions-sound in
-    let e = f .before .before in
-    let s = e .before .structures-sound in
-    let d = e .before .before in
-    let h = d .before .header-sound in
-    rw (← record-is, ← h .ensures, not-false (h .result) (d .if1 .left), ← s .ensures, not-false (s .result) (e .if2 .left), ← r .ensures, not-false (r .result) (f .if3 .left), blank-bits _ _ (c .before .before .before .word .ensures) (c .before .before .word2 .ensures), eq-eqb _ 0 (c .before .if4 .left))
+    rw (← record-is, ← h .ensures, not-false (h .result) (d .if1 .left), ← s .ensures, not-false (s .result) (e .if2 .left), ← r .ensures, not-false (r .result) (f .if3 .left), ← b .ensures, not-false (b .result) (c .before .if4 .left))
     (c .slots-sound .ensures)))

@@ -1,22 +1,23 @@
-use mathlib.Core.Path.{refl, sym}
+use mathlib.Core.Path.{refl, sym, _∙_}
 use borrow.Author.Needs.{needs}
-use borrow.Author.Tests.{eq-eqb, ne-eqb}
-use Rattle.sound.specs.Absent.{zero-clean}
-use Rattle.sound.specs.Records.{wordTest, regions-bits}
+use borrow.Author.Tests.{eqb-true, not-true, not-false}
+use Rattle.sound.specs.Clauses.{s3Regions}
+use Rattle.sound.specs.Records.{regions-empty}
 use Rattle.sound.proofs.records.regions_sound.Statement.{statement}
 use Rattle.sound.proofs.records.regions_sound.Tie as tie
 
 pub regions-sound-spec : {M : Type 1} → statement M
-unfolding wordTest
+unfolding s3Regions
 regions-sound-spec =
     tie.close
     (tie.spec
     (λ c κs. search needs)
-    (λ c. rw (← c .before .word .ensures, c .if1 .taken) (sym (zero-clean 5)))
+    (λ c. sym (regions-empty _ _ (eqb-true _ 0 (sym (c .before .regions-word .ensures) ∙ c .if1 .taken))))
     (λ c κs. search needs)
-    (λ c. rw (regions-bits _ _ (c .before .before .before .word .ensures) (c .before .zero-bits .ensures), ne-eqb _ 0 (c .if2 .taken)) refl)
+    (λ c. let b = c .before .regions-bits in rw (← b .ensures, not-true (b .result) (c .if2 .taken)) refl)
     (λ c κs. search needs)
     (λ c κs. search needs)
     (λ c.
-    rw (regions-bits _ _ (c .before .before .before .before .before .word .ensures) (c .before .before .before .zero-bits .ensures), eq-eqb _ 0 (c .before .before .if2 .left), ← c .before .fields .ensures)
+    let b = c .before .before .before .regions-bits in
+    rw (← b .ensures, not-false (b .result) (c .before .before .if2 .left), ← c .before .regions .ensures .is)
     (c .all-blank .ensures)))

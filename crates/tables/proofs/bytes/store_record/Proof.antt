@@ -1,11 +1,14 @@
 use Prim.Native.Nat.{_-_, _≤_}
+use native.Mathlib.Nat.{add-zero}
 use native.Mathlib.Omega.{arith}
 use Rattle.tables.specs.ByteRecords.{Storing, store-word, store-skip, store-at}
+use Rattle.tables.specs.View.{areaWordAt}
 use borrow.Author.Needs.{needs}
 use Rattle.tables.proofs.bytes.store_record.Statement.{statement}
 use Rattle.tables.proofs.bytes.store_record.Tie as tie
 
 pub store-record-spec : {M : Type 1} → statement M
+unfolding areaWordAt
 store-record-spec =
     tie.close
     (tie.spec
@@ -16,7 +19,7 @@ store-record-spec =
     (λ c. search needs)
     (λ c. search needs)
     (λ c. search needs)
-    (λ c. store-skip _ (c .before .before .before .before .pre .1 .zero _ (c .before .before .before .before .pre .0) (c .if1 .taken)) (c .before .before .before .before .pre .2))
+    (λ c. store-skip _ (c .before .before .before .before .pre .1 .zero _ (c .before .before .before .before .pre .0) (rw add-zero (c .if1 .taken))) (c .before .before .before .before .pre .2))
     (λ c. search needs)
     (λ c. search needs)
     (λ c. search needs)

@@ -1,9 +1,11 @@
 use Rattle.tables.specs.Seen.{see}
+use Rattle.tables.specs.View.{slotWordAt}
 use borrow.Author.Needs.{needs}
 use Rattle.tables.proofs.read.entry.Statement.{statement}
 use Rattle.tables.proofs.read.entry.Tie as tie
 
 pub entry-spec : {M : Type 1} → statement M
+unfolding slotWordAt
 entry-spec =
     tie.close
     (tie.spec

@@ -1,9 +1,11 @@
 use Rattle.tables.specs.Seen.{word-of}
+use Rattle.tables.specs.View.{slotWordAt}
 use borrow.Author.Needs.{needs}
 use Rattle.tables.proofs.read.entry_word.Statement.{statement}
 use Rattle.tables.proofs.read.entry_word.Tie as tie
 
 pub entry-word-spec : {M : Type 1} → statement M
+unfolding slotWordAt
 entry-word-spec =
     tie.close
     (tie.spec

@@ -1,9 +1,11 @@
 use Rattle.tables.specs.Seen.{see-first}
+use Rattle.tables.specs.View.{firstWord}
 use borrow.Author.Needs.{needs}
 use Rattle.tables.proofs.read.first.Statement.{statement}
 use Rattle.tables.proofs.read.first.Tie as tie
 
 pub first-spec : {M : Type 1} → statement M
+unfolding firstWord
 first-spec =
     tie.close
     (tie.spec

@@ -1,10 +1,12 @@
 use Rattle.tables.specs.Seen.{see-header}
 use native.Mathlib.Nat.{add-zero}
+use Rattle.tables.specs.View.{areaWordAt}
 use borrow.Author.Needs.{needs}
 use Rattle.tables.proofs.read.header.Statement.{statement}
 use Rattle.tables.proofs.read.header.Tie as tie
 
 pub header-spec : {M : Type 1} → statement M
+unfolding areaWordAt
 header-spec =
     tie.close
     (tie.spec

@@ -1,9 +1,11 @@
 use Rattle.tables.specs.Seen.{see-regions}
+use Rattle.tables.specs.View.{regionsWordAt}
 use borrow.Author.Needs.{needs}
 use Rattle.tables.proofs.read.regions.Statement.{statement}
 use Rattle.tables.proofs.read.regions.Tie as tie
 
 pub regions-spec : {M : Type 1} → statement M
+unfolding regionsWordAt
 regions-spec =
     tie.close
     (tie.spec

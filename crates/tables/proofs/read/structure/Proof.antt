@@ -5,11 +5,13 @@ use lib.ListN.{getD}
 use Rattle.words.specs.Kind.{fieldsIn}
 use Rattle.words.specs.Words.{structure}
 use native.Mathlib.Omega.{arith}
+use Rattle.tables.specs.View.{areaWordAt}
 use borrow.Author.Needs.{needs}
 use Rattle.tables.proofs.read.structure.Statement.{statement}
 use Rattle.tables.proofs.read.structure.Tie as tie
 
 pub structure-spec : {M : Type 1} → statement M
+unfolding areaWordAt
 structure-spec =
     tie.close
     (tie.spec

@@ -23,7 +23,7 @@ settle-spec =
     μ-loop
     (λ c κs. (refl, refl))
     (λ c. settle-start (c .before .before .before .before .pre))
-    (λ c κs. can-settle (c .before .before .before .before .loop .inv .is) (omega arith) (c .before .before .before .before .before .gather-areas .ensures))
+    (λ c κs. can-settle (c .before .before .before .before .loop .inv .is) (omega arith) (c .before .before .before .before .before .gather-areas .ensures .areas))
     (λ c. search needs)
     (λ c. search needs)
     (λ c. settle-more (c .before .before .before .before .before .loop .inv) (omega arith) (c .settle-record .ensures))
