@@ -3,6 +3,7 @@
 # make lib:     proves the library and puts it, with its header, into build/.
 # make example: builds and runs examples/handset.c with it.
 # make bench:   the library against the second program, as quotients of their times, where x86-64 is only emulated also of their instructions.
+# make arm, arm-run, arm-bench: the library for Cortex-M, the example on an emulated board, instructions counted there (arm/arm.mk).
 # make soak:    compares the library with the second program for MINUTES=10 from SEED=1 on, memory checked.
 .PHONY: test run lib example bench soak
 
@@ -35,3 +36,4 @@ soak: export MINUTES ?= 10
 soak:
 	@tests/soak
 
+include arm/arm.mk

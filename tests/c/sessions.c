@@ -4,10 +4,12 @@
  *   sessions FOLDER COUNT SEED
  *
  * Files are FOLDER/000, 001, ... The first ones are at the edges: nothing, a boot word cut short, with a zero
- * bit set, of no line, turned round, of all memory. The others are steered; some have bytes left over.
+ * bit set, of no line, turned round, of all memory. 012 is the session that 01 prints, 013 makes the densest table
+ * and clears out all 15 partitions below its root. The others are steered; some have bytes left over.
  */
 #include "session.h"
 #include "steer.h"
+#include "tables.h"
 
 #include <stdio.h>
 #include <stdlib.h>
@@ -59,6 +61,33 @@ static void put_printed(FILE *out)
         put_word(out, session[i].word);
 }
 
+/* A kernel that writes down what it is asked. */
+static FILE *record;
+
+static uint64_t boot_recorded(uint8_t *t, uint64_t len, uint64_t base, uint64_t end)
+{
+    put_word(record, boot_word(base, end));
+    return second_boot(t, len, base, end);
+}
+
+static uint64_t call_recorded(uint8_t *t, uint64_t len, uint64_t word, uint64_t *second)
+{
+    put_word(record, word);
+    return second_call(t, len, word, second);
+}
+
+/* The densest table is a chain: from its last partition up to the root, which clears out its one child. */
+static bool put_branch(FILE *out)
+{
+    const kernel recorded = {boot_recorded, call_recorded, NULL, NULL};
+    uint64_t second;
+    record = out;
+    bool good = make_densest(&recorded, table);
+    for (uint32_t p = SECOND_PARTITIONS - 1; p > 0; p--)
+        good = (call_recorded(table, sizeof table, ulavrepit_switch(p - 1), &second) & 0xff) == 0 && good;
+    return call_recorded(table, sizeof table, ulavrepit_clear_out(1), &second) >> 32 == SECOND_PARTITIONS - 1 && good;
+}
+
 /* What comes before the calls of an edge file. */
 static const struct {
     uint64_t word;
@@ -86,15 +115,18 @@ static bool write_file(const char *folder, unsigned number)
     const unsigned edge_files = sizeof edges / sizeof *edges;
     snprintf(path, sizeof path, "%s/%03u", folder, number);
     FILE *out = fopen(path, "wb");
+    bool good = true;
     if (out == NULL)
         return false;
     if (number < edge_files)
         put_edge(out, number);
     else if (number == edge_files)
         put_printed(out);
+    else if (number == edge_files + 1)
+        good = put_branch(out);
     else
         put_session(out);
-    return fclose(out) == 0;
+    return fclose(out) == 0 && good;
 }
 
 int main(int count, char **words)

@@ -1,42 +1,18 @@
 /*
- * How deep the stack of each function goes, found by painting: the function runs on a stack of its own that was
- * filled with one byte, and the lowest byte that changed tells. Once with each of two bytes, since a function
+ * How deep the stack of each function goes, found by painting (paint.h), once with each of two bytes, since a function
  * may write the one that stood there. A line for each check, with the number; what the library uses includes
  * the few bytes by which the stack is entered.
  */
-#define _XOPEN_SOURCE 700
 #include "check.h"
 #include "lent.h"
 #include "most_runs.h"
+#include "paint.h"
 #include "session.h"
 #include "tables.h"
 
-#include <ucontext.h>
+enum { LIMIT = 16384, KNOWN = 20480, ENTERING = 1024 };
 
-enum { LIMIT = 16384, STACK = 65536, KNOWN = 20480, ENTERING = 1024 };
-
-static uint8_t stack[STACK];
 static const kernel library = {ulavrepit_boot, ulavrepit_call, ulavrepit_holders, ulavrepit_runs};
-
-/* ---- painting ---- */
-
-static size_t painted_depth(void (*work)(void), uint8_t paint)
-{
-    ucontext_t here, there;
-    size_t lowest = 0;
-    memset(stack, paint, STACK);
-    if (getcontext(&there) != 0)
-        return STACK;
-    there.uc_stack.ss_sp = stack;
-    there.uc_stack.ss_size = STACK;
-    there.uc_link = &here;
-    makecontext(&there, work, 0);
-    if (swapcontext(&here, &there) != 0)
-        return STACK;
-    while (lowest < STACK && stack[lowest] == paint)
-        lowest++;
-    return STACK - lowest;
-}
 
 /* Work is done twice, so it begins by putting its memory back. */
 static size_t depth_of(void (*work)(void))
@@ -178,15 +154,14 @@ static bool move_up(unsigned levels)
 
 static void say_depth(unsigned which, const char *name)
 {
-    char text[100];
-    snprintf(text, sizeof text, "%s: %zu bytes of stack, at most %d", name, deepest[which], LIMIT);
-    check(deepest[which] > 0 && within_limit(deepest[which]), text);
+    bool good = deepest[which] > 0 && within_limit(deepest[which]);
+    printf("%s %s: %zu bytes of stack, at most %u\n", good ? "ok" : "not ok", name, deepest[which], (unsigned)LIMIT);
 }
 
 int main(void)
 {
     size_t nothing = depth_of(do_nothing), known = depth_of(use_known);
-    check(nothing > 0 && nothing < ENTERING, "painting: next to nothing for a function that does nothing");
+    check(nothing < ENTERING, "painting: next to nothing for a function that does nothing");
     check(known >= KNOWN && known < KNOWN + ENTERING, "painting: 20 KiB for a function that uses 20 KiB");
     check(!within_limit(known) && within_limit(LIMIT) && !within_limit(LIMIT + 1), "20 KiB would be too much");
 

@@ -1,0 +1,121 @@
+# make arm:       the library for Cortex-M, build/arm/PROCESSOR/libulavrepit.a, and its header build/arm/ulavrepit.h.
+# make arm-run:   examples/handset.c on an emulated board with a Cortex-M3.
+# make arm-bench: the instructions that each function takes on each processor, counted in the emulator.
+# make firmware:  examples/firmware on that board: a kernel, two tasks, and a fault of the MPU.
+# ARM_ACCESS=any with each of them: a library that may read and write at any address, for a Cortex-M3, M4 or M33 that allows it;
+# it stands in build/arm-any.
+# make native:    the same for the processor at hand, build/native/libulavrepit.a: where x86-64 is only emulated, that is what is
+# timed and compared at length (tests/lib.sh, use_native).
+# The LLVM module that the back end makes of the proved crates is compiled a second time, by the kit's own clang. docs/ARM.md
+# says what of that is proved, what is tested and what is believed.
+.PHONY: arm arm-run arm-bench firmware native
+
+ARM_ACCESS ?= aligned
+arm_folder_aligned := build/arm
+arm_folder_any := build/arm-any
+arm_build := $(or $(arm_folder_$(ARM_ACCESS)),$(error ARM_ACCESS is '$(ARM_ACCESS)', and neither aligned nor any))
+arm_processors := $(if $(filter aligned,$(ARM_ACCESS)),cortex-m0) cortex-m3 cortex-m4 cortex-m33
+arm_bin = $(shell bash -c '. tests/lib.sh && kit_bin')
+
+arm: $(arm_processors:%=$(arm_build)/%/libulavrepit.a) $(arm_build)/ulavrepit.h
+
+arm-run: $(arm_build)/cortex-m3/handset.elf
+	@arm/emulate cortex-m3 $<
+
+arm-bench: $(arm_processors:%=$(arm_build)/%/rows.elf)
+	@arm/bench $(arm_build) $(arm_processors)
+
+# ---- the library
+
+# No register of a floating-point unit, no instruction that a processor of that name may lack: firmware may have none, or have
+# it switched off. Likewise, unless asked for, no access at an address that is not aligned.
+arm_target_cortex-m0 := --target=thumbv6m-none-eabi -mcpu=cortex-m0
+arm_target_cortex-m3 := --target=thumbv7m-none-eabi -mcpu=cortex-m3
+arm_target_cortex-m4 := --target=thumbv7em-none-eabi -mcpu=cortex-m4+nofp
+arm_target_cortex-m33 := --target=thumbv8m.main-none-eabi -mcpu=cortex-m33+nofp+nodsp
+arm_flags := -mfloat-abi=soft --no-default-config
+arm_access_aligned := -mno-unaligned-access
+arm_access_any := -munaligned-access
+arm_library_access = $(arm_access_$(ARM_ACCESS))
+
+# As the kit compiles it for x86-64, and with a list of the functions' frames.
+arm_library_flags := -O3 -ffunction-sections -fdata-sections -mllvm -trap-unreachable -mllvm -no-trap-after-noreturn \
+    -Werror -Wno-override-module -fstack-usage
+
+# The archive that is made on the way is that of make lib: so the module is that of the proved library.
+arm_module := build/arm/board.ll
+$(arm_module): build/libulavrepit.a arm/capture arm/gives_archive arm/known.awk
+	@mkdir -p $(@D)
+	@arm/capture $@
+	@cmp target/staticlib/libboard.a $<
+
+# The library passes no floating-point number to anybody. The attribute tells linkers: they would refuse it in firmware that
+# passes them in registers.
+arm_attribute := .eabi_attribute 28, 3
+$(arm_build)/%/libulavrepit.a: $(arm_module) arm/arm.mk arm/stack.awk arm/recursion.txt
+	@mkdir -p $(@D)
+	@{ cat $< && echo 'module asm "$(arm_attribute)"'; } >$(@D)/board.ll
+	@$(arm_bin)/clang $(arm_target_$*) $(arm_flags) $(arm_library_access) $(arm_library_flags) -S -x ir $(@D)/board.ll -o $(@D)/board.s
+	@$(arm_bin)/clang $(arm_target_$*) $(arm_flags) -c $(@D)/board.s -o $(@D)/board.o
+	@awk -f arm/stack.awk arm/recursion.txt $(@D)/board.su $(@D)/board.s >$(@D)/stack.txt
+	@rm -f $@
+	@$(arm_bin)/llvm-ar rcs $@ $(@D)/board.o
+
+$(arm_build)/ulavrepit.h: include/ulavrepit.h
+	@mkdir -p $(@D)
+	@cp $< $@
+
+native: build/native/libulavrepit.a build/ulavrepit.h
+
+build/native/libulavrepit.a: $(arm_module) arm/arm.mk
+	@mkdir -p $(@D)
+	@$(arm_bin)/clang --target=$$(uname -m)-unknown-linux-gnu --no-default-config $(arm_library_flags) -fPIC -c -x ir $< -o $(@D)/board.o
+	@rm -f $@
+	@$(arm_bin)/llvm-ar rcs $@ $(@D)/board.o
+
+# ---- programs for the emulator: build/arm/PROCESSOR/NAME.elf
+
+arm_sources_handset := examples/handset.c
+arm_sources_replay := arm/replay.c
+arm_sources_rows := arm/rows.c tests/c/tables.c
+arm_sources_stack := tests/c/stack.c arm/board/paint.c tests/c/tables.c tests/c/damage.c tests/c/most_runs.c tests/c/steer.c second/kernel.c
+arm_sources_compare := tests/c/compare.c tests/c/damage.c tests/c/most_runs.c tests/c/steer.c second/kernel.c
+
+# The emulated board with a Cortex-M0 has too little memory for most: that library runs on the one with a Cortex-M3, which has
+# all its instructions.
+arm_c_target = $(arm_target_$(patsubst cortex-m0,cortex-m3,$(*D)))
+arm_memory = $(if $(filter cortex-m33,$(*D)),mps2-an505,mps2-an385)
+arm_c_flags := -std=c99 -O2 -ffunction-sections -Wall -Wextra -Werror -ffreestanding -fno-builtin \
+    -I$(arm_build)/include -I$(arm_build) -Iarm/board -Isecond -Itests/c
+
+arm_headers := $(patsubst %,$(arm_build)/include/%.h,inttypes stdbool stddef stdint stdio stdlib string)
+$(arm_headers): $(arm_build)/include/%.h: arm/board/libc.h
+	@mkdir -p $(@D)
+	@cp $< $@
+
+# ARM_STACK=bytes: with a stack of another size.
+arm_compile = $(arm_bin)/clang $(arm_flags) $(arm_access_$(ARM_ACCESS)) $(arm_c_flags) -nostdlib --ld-path=$(arm_bin)/ld.lld -Larm/board \
+    -Wl,-e,reset,--gc-sections arm/board/libc.c
+arm_link = $(arm_compile) arm/board/start.c
+arm_needs := $(arm_build)/ulavrepit.h $(arm_headers) arm/arm.mk $(wildcard arm/board/*)
+
+.SECONDEXPANSION:
+$(arm_build)/%.elf: $(arm_build)/$$(*D)/libulavrepit.a $(arm_needs) $$(arm_sources_$$(*F))
+	@$(arm_link) $(arm_c_target) -T arm/board/$(arm_memory).ld -Wl,--defsym=stack_bytes=$(or $(ARM_STACK),65536) $(arm_sources_$(*F)) $< -o $@
+
+# The example fits into the 16 KiB of the emulated board that has a Cortex-M0.
+$(arm_build)/cortex-m0/microbit.elf: $(arm_build)/cortex-m0/libulavrepit.a $(arm_needs) examples/handset.c
+	@$(arm_link) $(arm_target_cortex-m0) -T arm/board/microbit.ld -Wl,--defsym=stack_bytes=$(or $(ARM_STACK),8192) examples/handset.c $< -o $@
+
+# ---- examples/firmware: an image with vectors and memory of its own, of FIRMWARE into FIRMWARE_IMAGE
+
+FIRMWARE := examples/firmware/firmware.c
+FIRMWARE_IMAGE := $(arm_build)/cortex-m3/firmware.elf
+
+firmware: $(FIRMWARE_IMAGE)
+	@arm/emulate cortex-m3 $<
+
+$(FIRMWARE_IMAGE): $(FIRMWARE) examples/firmware/firmware.ld $(arm_build)/cortex-m3/libulavrepit.a $(arm_needs)
+	@$(arm_compile) $(arm_target_cortex-m3) -T examples/firmware/firmware.ld $< $(arm_build)/cortex-m3/libulavrepit.a -o $@
+
+.DELETE_ON_ERROR:
