@@ -6,3 +6,5 @@ pub mod Listings
 pub mod Calls
 pub mod Written
 pub mod Theorem
+pub mod Branch
+pub mod BranchProof
