@@ -42,12 +42,11 @@ arm_library_access = $(arm_access_$(ARM_ACCESS))
 arm_library_flags := -O3 -ffunction-sections -fdata-sections -mllvm -trap-unreachable -mllvm -no-trap-after-noreturn \
     -Werror -Wno-override-module -fstack-usage
 
-# The archive that is made on the way is that of make lib: so the module is that of the proved library.
+# build/board.bc is made with the archive.
 arm_module := build/arm/board.ll
-$(arm_module): build/libulavrepit.a arm/capture arm/gives_archive arm/known.awk
+$(arm_module): build/libulavrepit.a arm/as_text arm/gives_archive arm/known.awk
 	@mkdir -p $(@D)
-	@arm/capture $@
-	@cmp target/staticlib/libboard.a $<
+	@arm/as_text build/board.bc $< $@
 
 # The library passes no floating-point number to anybody. The attribute tells linkers: they would refuse it in firmware that
 # passes them in registers.

@@ -5,6 +5,7 @@
 #   finish                  prints 'N passed, M failed' and ends the test
 #   $room                   a folder of its own, removed when it ends
 #   step NAME COMMAND..     a command that is to end well; where it does not, the test ends
+#   make_alone WORDS.., rt_alone WORDS..  make and rt, for what tests share in build/ and target/: no other test does so then
 #   target_cc WORDS..       the C compiler that makes x86-64 programs; target_cxx: the one for C++;
 #                           target_nm: the one that lists names
 #   strict_c                words for it: C99 without a warning
@@ -53,6 +54,10 @@ step() { # NAME COMMAND..
         finish
     fi
 }
+
+# Tests run side by side, and neither command may run twice at once in one folder. Who has both waits for make's turn first.
+make_alone() { flock Makefile make --no-print-directory "$@"; }
+rt_alone() { flock crates.txt rt "$@"; }
 
 # shellcheck disable=SC2034 # for the tests
 strict_c=(-std=c99 -O2 -Wall -Wextra -Werror -pedantic)
@@ -106,7 +111,7 @@ compiler=target_cc library=build/libulavrepit.a runner=run_x86
 run_native() { "$@"; }
 use_native() {
     compiler=cc library=build/native/libulavrepit.a runner=run_native
-    make --no-print-directory native
+    make_alone native
 }
 
 # Runs a program that rt linked: it loads a C library, on Arm the kit's, as rt itself has it do.
@@ -170,9 +175,11 @@ planted() { # FUNCTION OLD NEW
 
 # Proving takes minutes, and a reader should know what is waited for. Says on stderr at once that something is to be
 # proved, and passes on rt's line for each crate as it is proved; nothing where nothing has to be. All that rt said is
-# shown where it failed.
+# shown where it failed. It waits its turn, as rt_alone does.
+# shellcheck disable=SC2094 # the file is there to be locked, and is read
 prove_first() { # CRATE COMMAND..
     local name line new='' told=''
+    flock 9
     # shellcheck disable=SC2013 # words, not lines
     for name in $(sed -n "s/^$1:\(.*\)/\1 $1/p" crates.txt); do
         if [ -d "crates/$name" ] && [ ! -f "target/stamp/$name" ]; then new+=" $name"; fi
@@ -196,4 +203,4 @@ prove_first() { # CRATE COMMAND..
         [ -z "$line" ] || printf '%s\n' "$line" >&2
     done < <("${@:2}" 2>&1 && touch "$room/proved")
     [ -f "$room/proved" ] || { cat "$room/said" >&2; return 1; }
-}
+} 9<crates.txt
