@@ -69,6 +69,7 @@ FNR == 1 {
 /^attributes / { gsub(/"probe-stack"="inline-asm"/, ""); if (/"/) refuse("a function asks for something"); next }
 /^(source_filename = |!|;|$)/ { next }
 /^declare void @llvm\.(memmove\.p0\.p0|memset\.p0)\.i64\(/ { next }
+/^declare i32 @llvm\.cttz\.i32\(i32, i1 immarg\) / { next }
 /^define / {
     read_call()
     f = name
@@ -104,6 +105,11 @@ FNR == 1 {
 }
 / call / {
     read_call()
+    # The count of the trailing zeros of a number; 'false' says that it is 32 for 0, 'true' that it may be anything.
+    if (name ~ /^@llvm\.cttz/) {
+        if (!/ call i32 @llvm\.cttz\.i32\(i32 %[ar][0-9]+, i1 false\)$/) refuse("trailing zeros that are not known")
+        next
+    }
     if (name ~ /^@llvm\./ && !/@llvm\.(memmove\.p0\.p0|memset\.p0)\.i64\(ptr %[ar][0-9]+, (ptr %[ar][0-9]+|i8 0), i64 [0-9]+, i1 false\)$/)
         refuse("size not known")
     if (name ~ /^@llvm\.memmove/ && kind_of(last_word(operand[1])) == "pair" && kind_of(last_word(operand[2])) == "pair" && operand[3] == "i64 16") next

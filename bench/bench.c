@@ -202,11 +202,11 @@ static void table_rows(const char *const names[4], uint64_t line)
     report(do_runs, &running, 1);
 }
 
-/* A cut and the merge that undoes it, on the table as it is; the new piece goes to the slot that is free. */
-static void cut_row(const char *name, uint32_t slot, uint32_t line, uint32_t free_slot)
+/* A call and the one that undoes it, on the table as it is. */
+static void undone_row(const char *name, uint64_t word, uint64_t undoing)
 {
-    job cutting = {name, {ulavrepit_cut(slot, line), ulavrepit_merge(slot, free_slot)}, 0, ULAVREPIT_DONE};
-    report(do_calls, &cutting, WORDS);
+    job both = {name, {word, undoing}, 0, ULAVREPIT_DONE};
+    report(do_calls, &both, WORDS);
 }
 
 /* Every row, on its table. */
@@ -223,12 +223,13 @@ static void rows(void)
     report(do_boot, &booting, 1);
     have_table(make_fresh, "the fresh table");
     table_rows(fresh, 300);
-    cut_row("cut and merge, fresh", 0, 512, 1);
+    undone_row("cut and merge, fresh", ulavrepit_cut(0, 512), ulavrepit_merge(0, 1));
 
     have_table(make_typical, "the typical table");
     report(do_calls, &refused_word, WORDS);
     table_rows(typical, 8000);
-    cut_row("cut and merge, typical", 10, 8000, 11);
+    undone_row("cut and merge, typical", ulavrepit_cut(10, 8000), ulavrepit_merge(10, 11));
+    undone_row("give and take, typical", ulavrepit_give(1, 10, ULAVREPIT_READ), ulavrepit_take(10));
     table[sizeof table - 1] ^= 1;
     report(do_calls, &refused_table, WORDS);
 

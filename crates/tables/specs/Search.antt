@@ -2,12 +2,13 @@
 use mathlib.Core.Path.{_≡_, refl, sym, _∙_}
 use mathlib.Core.Bool.{Bool, true, false, cond, not, _&&_}
 use mathlib.Core.Logic.{inl, inr}
-use Prim.Native.Nat.{ℕ, _+_, _/_, _<_}
+use Prim.Native.Nat.{ℕ, _+_, _*_, _/_, _≤_, _<_}
 use native.Mathlib.Omega.{arith}
 use lib.Dec.{leb, ltb, eqb}
 use borrow.Author.Tests.{ne-eqb}
 use Rattle.loops.specs.Scan.{seek, seek-law, Sought, NoneBelow}
 use Rattle.loops.specs.Every.{any}
+use Rattle.loops.specs.Map.{mapFrom, map-none}
 use Rattle.words.specs.declared.header_word.HeaderFields.{HeaderFields}
 use Rattle.words.specs.declared.slot_word.SlotFields.{SlotFields}
 use Rattle.words.specs.declared.structure_word.StructureFields.{StructureFields}
@@ -103,3 +104,15 @@ structure-some f = some-if (f .present) _
 pub absent-child : (k : K) (n : ℕ) → 0 < n → absentChild k n ≡ not (present k n)
 unfolding absentChild absent present
 absent-child k n h = rw (ne-eqb n 0 (λ z. omega arith)) refl
+
+-- ── the slots of structure j ──
+module _ (k : K) (p j : ℕ) where
+  -- where it is absent none is free
+  pub absent-free : isSome (k .area p (1 + j)) ≡ false → 0 ≡ mapFrom (free k p) (8 * j) 8
+  unfolding free
+  absent-free q = map-none (free k p) (8 * j) 8 (λ i a b. let z : i / 8 ≡ j = omega arith in rw (z, q) refl)
+
+  -- where it is present those without an entry are
+  pub empty-free : (i : ℕ) → isSome (k .area p (1 + j)) ≡ true → i / 8 ≡ j → isNone (k .slot p i) ≡ free k p i
+  unfolding free
+  empty-free i q z = rw (z, q) refl

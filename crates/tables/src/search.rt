@@ -1,7 +1,9 @@
 ghost use mathlib.Core.Path.{_≡_};
-ghost use Prim.Native.Nat.{_<_};
+ghost use Prim.Native.Nat.{_*_, _≤_, _<_};
+ghost use Rattle.loops.specs.Bit.{bitOf};
+ghost use Rattle.loops.specs.Map.{mapFrom, mapOf};
 ghost use Rattle.tables.specs.View.{view};
-ghost use Rattle.tables.specs.Search.{lowest, present, child, hasChild, absentChild, noStructure, free, holds, holdsAt};
+ghost use Rattle.tables.specs.Search.{lowest, present, child, hasChild, absentChild, noStructure, isNone, free, holds, holdsAt};
 ghost use Rattle.tables.specs.Answers.{foundOf, whichOf, structureOf};
 use crate::Found;
 use crate::Structure;
@@ -78,32 +80,57 @@ pub fn absent_structure(t: &[u64; 641], p: Partition) -> Structure
     Structure::Full
 }
 
-// slot i of p is free: its structure is present and its word is zero
-fn is_free(t: &[u64; 641], p: Partition, i: Slot) -> bool
+// 1 where slot i of p has no entry, 0 where it has one
+fn empty_bit(t: &[u64; 641], p: Partition, i: Slot) -> u32
     requires { ⌜ (p .0 < 16) × (i .0 < 32) ⌝ }
-    ensures { λ r. ⌜ r ≡ free (view (now (t .entry)) .k) (p .0) (i .0) ⌝ }
+    ensures { λ r. ⌜ (r ≡ bitOf (isNone (view (now (t .entry)) .k .slot (p .0) (i .0)))) × (r ≤ 1) ⌝ }
 {
-    let s = crate::read::structure(t, p, i.0 / 8);
-    if !s.present {
-        return false;
-    }
     let f = crate::read::entry(t, p, i);
-    !f.present
+    if f.present { 0 } else { 1 }
 }
 
-// the lowest free slot of p
+// Byte j of the map, from its last slot down: each turn moves what is there one bit up and puts the next slot below it.
+// No slot of an absent structure is free, which one test tells.
+fn free_byte(t: &[u64; 641], p: Partition, j: u32) -> u32
+    requires { ⌜ (p .0 < 16) × (j < 4) ⌝ }
+    ensures { λ r. ⌜ (r ≡ mapFrom (free (view (now (t .entry)) .k) (p .0)) (8 * j) 8) × (r < 256) ⌝ }
+{
+    let s = crate::read::structure(t, p, j);
+    if !s.present {
+        return 0;
+    }
+    let mut byte = 0u32;
+    let mut i = 8 * j + 8;
+    while i > 8 * j {
+        byte = 2 * byte + empty_bit(t, p, Slot(i - 1));
+        i -= 1;
+    }
+    byte
+}
+
+// The free slots of p as a map of 32 bits: bit i, bit 0 the least significant, is 1 where slot i is free. A slot is free if its structure is
+// present and it has no entry. Structure j has slots 8 j to 8 j + 7, and so byte j of the map.
+// Say structures 0 and 2 are present, and slots 0 to 7, 16 and 18 have entries. Byte 0 is 00: all its slots are taken. Bytes 1 and 3 are 00:
+// their structures are absent. Byte 2 is fa, in bits 1111 1010: of slots 23 down to 16 all are free but 18 and 16. The map is 0x00fa0000.
+fn free_map(t: &[u64; 641], p: Partition) -> u32
+    requires { ⌜ p .0 < 16 ⌝ }
+    ensures { λ r. ⌜ r ≡ mapOf 32 (free (view (now (t .entry)) .k) (p .0)) ⌝ }
+{
+    free_byte(t, p, 0)
+        + 256 * (free_byte(t, p, 1) + 256 * (free_byte(t, p, 2) + 256 * free_byte(t, p, 3)))
+}
+
+// The lowest free slot of p is the count of the trailing zeros of that map: 0x00fa0000 ends in 17 zeros, so slot 17. Where no slot is free
+// the map is 0, and the count 32.
 pub fn free_slot(t: &[u64; 641], p: Partition) -> Found
     requires { ⌜ p .0 < 16 ⌝ }
     ensures { λ r. ⌜ r ≡ foundOf (lowest 32 (free (view (now (t .entry)) .k) (p .0))) ⌝ }
 {
-    let mut i = 0u32;
-    while i < 32 {
-        if is_free(t, p, Slot(i)) {
-            return Found::At(Slot(i));
-        }
-        i += 1;
+    let i = u32::trailing_zeros(free_map(t, p));
+    if i == 32 {
+        return Found::Nothing;
     }
-    Found::Nothing
+    Found::At(Slot(i))
 }
 
 // slot i of p holds the line

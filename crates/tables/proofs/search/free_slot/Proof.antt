@@ -1,32 +1,17 @@
-use mathlib.Core.Path.{ap, sym, _∙_}
-use Prim.Native.Nat.{_-_}
-use Rattle.loops.specs.Scan.{Seeking, seek-start, seek-hit, seek-on, seek-end}
+use mathlib.Core.Path.{ap}
+use Rattle.loops.specs.Map.{zeros-none, zeros-first}
 use Rattle.tables.specs.State.{none, some}
-use Rattle.tables.specs.View.{view}
-use Rattle.tables.specs.Search.{lowest, free}
+use Rattle.tables.specs.Search.{lowest}
 use Rattle.tables.specs.Answers.{foundOf}
-use native.Mathlib.Omega.{arith}
 use borrow.Author.Needs.{needs}
 use Rattle.tables.proofs.search.free_slot.Statement.{statement}
 use Rattle.tables.proofs.search.free_slot.Tie as tie
-
-abbrev Inv-loop : tie.InvT-loop
-Inv-loop t p i₀ i = Seeking (free (view t .k) (p .0)) some none 32 i
-
-abbrev μ-loop : tie.MeasureT-loop
-μ-loop t p i₀ i = 32 - i
 
 pub free-slot-spec : {M : Type 1} → statement M
 unfolding lowest foundOf
 free-slot-spec =
     tie.close
     (tie.spec
-    Inv-loop
-    μ-loop
-    (λ c. seek-start)
     (λ c κs. search needs)
-    (λ c. ap foundOf (seek-hit (c .before .before .before .loop .inv) (omega arith) (sym (c .before .is-free .ensures) ∙ c .if1 .taken)))
-    (λ c. search needs)
-    (λ c. search needs)
-    (λ c. seek-on (c .before .before .before .loop .inv) (omega arith) (sym (c .before .is-free .ensures) ∙ c .if1 .left))
-    (λ c. ap foundOf (seek-end (c .before .loop .inv) (omega arith))))
+    (λ c. ap foundOf (zeros-none 32 _ (c .before .free-map .ensures) some none (c .if1 .taken)))
+    (λ c. ap foundOf (zeros-first 32 _ (c .before .free-map .ensures) some none (c .if1 .left))))
