@@ -46,7 +46,7 @@ pub extern "C" fn ulavrepit_call(table: &mut [u8], word: u64, second: &mut u64) 
     }
     let mut a = [0u64; 641];
     tables::bytes::load(table, &mut a);
-    let answer = services::calls::call_table(&mut a, word);
+    let answer = services::calls::call_table(&mut a, 16, word);
     let caller = answer.caller;
     let outcome = answer.outcome;
     match outcome {
@@ -76,7 +76,7 @@ pub extern "C" fn ulavrepit_holders(
     }
     let mut a = [0u64; 641];
     tables::bytes::load(table, &mut a);
-    let outcome = sound::holders::holders_table(&a, line, list);
+    let outcome = sound::holders::holders_table(&a, 16, line, list);
     match outcome {
         Outcome::Done(first, value) => {
             *second = value;

@@ -1,6 +1,7 @@
 ghost use mathlib.Core.Path.{_≡_};
 ghost use lib.ListN.{length};
 ghost use Prim.Native.Nat.{_<_};
+ghost use Rattle.tables.specs.Top.{Top};
 ghost use Rattle.runs.specs.Marks.{runAt};
 ghost use Rattle.runs.specs.Listing.{refusal, planOf, marksIn};
 use crate::Run;
@@ -24,13 +25,13 @@ fn refuse(why: u64) -> Plan
 }
 
 // Refused: 1 not a sound table, 17 a list shorter than the runs. Of a sound table the marks are made in any case.
-pub fn plan_of(t: &[u64; 641], size: usize, marks: &mut [u32; 513]) -> Plan
-    requires { ⌜ length (now marks) ≡ 513 ⌝ }
+pub fn plan_of(t: &[u64; 641], top: u32, size: usize, marks: &mut [u32; 513]) -> Plan
+    requires { ⌜ Top (now t) top × (length (now marks) ≡ 513) ⌝ }
     ensures { λ r. ⌜ (r ≡ planOf (now (t .entry)) size) × (now (marks .exit) ≡ marksIn (now (t .entry)) (now (marks .entry))) ⌝ }
 {
     let mut order = [0u8; 512];
     let mut counts = [0u32; 16];
-    if !sound::decide::is_ordered(t, &mut order, &mut counts) {
+    if !sound::decide::is_ordered(t, top, &mut order, &mut counts) {
         return refuse(1);
     }
     let n = crate::walk::mark_runs(t, &order, marks);

@@ -4,6 +4,7 @@ ghost use Rattle.words.specs.Kind.{reading};
 ghost use Rattle.words.specs.Words.{call};
 ghost use Rattle.words.specs.Fields.{SmallCall};
 ghost use Rattle.tables.specs.View.{view};
+ghost use Rattle.tables.specs.Top.{Top};
 ghost use Rattle.tables.specs.Encode.{Canon};
 ghost use Rattle.sound.specs.Whole.{Right};
 ghost use Rattle.services.specs.Rules.{noRights, unused, known, perform, serve, serveRead};
@@ -133,10 +134,11 @@ fn serve_word(t: &mut [u64; 641], word: u64) -> Outcome
 }
 
 // A call on the words of a table that stands in an array: `call` without its length and its copies.
-pub fn call_table(t: &mut [u64; 641], word: u64) -> Answer
+pub fn call_table(t: &mut [u64; 641], top: u32, word: u64) -> Answer
+    requires { ⌜ Top (now t) top ⌝ }
     ensures { λ r. ⌜ Answers (now (t .entry)) word r (now (t .exit)) ⌝ }
 {
-    if !sound::decide::is_sound(t) {
+    if !sound::decide::is_sound(t, top) {
         return Answer {
             caller: Partition(0),
             outcome: Outcome::Refused(1),

@@ -38,7 +38,7 @@ pub fn call(t: &mut [u64], word: u64) -> Answer
     }
     let mut a = [0u64; 641];
     tables::copies::copy_in(t, &mut a);
-    let answer = calls::call_table(&mut a, word);
+    let answer = calls::call_table(&mut a, 16, word);
     let outcome = answer.outcome;
     if let Outcome::Done(_, _) = outcome {
         tables::copies::copy_out(&a, t);

@@ -2,16 +2,18 @@
 use mathlib.Core.Path.{_≡_, refl, sym, _∙_}
 use mathlib.Core.Bool.{Bool, true, false, not, _&&_, false≢true}
 use mathlib.Core.List.{List}
-use Prim.Native.Nat.{ℕ, _<_}
-use native.Mathlib.Decide.{ℕ-discrete}
+use Prim.Native.Nat.{ℕ, _≤_, _<_}
+use native.Mathlib.Decide.{ℕ-discrete, decLt}
+use native.Mathlib.Omega.{arith}
 use lib.ListN.{length}
-use lib.Dec.{eqb}
+use lib.Dec.{ltb, eqb}
 use borrow.Author.Tests.{eq-eqb, ne-eqb, not-false}
 use Rattle.loops.specs.Every.{all, all-at, all-of, bool-ext}
 use Rattle.tables.specs.State.{K}
 use Rattle.tables.specs.View.{view}
 use Rattle.tables.specs.Search.{present}
 use Rattle.tables.specs.ZeroRecord.{zeroRecord}
+use Rattle.tables.specs.Top.{Top, top-absent}
 use Rattle.tables.specs.Areas.{AreasOf, Parted}
 use Rattle.sound.specs.Clauses.{s1, s2, s3First, s3, s4, s5, s6, s7Given, s7, s8Backed, s9, s10, s11, sound}
 use Rattle.sound.specs.Tests.{and-says, and-true, not-says}
@@ -19,7 +21,7 @@ use Rattle.sound.specs.MeansEntries.{present-means}
 use Rattle.sound.specs.MeansWords.{s2-means, s5-means}
 use Rattle.sound.specs.Entries.{Solid, exactly, s7-parts}
 use Rattle.sound.specs.Absent.{absent-s3, absent-s4, absent-s5, absent-s6, absent-s7, absent-s8, absent-s9, absent-s10, absent-s11}
-use Rattle.sound.specs.AtOnce.{restAt, shapeAt, Shaped, areasApart, atOnce, Passes, rest-true, rest-says, sound-at-once, shaped-record}
+use Rattle.sound.specs.AtOnce.{restAt, shapeAt, Shaped, areasApart, atOnce, Passes, rest-true, rest-says, sound-at-once, shaped-s2, shaped-record}
 use Rattle.sound.specs.Order.{Orders, SameOrders, orders-one}
 
 -- a test that cannot pass is false
@@ -82,6 +84,31 @@ module _ (l : List ℕ) (p : ℕ) where
   -- S5 at p, which S6 and S7 lean on
   pub solid : p < 16 → s3 l p && s4 l (view l .k) p && s5 l (view l .k) p ≡ true → Solid (view l .k) p
   solid b q = s5-means l p b .0 (and-says (s3 l p && s4 l (view l .k) p) (s5 l (view l .k) p) q .1) .range
+
+-- ── the records from the top on need no look ──
+module _ {l : List ℕ} {m : ℕ} (h : Top l m) where
+  -- S1 asks for a record, that of current
+  pub top-first : s1 (view l .k) && s3First l ≡ true → 0 < m
+  unfolding s1
+  top-first q = go (decLt 0 m)
+    where
+      go : Dec (0 < m) → 0 < m
+      go (yes b) = b
+      go (no b) =
+          let (x, y) = and-says (s1 (view l .k)) (s3First l) q in
+          absurd (false≢true (sym (top-absent h (view l .k .current) (omega arith)) ∙ and-says (ltb (view l .k .base) (view l .k .stop)) (present (view l .k) (view l .k .current)) x .1))
+
+  -- .. so the root's is looked at
+  pub top-shape : 0 < m → (p : ℕ) → m ≤ p → p < 16 → shapeAt l p ≡ true
+  unfolding s2
+  top-shape some p a b =
+      let n = top-absent h p a in
+      sym (absent-shape l p b (rw (ne-eqb p 0 (λ z. omega arith), n) (h .zero p a b)) n)
+
+  pub top-rest : Shaped l → (p : ℕ) → m ≤ p → p < 16 → s2 l (view l .k) p && restAt l p ≡ true
+  top-rest shaped p a b =
+      let q = shaped-s2 shaped p b in
+      and-true _ _ q (absent-rest l p b q (top-absent h p a))
 
 -- ── the parts of the decision, in the order of the code ──
 -- what is known before the partitions are looked at one by one

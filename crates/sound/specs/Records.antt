@@ -1,16 +1,18 @@
 -- A record's words, each tested once for all that S3, S4 and S5 ask of it.
 use mathlib.Core.Path.{_≡_, refl}
-use mathlib.Core.Bool.{Bool, true, cond, _&&_}
+use mathlib.Core.Bool.{Bool, true, false, cond, _&&_, false≢true}
 use mathlib.Core.List.{List}
 use mathlib.Core.Logic.{_↔_}
-use Prim.Native.Nat.{ℕ, zero, suc, _+_, _<_}
+use Prim.Native.Nat.{ℕ, zero, suc, _+_, _*_, _/_, _%_, _<_}
 use native.Mathlib.Omega.{arith}
-use borrow.Author.Tests.{eq-eqb}
-use Rattle.loops.specs.Every.{all, bool-ext, all-at, all-of}
+use lib.Dec.{eqb}
+use borrow.Author.Tests.{eqb-true, eq-eqb}
+use Rattle.loops.specs.Every.{all, bool-ext, all-at, all-of, all-ext}
 use Rattle.words.specs.Kind.{zeroed, zeroed-means, zero-zeroed}
 use Rattle.words.specs.Words.{header, structure, regions, slot}
 use Rattle.tables.specs.State.{Area, K}
 use Rattle.tables.specs.View.{areaWordAt, regionsWordAt, slotWordAt, nth, regionsAt, view}
+use Rattle.tables.specs.Search.{isSome}
 use Rattle.tables.specs.ZeroWord.{no-entry, blank-regions}
 use Rattle.tables.specs.ZeroRecord.{zeroBlanks}
 use Rattle.sound.specs.Clauses.{isNowhere, long, blankRegion, s3Regions, s3, rooted, s4Area, s4Absent, s4, s5Slot, s5}
@@ -30,8 +32,16 @@ structureTest l k p j = zeroed structure (areaWordAt l p (1 + j)) && s4Area k p 
 unfoldable pub slotTest : List ℕ → K → ℕ → ℕ → Bool
 slotTest l k p i = zeroed slot (slotWordAt l p i) && s5Slot l k p i
 
+-- .. of the eight of structure j
+unfoldable pub slotsTest : List ℕ → K → ℕ → ℕ → Bool
+slotsTest l k p j = all 8 (λ o. slotTest l k p (8 * j + o))
+
 unfoldable pub recordTest : List ℕ → K → ℕ → Bool
 recordTest l k p = headerTest l k p && all 4 (structureTest l k p) && s3Regions l p && zeroBlanks l p && all 32 (slotTest l k p)
+
+-- structure j of p is present
+pub record HasStructure (l : List ℕ) (p j : ℕ) : Type 0 where
+  pub there : isSome (view l .k .area p (1 + j)) ≡ true
 
 -- ── they are S3, S4 and S5 ──
 module _ (l : List ℕ) (k : K) (p : ℕ) where
@@ -127,3 +137,34 @@ pub slot-empty : (l : List ℕ) (p i : ℕ) → slotWordAt l p i ≡ 0 → slotT
 unfolding slotTest s5Slot
 slot-empty l p i q =
     and-true _ _ (zeroed-means slot (slotWordAt l p i) .1 (rw q (zero-zeroed slot))) (rw (no-entry l p i (λ _ _. q)) (eq-eqb _ 0 q))
+
+-- ── slots by structure ──
+-- all 32
+pub slots-each : (l : List ℕ) (k : K) (p : ℕ) → all 4 (slotsTest l k p) ≡ all 32 (slotTest l k p)
+unfolding slotsTest
+slots-each l k p =
+    bool-ext _ _
+    (λ q. all-of 32 (slotTest l k p) (λ i b.
+    let h : i / 8 < 4 = omega arith in
+    let g : i % 8 < 8 = omega arith in
+    let z : 8 * (i / 8) + i % 8 ≡ i = omega arith in
+    rw z at (all-at 8 (λ o. slotTest l k p (8 * (i / 8) + o)) (all-at 4 (slotsTest l k p) q (i / 8) h) (i % 8) g)))
+    (λ q. all-of 4 (slotsTest l k p) (λ j b. all-of 8 _ (λ o c. all-at 32 (slotTest l k p) q (8 * j + o) (omega arith))))
+
+-- slot o of the eight is one of structure j
+pub eight-in : {l : List ℕ} {p j o : ℕ} → HasStructure l p j → o < 8 → HasStructure l p ((8 * j + o) / 8)
+eight-in {j = j} {o} h b = let z : (8 * j + o) / 8 ≡ j = omega arith in record { there = rw z (h .there) }
+
+module _ (l : List ℕ) (p : ℕ) where
+  -- where its structure is absent, a slot is a zero word
+  slot-absent : (i : ℕ) → isSome (view l .k .area p (1 + i / 8)) ≡ false → eqb (slotWordAt l p i) 0 ≡ slotTest l (view l .k) p i
+  unfolding s5Slot
+  slot-absent i n = bool-ext _ _ (λ q. slot-empty l p i (eqb-true _ 0 q)) (λ q. go (isSome (view l .k .slot p i)) (rw n at (slot-asks l (view l .k) p i q .1)))
+    where
+      go : (b : Bool) → cond b false (eqb (slotWordAt l p i) 0) ≡ true → eqb (slotWordAt l p i) 0 ≡ true
+      go true q = absurd (false≢true q)
+      go false q = q
+
+  pub slots-absent : (j : ℕ) → isSome (view l .k .area p (1 + j)) ≡ false → all 8 (λ o. eqb (slotWordAt l p (8 * j + o)) 0) ≡ slotsTest l (view l .k) p j
+  unfolding slotsTest
+  slots-absent j n = all-ext 8 _ _ (λ o b. let z : (8 * j + o) / 8 ≡ j = omega arith in slot-absent (8 * j + o) (rw z n))

@@ -4,6 +4,7 @@ ghost use Prim.Native.Nat.{_<_};
 ghost use lib.ListN.{length};
 ghost use Rattle.loops.specs.Every.{all};
 ghost use Rattle.tables.specs.View.{view};
+ghost use Rattle.tables.specs.Top.{Top};
 ghost use Rattle.tables.specs.Search.{present};
 ghost use Rattle.sound.specs.Clauses.{s2, sound};
 ghost use Rattle.sound.specs.AtOnce.{restAt, shapeAt};
@@ -31,11 +32,12 @@ fn shape_sound(t: &[u64; 641], p: Partition) -> bool
 }
 
 // .. at all of them: most tables that are not sound fail here, before the dear clauses
-fn shapes_sound(t: &[u64; 641]) -> bool
+fn shapes_sound(t: &[u64; 641], top: u32) -> bool
+    requires { ⌜ Top (now t) top × (0 < top) ⌝ }
     ensures { λ r. ⌜ r ≡ all 16 (shapeAt (now (t .entry))) ⌝ }
 {
     let mut p = 0u32;
-    while p < 16 {
+    while p < top {
         if !shape_sound(t, Partition(p)) {
             return false;
         }
@@ -94,17 +96,18 @@ fn partition_sound(
 
 fn partitions_sound(
     t: &[u64; 641],
+    top: u32,
     order: &[u8; 512],
     counts: &[u32; 16],
     n: usize,
     s: &[u32; 80],
     e: &[u32; 80],
 ) -> bool
-    requires { ⌜ CanDecide (now t) (now order) (now counts) n (now s) (now e) ⌝ }
+    requires { ⌜ Top (now t) top × CanDecide (now t) (now order) (now counts) n (now s) (now e) ⌝ }
     ensures { λ r. ⌜ r ≡ all 16 (λ p. s2 (now (t .entry)) (view (now (t .entry)) .k) p && restAt (now (t .entry)) p) ⌝ }
 {
     let mut p = 0u32;
-    while p < 16 {
+    while p < top {
         if !partition_sound(t, Partition(p), order, counts, n, s, e) {
             return false;
         }
@@ -114,34 +117,35 @@ fn partitions_sound(
 }
 
 // Exactly the sound tables pass. Of such a table the entries are left in order, for who lists its runs.
-pub fn is_ordered(t: &[u64; 641], order: &mut [u8; 512], counts: &mut [u32; 16]) -> bool
-    requires { ⌜ (length (now order) ≡ 512) × (length (now counts) ≡ 16) ⌝ }
+pub fn is_ordered(t: &[u64; 641], top: u32, order: &mut [u8; 512], counts: &mut [u32; 16]) -> bool
+    requires { ⌜ Top (now t) top × (length (now order) ≡ 512) × (length (now counts) ≡ 16) ⌝ }
     ensures { λ r. ⌜ Decided (now (t .entry)) r (now (order .exit)) (now (counts .exit)) ⌝ }
 {
     tables::sized(t);
     if !records::first_sound(t) {
         return false;
     }
-    if !shapes_sound(t) {
+    if !shapes_sound(t, top) {
         return false;
     }
     let mut s = [0u32; 80];
     let mut e = [0u32; 80];
-    let n = tables::areas::gather_areas(t, &mut s, &mut e);
+    let n = tables::areas::gather_areas(t, top, &mut s, &mut e);
     if !backing::areas_apart(n, &s, &e) {
         return false;
     }
-    if !arrange(t, order, counts) {
+    if !arrange(t, top, order, counts) {
         return false;
     }
-    partitions_sound(t, order, counts, n, &s, &e)
+    partitions_sound(t, top, order, counts, n, &s, &e)
 }
 
 // Exactly the sound tables pass.
-pub fn is_sound(t: &[u64; 641]) -> bool
+pub fn is_sound(t: &[u64; 641], top: u32) -> bool
+    requires { ⌜ Top (now t) top ⌝ }
     ensures { λ r. ⌜ r ≡ sound (now (t .entry)) ⌝ }
 {
     let mut order = [0u8; 512];
     let mut counts = [0u32; 16];
-    is_ordered(t, &mut order, &mut counts)
+    is_ordered(t, top, &mut order, &mut counts)
 }

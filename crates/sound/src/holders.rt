@@ -2,6 +2,7 @@ ghost use mathlib.Core.Path.{_≡_};
 ghost use Prim.Native.Nat.{_≤_, _<_};
 ghost use lib.ListN.{length};
 ghost use Rattle.tables.specs.View.{view};
+ghost use Rattle.tables.specs.Top.{Top};
 ghost use Rattle.sound.specs.Holders.{heir, deepest, Listed, Writes};
 use crate::decide::is_sound;
 use tables::Found;
@@ -54,10 +55,11 @@ fn write_holders(t: &[u64; 641], l: Line, list: &mut [u8]) -> usize
 }
 
 // Holders of a line of a table that stands in an array: `holders` without its length and its copy.
-pub fn holders_table(t: &[u64; 641], line: u64, list: &mut [u8]) -> Outcome
+pub fn holders_table(t: &[u64; 641], top: u32, line: u64, list: &mut [u8]) -> Outcome
+    requires { ⌜ Top (now t) top ⌝ }
     ensures { λ r. ⌜ Listed (now (t .entry)) line (now (list .entry)) r (now (list .exit)) ⌝ }
 {
-    if !is_sound(t) {
+    if !is_sound(t, top) {
         return Outcome::Refused(1);
     }
     let f = tables::read::first(t);
@@ -84,5 +86,5 @@ pub fn holders(t: &[u64], line: u64, list: &mut [u8]) -> Outcome
     }
     let mut a = [0u64; 641];
     tables::copies::copy_in(t, &mut a);
-    holders_table(&a, line, list)
+    holders_table(&a, 16, line, list)
 }

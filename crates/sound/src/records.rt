@@ -1,10 +1,10 @@
 ghost use mathlib.Core.Path.{_≡_};
 ghost use mathlib.Core.Bool.{_&&_};
-ghost use Prim.Native.Nat.{_^_, _<_};
+ghost use Prim.Native.Nat.{_/_, _^_, _<_};
 ghost use Rattle.loops.specs.Every.{all};
 ghost use Rattle.tables.specs.View.{nth, view};
 ghost use Rattle.sound.specs.Clauses.{isNowhere, s1, s2Root, s2, blankRegion, s3Regions, s3First, s3, s4, s5};
-ghost use Rattle.sound.specs.Records.{areaTest, headerTest, structureTest, slotTest};
+ghost use Rattle.sound.specs.Records.{areaTest, headerTest, structureTest, slotTest, slotsTest, HasStructure};
 use crate::is_rooted;
 use tables::zeros;
 use words::Line;
@@ -170,9 +170,9 @@ fn regions_sound(t: &[u64; 641], p: Partition) -> bool
     all_blank(tables::read::regions(t, p))
 }
 
-// S3 and S5 of slot i: a zero word, or an entry in a present structure, start < end
+// S3 and S5 of slot i, whose structure is present: a zero word, or an entry, start < end
 fn slot_sound(t: &[u64; 641], p: Partition, i: Slot) -> bool
-    requires { ⌜ (p .0 < 16) × (i .0 < 32) ⌝ }
+    requires { ⌜ (p .0 < 16) × (i .0 < 32) × HasStructure (now t) (p .0) (i .0 / 8) ⌝ }
     ensures { λ r. ⌜ r ≡ slotTest (now (t .entry)) (view (now (t .entry)) .k) (p .0) (i .0) ⌝ }
 {
     if zeros::slot_word(t, p, i) {
@@ -185,11 +185,34 @@ fn slot_sound(t: &[u64; 641], p: Partition, i: Slot) -> bool
     if !f.present {
         return false;
     }
-    let s = tables::read::structure(t, p, i.0 / 8);
-    if !s.present {
-        return false;
-    }
     f.start.0 < f.end.0
+}
+
+// .. of the eight of structure j, which is present
+fn eight_sound(t: &[u64; 641], p: Partition, j: u32) -> bool
+    requires { ⌜ (p .0 < 16) × (j < 4) × HasStructure (now t) (p .0) j ⌝ }
+    ensures { λ r. ⌜ r ≡ slotsTest (now (t .entry)) (view (now (t .entry)) .k) (p .0) j ⌝ }
+{
+    let mut o = 0u32;
+    while o < 8 {
+        if !slot_sound(t, p, Slot(8 * j + o)) {
+            return false;
+        }
+        o += 1;
+    }
+    true
+}
+
+// .. of structure j; those of an absent one are zero words, told without a branch for each
+fn structure_slots(t: &[u64; 641], p: Partition, j: u32) -> bool
+    requires { ⌜ (p .0 < 16) × (j < 4) ⌝ }
+    ensures { λ r. ⌜ r ≡ slotsTest (now (t .entry)) (view (now (t .entry)) .k) (p .0) j ⌝ }
+{
+    let s = tables::read::structure(t, p, j);
+    if s.present {
+        return eight_sound(t, p, j);
+    }
+    zeros::slot_words(t, p, j)
 }
 
 // .. of all 32
@@ -197,12 +220,12 @@ fn slots_sound(t: &[u64; 641], p: Partition) -> bool
     requires { ⌜ p .0 < 16 ⌝ }
     ensures { λ r. ⌜ r ≡ all 32 (slotTest (now (t .entry)) (view (now (t .entry)) .k) (p .0)) ⌝ }
 {
-    let mut i = 0u32;
-    while i < 32 {
-        if !slot_sound(t, p, Slot(i)) {
+    let mut j = 0u32;
+    while j < 4 {
+        if !structure_slots(t, p, j) {
             return false;
         }
-        i += 1;
+        j += 1;
     }
     true
 }

@@ -27,6 +27,7 @@ pub mod Empty
 pub mod Settle
 pub mod Gather
 pub mod ZeroRecord
+pub mod Top
 pub mod Canonical
 pub mod Areas
 pub mod UpTo

@@ -1,15 +1,16 @@
 -- A record of 40 zero words: its partition has nothing.
-use mathlib.Core.Path.{_≡_, sym, _∙_}
+use mathlib.Core.Path.{_≡_, ap, sym, _∙_}
 use mathlib.Core.Bool.{Bool, true, _&&_, and-eq-true-iff}
 use mathlib.Core.List.{List}
 use mathlib.Core.Logic.{_↔_}
-use Prim.Native.Nat.{ℕ, zero, suc, _≤_, _<_}
+use Prim.Native.Nat.{ℕ, zero, suc, _+_, _*_, _≤_, _<_}
 use native.Mathlib.Omega.{arith}
 use lib.Dec.{eqb}
+use lib.ListN.{getD}
 use borrow.Author.Tests.{eqb-true, eq-eqb}
-use Rattle.loops.specs.Every.{all, all-at, all-of}
+use Rattle.loops.specs.Every.{all, all-at, all-of, all-ext}
 use Rattle.tables.specs.State.{none}
-use Rattle.tables.specs.View.{recordWord, blankWordAt, view}
+use Rattle.tables.specs.View.{slotPlace, recordWord, blankWordAt, slotWordAt, view}
 use Rattle.tables.specs.Spelling.{area-word, ZeroWords, zero-regions, zero-slots}
 use Rattle.tables.specs.ZeroWord.{no-area, no-entry, no-region}
 
@@ -59,3 +60,8 @@ module _ (l : List ℕ) (p : ℕ) (z : zeroRecord l p ≡ true) where
 
   pub zero-region : (r : ℕ) → view l .region p r ≡ none
   zero-region r = no-region l p r (zero-regions l p words)
+
+-- the words of the eight slots of structure j, counted from the first of them
+pub structure-slots : (l : List ℕ) (p j : ℕ) → all 8 (λ o. eqb (getD l (9 + 40 * p + 8 * j + o) 0) 0) ≡ all 8 (λ o. eqb (slotWordAt l p (8 * j + o)) 0)
+unfolding slotWordAt
+structure-slots l p j = all-ext 8 _ _ (λ o h. let z : 9 + 40 * p + 8 * j + o ≡ slotPlace p (8 * j + o) = omega arith in ap (λ (n : ℕ). eqb (getD l n 0) 0) z)

@@ -106,7 +106,7 @@ pub fn settle(t: &mut [u64; 641])
 {
     let mut starts = [0u32; 80];
     let mut ends = [0u32; 80];
-    let n = areas::gather_areas(t, &mut starts, &mut ends);
+    let n = areas::gather_areas(t, 16, &mut starts, &mut ends);
     let mut p = 0u32;
     while p < 16 {
         settle_record(t, Partition(p), n, &starts, &ends);

@@ -1,6 +1,7 @@
 ghost use mathlib.Core.Path.{_≡_};
-ghost use Prim.Native.Nat.{_+_, _<_};
+ghost use Prim.Native.Nat.{_+_, _*_, _<_};
 ghost use lib.Dec.{eqb};
+ghost use Rattle.loops.specs.Every.{all};
 ghost use Rattle.words.specs.Kind.{zeroed};
 ghost use Rattle.words.specs.Words.{first, header, structure, regions, slot};
 ghost use Rattle.tables.specs.View.{firstWord, recordWord, areaWordAt, regionsWordAt, slotWordAt};
@@ -80,6 +81,21 @@ pub fn slot_word(t: &[u64; 641], p: Partition, i: Slot) -> bool
     ensures { λ r. ⌜ r ≡ eqb (slotWordAt (now (t .entry)) (p .0) (i .0)) 0 ⌝ }
 {
     word(t, p, 8 + i.0) == 0
+}
+
+// .. those of the eight slots of structure j
+pub fn slot_words(t: &[u64; 641], p: Partition, j: u32) -> bool
+    requires { ⌜ (p .0 < 16) × (j < 4) ⌝ }
+    ensures { λ r. ⌜ r ≡ all 8 (λ o. eqb (slotWordAt (now (t .entry)) (p .0) (8 * j + o)) 0) ⌝ }
+{
+    let at = (9 + 40 * p.0 + 8 * j) as usize;
+    let mut x = 0u64;
+    let mut o = 0usize;
+    while o < 8 {
+        x |= t[at + o];
+        o += 1;
+    }
+    x == 0
 }
 
 // .. the two words that hold nothing

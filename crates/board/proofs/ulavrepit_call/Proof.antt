@@ -3,6 +3,7 @@ use mathlib.Core.Logic.{⊎-elim}
 use lib.ListN.{length}
 use borrow.Author.Tests.{not-false}
 use Rattle.tables.specs.Bytes.{bytesOf}
+use Rattle.tables.specs.Top.{top-16}
 use Rattle.services.specs.Brief.{call-brief, first-small, number-small}
 use Rattle.board.specs.Board.{call-none, call-lent, call-tells, call-stands, call-kept, call-caller}
 use native.Mathlib.Omega.{arith}
@@ -17,7 +18,7 @@ ulavrepit-call-spec =
     (λ c κs. (omega arith, omega arith, omega arith))
     (λ c. call-none _ (c .before .if1 .taken) (c .packed .ensures))
     (λ c κs. (c .before .before .if1 .left, refl))
-    (λ c κs. search needs)
+    (λ c κs. top-16 _)
     (λ c. search needs)
     (λ c κs. search needs)
     (λ c κs.

@@ -1,3 +1,4 @@
+use Rattle.tables.specs.Top.{top-16}
 use Rattle.sound.specs.Holders.{wrong-length}
 use Rattle.services.specs.Calls.{answers-unsound, answers-done, answers-refused}
 use borrow.Author.Needs.{needs}
@@ -10,7 +11,7 @@ call-spec =
     (tie.spec
     (λ c. answers-unsound _ _ (wrong-length _ (c .if1 .taken)))
     (λ c κs. c .before .before .if1 .left)
-    (λ c κs. search needs)
+    (λ c κs. top-16 _)
     (λ c. search needs)
     (λ c κs. c .before .before .before .before .before .before .before .before .before .if1 .left)
     (λ c. search needs)

@@ -1,4 +1,5 @@
 use Prim.Native.Nat.{_-_, _≤_}
+use Rattle.tables.specs.Top.{top-16}
 use borrow.Author.Needs.{needs}
 use Rattle.tally.proofs.serve_piece.Statement.{statement}
 use Rattle.tally.proofs.serve_piece.Tie as tie
@@ -19,7 +20,7 @@ serve-piece-spec =
     (λ c. search needs)
     (λ c. search needs)
     (λ c κs. search needs)
-    (λ c κs. search needs)
+    (λ c κs. top-16 _)
     (λ c κs. search needs)
     (λ c κs. search needs)
     (λ c. search needs)

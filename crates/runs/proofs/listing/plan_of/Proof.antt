@@ -1,4 +1,4 @@
-use mathlib.Core.Path.{_∙_}
+use mathlib.Core.Path.{refl, _∙_}
 use native.Mathlib.Omega.{arith}
 use borrow.Author.Needs.{needs}
 use Rattle.runs.specs.Listing.{decided-unsound, decided-sound, decided-order, plan-unsound, plan-short, plan-done, marks-unsound, marks-sound}
@@ -9,12 +9,12 @@ pub plan-of-spec : {M : Type 1} → statement M
 plan-of-spec =
     tie.close
     (tie.spec
-    (λ c κs. search needs)
+    (λ c κs. (c .before .before .pre .0, refl, refl))
     (λ c κs. search needs)
     (λ c.
     let u = decided-unsound (c .before .before .is-ordered .ensures) (c .before .if1 .taken) in
     (c .refuse .ensures ∙ plan-unsound _ _ u, marks-unsound _ _ u))
-    (λ c κs. (decided-sound (c .before .before .before .is-ordered .ensures) (c .before .before .if1 .left), decided-order (c .before .before .before .is-ordered .ensures) (c .before .before .if1 .left), c .before .before .before .before .before .before .pre))
+    (λ c κs. (decided-sound (c .before .before .before .is-ordered .ensures) (c .before .before .if1 .left), decided-order (c .before .before .before .is-ordered .ensures) (c .before .before .if1 .left), c .before .before .before .before .before .before .pre .1))
     (λ c κs. search needs)
     (λ c.
     let s = decided-sound (c .before .before .before .before .before .before .is-ordered .ensures) (c .before .before .before .before .before .if1 .left) in

@@ -1,3 +1,4 @@
+use Rattle.tables.specs.Top.{top-16}
 use Rattle.sound.specs.Holders.{wrong-length, listed-unsound, listed-copy}
 use borrow.Author.Needs.{needs}
 use Rattle.sound.proofs.holders.holders.Statement.{statement}
@@ -9,6 +10,6 @@ holders-spec =
     (tie.spec
     (λ c. listed-unsound (wrong-length _ (c .if1 .taken)))
     (λ c κs. c .before .if1 .left)
-    (λ c κs. search needs)
+    (λ c κs. top-16 _)
     (λ c. search needs)
     (λ c. listed-copy (c .before .before .before .before .before .copy-in .ensures) (c .before .before .holders-table .ensures)))

@@ -2,7 +2,6 @@ use mathlib.Core.Path.{refl, sym, _∙_}
 use borrow.Author.Needs.{needs}
 use borrow.Author.Tests.{not-true, not-false, eqb-true}
 use Rattle.tables.specs.View.{entryIn}
-use Rattle.tables.specs.Search.{structure-some}
 use Rattle.sound.specs.Clauses.{when, s5Slot}
 use Rattle.sound.specs.Records.{slotTest, slot-empty}
 use Rattle.sound.proofs.records.slot_sound.Statement.{statement}
@@ -23,14 +22,7 @@ slot-sound-spec =
     let b = d .before .before .slot-bits in
     let z = d .before .before .before .before .slot-word in
     rw (← b .ensures, not-false (b .result) (d .before .if2 .left), d .entry .ensures .slot, not-true (d .entry .result .present) (c .if3 .taken), ← z .ensures, d .before .before .before .if1 .left) refl)
-    (λ c κs. search needs)
     (λ c.
-    let s = c .before .before .structure in
-    let d = c .before .before .before .before .before .before in
+    let d = c .before .before .before in
     let b = d .before .before .slot-bits in
-    rw (← b .ensures, not-false (b .result) (d .before .if2 .left), d .entry .ensures .slot, not-false (d .entry .result .present) (c .before .before .before .before .if3 .left), s .ensures .area, structure-some, not-true (s .result .present) (c .if4 .taken)) refl)
-    (λ c.
-    let s = c .before .before .before .structure in
-    let d = c .before .before .before .before .before .before .before in
-    let b = d .before .before .slot-bits in
-    rw (← b .ensures, not-false (b .result) (d .before .if2 .left), d .entry .ensures .slot, not-false (d .entry .result .present) (c .before .before .before .before .before .if3 .left), s .ensures .area, structure-some, not-false (s .result .present) (c .before .if4 .left)) refl))
+    rw (← b .ensures, not-false (b .result) (d .before .if2 .left), d .entry .ensures .slot, not-false (d .entry .result .present) (c .before .if3 .left), d .before .before .before .before .before .pre .2 .there) refl))

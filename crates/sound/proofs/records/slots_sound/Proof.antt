@@ -4,28 +4,22 @@ use Prim.Native.Nat.{_-_}
 use Rattle.loops.specs.Every.{Passing}
 use Rattle.loops.specs.Scan.{seek-start, seek-hit, seek-on, seek-end}
 use Rattle.tables.specs.View.{view}
-use Rattle.sound.specs.Records.{slotTest}
+use Rattle.sound.specs.Records.{slotsTest, slots-each}
 use native.Mathlib.Omega.{arith}
 use borrow.Author.Needs.{needs}
 use Rattle.sound.proofs.records.slots_sound.Statement.{statement}
 use Rattle.sound.proofs.records.slots_sound.Tie as tie
 
-abbrev Inv-loop : tie.InvT-loop
-Inv-loop t p i₀ i = Passing (slotTest t (view t .k) (p .0)) 32 i
-
-abbrev μ-loop : tie.MeasureT-loop
-μ-loop t p i₀ i = 32 - i
-
 pub slots-sound-spec : {M : Type 1} → statement M
 slots-sound-spec =
     tie.close
     (tie.spec
-    Inv-loop
-    μ-loop
+    (λ t p j₀ j. Passing (slotsTest t (view t .k) (p .0)) 4 j)
+    (λ t p j₀ j. 4 - j)
     (λ c. seek-start)
     (λ c κs. search needs)
-    (λ c. seek-hit (c .before .before .before .loop .inv) (omega arith) (ap not (sym (c .before .slot-sound .ensures)) ∙ c .if1 .taken))
+    (λ c. seek-hit (c .before .before .before .loop .inv) (omega arith) (ap not (sym (c .before .structure-slots .ensures)) ∙ c .if1 .taken) ∙ slots-each _ _ _)
     (λ c. search needs)
     (λ c. search needs)
-    (λ c. seek-on (c .before .before .before .loop .inv) (omega arith) (ap not (sym (c .before .slot-sound .ensures)) ∙ c .if1 .left))
-    (λ c. seek-end (c .before .loop .inv) (omega arith)))
+    (λ c. seek-on (c .before .before .before .loop .inv) (omega arith) (ap not (sym (c .before .structure-slots .ensures)) ∙ c .if1 .left))
+    (λ c. seek-end (c .before .loop .inv) (omega arith) ∙ slots-each _ _ _))

@@ -1,6 +1,7 @@
 use mathlib.Core.Path.{refl}
 use Prim.Native.Nat.{_-_}
 use Rattle.tables.specs.View.{view}
+use Rattle.tables.specs.Top.{top-16}
 use Rattle.tables.specs.FitView.{fit-view}
 use Rattle.tables.specs.OpenBits.{can-settle}
 use Rattle.tables.specs.Settled.{Settling, settle-start, settle-more, settle-end}
@@ -21,7 +22,7 @@ settle-spec =
     (tie.spec
     Inv-loop
     μ-loop
-    (λ c κs. (refl, refl))
+    (λ c κs. (top-16 _, refl, refl))
     (λ c. settle-start (c .before .before .before .before .pre))
     (λ c κs. can-settle (c .before .before .before .before .loop .inv .is) (omega arith) (c .before .before .before .before .before .gather-areas .ensures .areas))
     (λ c. search needs)

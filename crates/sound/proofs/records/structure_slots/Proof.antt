@@ -1,0 +1,16 @@
+use mathlib.Core.Path.{ap, _∙_}
+use Rattle.tables.specs.Search.{isSome, structure-some}
+use Rattle.sound.specs.Records.{slots-absent}
+use borrow.Author.Needs.{needs}
+use Rattle.sound.proofs.records.structure_slots.Statement.{statement}
+use Rattle.sound.proofs.records.structure_slots.Tie as tie
+
+pub structure-slots-spec : {M : Type 1} → statement M
+structure-slots-spec =
+    tie.close
+    (tie.spec
+    (λ c κs. search needs)
+    (λ c κs. (c .before .before .pre .0, c .before .before .pre .1, record { there = ap isSome (c .before .structure .ensures .area) ∙ structure-some _ ∙ c .if1 .taken }))
+    (λ c. c .eight-sound .ensures)
+    (λ c κs. search needs)
+    (λ c. c .slot-words .ensures ∙ slots-absent _ _ _ (ap isSome (c .before .before .structure .ensures .area) ∙ structure-some _ ∙ c .before .if1 .left)))
