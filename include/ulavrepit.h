@@ -43,8 +43,7 @@ enum {
     ULAVREPIT_TAKE = 6,
     ULAVREPIT_CUT = 7,
     ULAVREPIT_MERGE = 8,
-    ULAVREPIT_LOAD = 9,
-    ULAVREPIT_UNLOAD = 10,
+    ULAVREPIT_LOAD = 9, /* with R = 1 it unloads; there is no service 10 */
     ULAVREPIT_READ_REGION = 11,
     ULAVREPIT_FIND = 12,
     ULAVREPIT_SWITCH = 13,
@@ -55,7 +54,8 @@ enum {
 enum {
     ULAVREPIT_DONE = 0,
     ULAVREPIT_REFUSED_TABLE = 1,          /* not 5,128 bytes, or not sound (boot: length only) */
-    ULAVREPIT_REFUSED_WORD = 2,           /* no such service, a zero bit set, a field that it doesn't use not 0 */
+    ULAVREPIT_REFUSED_WORD = 2,           /* no such service, a zero bit set, a field that it doesn't use not 0;
+                                             service 9: R above 1, or R = 1 and S not 0 */
     ULAVREPIT_REFUSED_PARTITION = 3,      /* P is not as the service says */
     ULAVREPIT_REFUSED_NO_ENTRY = 4,       /* slot S (merge: S or T) is no entry; structure T absent or above 3 */
     ULAVREPIT_REFUSED_NOT_OPEN = 5,       /* the entry serves the kernel */
@@ -217,9 +217,10 @@ static inline uint64_t ulavrepit_load(uint32_t partition, uint32_t slot, uint32_
     return ulavrepit_word(ULAVREPIT_LOAD, partition, slot, region, 0, 0);
 }
 
+/* The region names nothing: service 9 with R = 1. */
 static inline uint64_t ulavrepit_unload(uint32_t partition, uint32_t region)
 {
-    return ulavrepit_word(ULAVREPIT_UNLOAD, partition, 0, region, 0, 0);
+    return ulavrepit_word(ULAVREPIT_LOAD, partition, 0, region, 1, 0);
 }
 
 /* Second: the word of the entry that the region names, or 0. */

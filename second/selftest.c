@@ -90,14 +90,15 @@ static uint64_t word_of(unsigned service, unsigned p, unsigned s, unsigned t, un
            (uint64_t)r << 43 | (uint64_t)l << 16;
 }
 
+/* Service 9 with R = 1 unloads: that has a row of its own in what follows, 10, which is no service's number. */
 enum {
     CREATE = 1, DELETE, PREPARE, COLLECT, GIVE, TAKE, CUT, MERGE, LOAD, UNLOAD, READ, FIND, SWITCH, CLEAR_OUT,
     SERVICES = CLEAR_OUT
 };
 
 /* The fields that each service uses, by its number. */
-static const char *const used[SERVICES + 1] = {"", "S", "P", "PS", "PT", "PSR", "S", "SL", "ST", "PST",
-                                               "PT", "PT", "PL", "P", "P"};
+static const char *const used[SERVICES + 1] = {"", "S", "P", "PS", "PT", "PSR", "S", "SL", "ST", "PSTR",
+                                               "", "PT", "PL", "P", "P"};
 
 #define UNTOUCHED UINT64_C(0x5a5a5a5a5a5a5a5a)
 
@@ -374,12 +375,12 @@ static void test_refusal_1_and_2(void)
     make_x();
     good = goes(SWITCH, 1, 0, 0, 0, 0); /* so that the caller is not 0 */
     for (unsigned service = 0; service < 16; service++) {
-        if (service < 1 || service > SERVICES) {
+        if (service < 1 || service == 10 || service > SERVICES) {
             good = good && is_refused(service, 0, 0, 0, 0, 0, 2);
             good = good && is_refused(service, 1, 0, 0, 0, 0, 2);
         }
     }
-    check(good, "service 0 and 15: 2");
+    check(good, "service 0, 10 and 15: 2");
 
     good = true;
     for (unsigned service = 1; service <= SERVICES; service++)
@@ -398,10 +399,10 @@ static void test_refusal_1_and_2(void)
                 uint8_t copy[SECOND_BYTES];
                 memcpy(copy, table, SECOND_BYTES);
                 result a = call_word_on(copy, (uint64_t)service << 60 | UINT64_C(1) << bit);
-                bool uses_it = strchr(used[service], letters[f]) != NULL;
+                bool uses_it = strchr(used[service], letters[f]) != NULL && !(service == LOAD && letters[f] == 'R' && bit > 43);
                 good = good && a.clean && (a.refusal == 2) == !uses_it;
             }
-    check(good, "a field that the service doesn't use is not 0: 2");
+    check(good, "a field that the service doesn't use is not 0, and R of service 9 above 1: 2");
 }
 
 /* All 40 words of the partition are zero. */
@@ -612,6 +613,30 @@ static void test_give_take_cut_merge(void)
     check(is_refused(MERGE, 0, 2, 1, 0, 0, 12), "merge: 12 before 13");
 }
 
+/* Service 9 takes both: R = 0 loads, R = 1 with S = 0 unloads. */
+static void test_one_service_for_a_region(void)
+{
+    make_x();
+    bool good = goes(LOAD, 0, 3, 2, 0, 0);
+    for (unsigned p = 0; p < 16; p++)
+        for (unsigned s = 0; s < 32; s++) {
+            good = good && is_refused(10, p, s, 2, 0, 0, 2) && is_refused(10, p, s, 2, 1, 0, 2);
+            for (unsigned r = 1; r < 8; r++)
+                if (r > 1 || s > 0)
+                    good = good && is_refused(LOAD, p, s, 2, r, 0, 2) && is_refused(LOAD, p, s, 31, r, 0, 2);
+        }
+    check(good && is_refused(LOAD, 0, 0, 2, 1, 300, 2) && *region_byte(table, 0, 2) == 0x83,
+          "service 10, service 9 with R above 1, or with R = 1 and S not 0: 2, before 3 and 16");
+
+    make_x(); /* slot 0 of the root is closed, and slot 0 of an absent partition is empty: neither is asked */
+    good = goes(LOAD, 0, 3, 2, 0, 0) && goes(LOAD, 0, 1, 6, 0, 0);
+    for (unsigned region = 0; region < 32; region++)
+        good = good && is_refused(LOAD, 2, 0, region, 1, 0, 3) &&
+               (region < 8 ? is_done(LOAD, 0, 0, region, 1, 0, 0, 0) : is_refused(LOAD, 0, 0, region, 1, 0, 16)) &&
+               *region_byte(table, 0, 6) == (region < 6 ? 0x81 : 0);
+    check(good && get_word(table, regions_at(0)) == 0, "unload: 3, then 16 for T above 7; else done, one region zero");
+}
+
 static void test_regions_find_switch(void)
 {
     make_x();
@@ -629,9 +654,9 @@ static void test_regions_find_switch(void)
               is_done(READ, 1, 0, 4, 0, 0, 0, 0) && is_refused(READ, 1, 0, 8, 0, 0, 16) &&
               is_refused(READ, 2, 0, 8, 0, 0, 3),
           "load and read in a child; an empty region reads 0; 16, 3");
-    check(is_done(UNLOAD, 1, 0, 5, 0, 0, 0, 0) && get_word(table, regions_at(1)) == 0 &&
-              is_done(UNLOAD, 1, 0, 5, 0, 0, 0, 0) && is_refused(UNLOAD, 1, 0, 8, 0, 0, 16) &&
-              is_refused(UNLOAD, 15, 0, 8, 0, 0, 3),
+    check(is_done(LOAD, 1, 0, 5, 1, 0, 0, 0) && get_word(table, regions_at(1)) == 0 &&
+              is_done(LOAD, 1, 0, 5, 1, 0, 0, 0) && is_refused(LOAD, 1, 0, 8, 1, 0, 16) &&
+              is_refused(LOAD, 15, 0, 8, 1, 0, 3),
           "unload, also of an empty region; 16, 3");
     check(goes(LOAD, 1, 0, 5, 0, 0) && goes(TAKE, 0, 3, 0, 0, 0) && get_word(table, regions_at(1)) == 0 &&
               goes(GIVE, 1, 1, 0, 7, 0) && is_done(READ, 1, 0, 5, 0, 0, 0, 0),
@@ -811,7 +836,7 @@ static void clause(int expected, unsigned i, field f, uint64_t v, const char *na
     bool sound = second_unsound(table, SECOND_BYTES) == 0;
     set(table, i, f, v);
     check(sound && second_unsound(table, SECOND_BYTES) == expected &&
-              (expected == 0 || is_refused(UNLOAD, 1, 0, 0, 0, 0, 1)),
+              (expected == 0 || is_refused(LOAD, 1, 0, 0, 1, 0, 1)),
           name);
 }
 
@@ -822,7 +847,7 @@ static void clause_word(int expected, unsigned i, uint64_t w, const char *name)
     set(table, i, whole, w >> 1);
     set(table, i, last, w & 1);
     check(second_unsound(table, SECOND_BYTES) == expected &&
-              (expected == 0 || is_refused(UNLOAD, 1, 0, 0, 0, 0, 1)),
+              (expected == 0 || is_refused(LOAD, 1, 0, 0, 1, 0, 1)),
           name);
 }
 
@@ -1182,7 +1207,16 @@ static fields fields_of(uint64_t w)
     return f;
 }
 
-/* The checks of each service, ended by 0. */
+/* The same, with the row of what it calls in the place of the service. */
+static fields called(uint64_t w)
+{
+    fields f = fields_of(w);
+    if (f.service == LOAD && f.r == 1)
+        f.service = UNLOAD;
+    return f;
+}
+
+/* The checks of each, ended by 0. */
 static const unsigned char checks[SERVICES + 1][8] = {
     {0}, {4, 5, 6, 8, 9}, {3, 15}, {3, 4, 5, 6, 8, 9}, {3, 4, 15}, {3, 4, 5, 6, 8, 10}, {4, 6, 14},
     {4, 5, 6, 7, 8}, {4, 5, 6, 11, 12, 13}, {3, 4, 5, 16}, {3, 16}, {3, 16}, {3, 7}, {3}, {3}};
@@ -1399,13 +1433,15 @@ static void m_settle(uint8_t *t)
 static unsigned m_refusal(const uint8_t *t, uint64_t word)
 {
     fields f = fields_of(word);
-    if (f.service < 1 || f.service > SERVICES || (word & 0xffff) != 0 ||
+    if (f.service < 1 || f.service == 10 || f.service > SERVICES || (word & 0xffff) != 0 ||
+        (f.service == LOAD && (f.r > 1 || (f.r == 1 && f.s != 0))) ||
         (f.p != 0 && strchr(used[f.service], 'P') == NULL) ||
         (f.s != 0 && strchr(used[f.service], 'S') == NULL) ||
         (f.t != 0 && strchr(used[f.service], 'T') == NULL) ||
         (f.r != 0 && strchr(used[f.service], 'R') == NULL) ||
         (f.l != 0 && strchr(used[f.service], 'L') == NULL))
         return 2;
+    f = called(word);
     for (unsigned i = 0; checks[f.service][i] != 0; i++)
         if (m_applies(t, f, checks[f.service][i]))
             return checks[f.service][i];
@@ -1417,7 +1453,7 @@ static result m_call(uint8_t *t, uint64_t word)
 {
     result a = {m_refusal(t, word), get(t, 0, CURRENT), 0, UNTOUCHED, true};
     if (a.refusal == 0) {
-        m_effect(t, fields_of(word), &a.first, &a.second);
+        m_effect(t, called(word), &a.first, &a.second);
         m_settle(t);
     }
     return a;
@@ -1544,6 +1580,8 @@ static uint64_t one_word(const uint8_t *t, const unsigned char weights[SERVICES 
         break;
     }
     bool has_p = checks[service][0] == 3, has_s = service != DELETE && service != COLLECT && service < UNLOAD;
+    if (service == UNLOAD)
+        return word_of(LOAD, p, 0, u, 1, 0);
     return word_of(service, has_p ? p : 0, has_s ? s : 0, u, r, l & 0x7ffffff);
 }
 
@@ -1568,8 +1606,8 @@ static bool agree(uint64_t word)
     memcpy(model, table, SECOND_BYTES);
     result expected = m_call(model, word);
     result a = call_word_on(table, word);
-    if ((word >> 60) <= SERVICES)
-        met[word >> 60][expected.refusal]++;
+    if ((word >> 60) <= SERVICES && (word >> 60) != 10)
+        met[called(word).service][expected.refusal]++;
     if ((word >> 60) == CLEAR_OUT && a.first > most_removed)
         most_removed = a.first;
     accepted += a.refusal == 0;
@@ -1742,6 +1780,12 @@ static void test_generated(void)
         good_noise = good_noise && agree(i % 2 == 0 ? random_word() : random_word() & ~UINT64_C(0xffff));
         good_noise = good_noise && second_unsound(table, SECOND_BYTES) == 0;
     }
+    for (unsigned i = 0; i < 4000; i++) { /* services 9 and 10 with any R */
+        if (i % 100 == 0)
+            make_x();
+        good_noise = good_noise && agree(word_of(LOAD + below(2), below(3), below(4), below(10), below(chance(50) ? 2 : 8), 0));
+        good_noise = good_noise && second_unsound(table, SECOND_BYTES) == 0;
+    }
     for (unsigned i = 0; i < 2000; i++) {
         unsigned first = below(SECOND_BYTES), count = 1 + below(SECOND_BYTES - first);
         make_x();
@@ -1784,6 +1828,7 @@ int main(void)
     test_full();
     test_prepare_and_collect();
     test_give_take_cut_merge();
+    test_one_service_for_a_region();
     test_regions_find_switch();
     test_clear_out_refusals();
     test_clear_out_of_one();

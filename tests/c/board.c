@@ -241,6 +241,9 @@ static void test_refusals(void)
     check(make_x() && refused(0, 2) && refused(UINT64_C(15) << 60, 2) && refused(UINT64_MAX, 2) &&
               refused(ulavrepit_cut(1, 600) | 1, 2) && refused(ulavrepit_word(ULAVREPIT_CUT, 1, 1, 0, 0, 600), 2),
           "refused 2: no service, a zero bit, a field not used");
+    check(refused(UINT64_C(0xa000000000000000), 2) && refused(ulavrepit_load(0, 1, 0) | UINT64_C(1) << 44, 2) &&
+              refused(ulavrepit_load(0, 1, 0) | UINT64_C(1) << 43, 2) && refused(ulavrepit_load(2, 1, 8) | UINT64_C(7) << 43, 2),
+          "refused 2: service 10; service 9 with R above 1, or with R 1 and a slot, before all others");
     check(refused(ulavrepit_delete(0), 3) && refused(ulavrepit_give(2, 1, 0), 3), "refused 3");
     check(refused(ulavrepit_create(31), 4) && refused(ulavrepit_collect(0, 4), 4), "refused 4");
     check(refused(ulavrepit_give(1, 2, 0), 5), "refused 5");
@@ -248,6 +251,9 @@ static void test_refusals(void)
     check(refused(ulavrepit_cut(1, 512), 7) && refused(ulavrepit_find(0, 1024), 7), "refused 7");
     check(done(ulavrepit_cut(1, 527), 4, 0) && refused(ulavrepit_prepare(1, 1), 9), "refused 9");
     check(refused(ulavrepit_merge(4, 1), 11), "refused 11");
+    check(refused(ulavrepit_unload(2, 8), 3) && done(ulavrepit_load(0, 1, 7), 0, 0) && done(ulavrepit_unload(0, 7), 0, 0) &&
+              done(ulavrepit_unload(0, 7), 0, 0) && done(ulavrepit_read_region(0, 7), 0, 0),
+          "a region is unloaded, also one that names nothing");
     check(refused(ulavrepit_load(0, 1, 8), 16) && refused(ulavrepit_unload(0, 31), 16) &&
               done(ulavrepit_load(0, 1, 0), 0, 0) && refused(ulavrepit_load(0, 1, 1), 16),
           "refused 16");
@@ -394,7 +400,7 @@ static void test_packing(void)
     check(ulavrepit_word(15, 15, 31, 31, 7, 134217727) == UINT64_C(0xffffffffffff0000), "the widest fields fit");
     check(ulavrepit_delete(1) == UINT64_C(0x2100000000000000) && ulavrepit_collect(1, 3) == UINT64_C(0x4100c00000000000) &&
               ulavrepit_take(3) == UINT64_C(0x6018000000000000) && ulavrepit_merge(1, 2) == UINT64_C(0x8008800000000000) &&
-              ulavrepit_load(1, 2, 3) == UINT64_C(0x9110c00000000000) && ulavrepit_unload(1, 3) == UINT64_C(0xa100c00000000000) &&
+              ulavrepit_load(1, 2, 3) == UINT64_C(0x9110c00000000000) && ulavrepit_unload(1, 3) == UINT64_C(0x9100c80000000000) &&
               ulavrepit_read_region(1, 3) == UINT64_C(0xb100c00000000000) &&
               ulavrepit_find(1, 300) == UINT64_C(0xc1000000012c0000) &&
               ulavrepit_switch(1) == UINT64_C(0xd100000000000000) &&

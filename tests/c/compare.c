@@ -25,7 +25,8 @@ static dice chance;
 static bool same_so_far = true;
 static unsigned long calls, accepted, damaged, odd, listings, boots;
 static unsigned long most_runs, short_lists;
-static unsigned long cells[LAST_SERVICE + 1][18]; /* by service and refusal number */
+static unsigned long cells[LAST_SERVICE + 1][18]; /* by service, or unload, and refusal number */
+static unsigned long missed[REGION_MISSES];       /* refused with 2, by what was wrong */
 static unsigned long cleared[SECOND_PARTITIONS];  /* clear outs, by the number of partitions removed */
 static unsigned long alone[CLAUSES + 1];
 static unsigned long unsound_sessions, unsound_odd;
@@ -77,6 +78,15 @@ static void boot_both(uint64_t base, uint64_t end)
     boots++;
 }
 
+/* The row that a word is counted in; 0 if none. */
+static unsigned row_of(uint64_t word)
+{
+    unsigned service = (unsigned)(word >> 60);
+    if (service == ULAVREPIT_LOAD && (word >> 43 & 7) != 0)
+        return UNLOAD;
+    return service == 10 || service > LAST_SERVICE ? 0 : service;
+}
+
 /* Answers the refusal number. */
 static unsigned call_both(uint64_t word)
 {
@@ -85,8 +95,8 @@ static unsigned call_both(uint64_t word)
     uint64_t our = ulavrepit_call(ours.table, sizeof ours.table, word, &ours.second);
     uint64_t their = second_call(theirs.table, sizeof theirs.table, word, &theirs.second);
     compare("call", word, our, their, &before);
-    if (word >> 60 >= ULAVREPIT_CREATE && word >> 60 <= LAST_SERVICE)
-        cells[word >> 60][their & 0xff]++;
+    cells[row_of(word)][their & 0xff]++;
+    missed[region_missed(word)] += (their & 0xff) == ULAVREPIT_REFUSED_WORD;
     if (word >> 60 == ULAVREPIT_CLEAR_OUT && (their & 0xff) == 0)
         cleared[their >> 32 & 15]++;
     return (unsigned)(their & 0xff);
@@ -273,6 +283,8 @@ static void print_cells(void)
     printf("\n# clear outs by the number of partitions removed:");
     for (unsigned size = 1; size < SECOND_PARTITIONS; size++)
         printf(" %u: %lu%s", size, cleared[size], size < SECOND_PARTITIONS - 1 ? "," : "");
+    printf("\n# refused 2: service 9 with R above 1 %lu, with R 1 and S not 0 %lu, service 10 %lu", missed[RIGHTS_ABOVE_1],
+           missed[UNLOAD_OF_A_SLOT], missed[SERVICE_10]);
     printf("\n# tables in which one clause failed alone:");
     for (unsigned clause = 1; clause <= CLAUSES; clause++)
         printf(" S%u %lu%s", clause, alone[clause], clause < CLAUSES ? "," : "\n");
@@ -297,6 +309,14 @@ static bool every_cell_met(void)
             good = false;
         }
     return good;
+}
+
+static bool every_region_missed(unsigned long least)
+{
+    for (region_miss miss = RIGHTS_ABOVE_1; miss < REGION_MISSES; miss++)
+        if (missed[miss] < least)
+            return false;
+    return true;
 }
 
 /* From a child alone to all but the root. */
@@ -333,6 +353,7 @@ int main(int count, char **words)
     check(unsound_sessions == 0, "no table that a session, or an odd table, came to was refused 1");
     check(unsound_odd == 0, "every odd table is sound");
     check(every_cell_met(), "every service was done, and refused with each of its numbers, 1 and 2, and with no other");
+    check(every_region_missed(last / 1000), "service 10, and 9 with R or S that is neither load nor unload, were met");
     check(every_clause_failed_alone(last / 200), "each of S1 to S11 failed alone in many tables");
     check(every_branch_cleared(), "branches of 1 to 15 partitions were cleared out");
     check(deepest == SECOND_PARTITIONS - 1, "chains of 15 levels below the root were met");

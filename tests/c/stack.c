@@ -32,7 +32,7 @@ static uint8_t start[ULAVREPIT_TABLE_BYTES], table[ULAVREPIT_TABLE_BYTES];
 static uint8_t list[ULAVREPIT_HOLDERS_BYTES];
 static ulavrepit_run runs[ULAVREPIT_RUNS];
 static uint64_t argument;
-static bool accepted[ULAVREPIT_CLEAR_OUT + 1]; /* by service */
+static bool accepted[ULAVREPIT_CLEAR_OUT + 1]; /* by service; there is no service 10, so unload is noted there */
 
 static void do_nothing(void)
 {
@@ -57,7 +57,7 @@ static void do_call(void)
     uint64_t second;
     memcpy(table, start, sizeof table);
     if ((ulavrepit_call(table, sizeof table, argument, &second) & 0xff) == 0)
-        accepted[argument >> 60] = true;
+        accepted[argument >> 60 == ULAVREPIT_LOAD && (argument >> 43 & 1) == 1 ? 10 : argument >> 60] = true;
 }
 
 static void do_holders(void)

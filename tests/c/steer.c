@@ -368,11 +368,36 @@ static uint64_t load(const second_table *t, uint8_t refusal, dice *d)
     return ulavrepit_load(p, slot_or_any(t, p, passes, d), region);
 }
 
+region_miss region_missed(uint64_t word)
+{
+    uint64_t service = word >> 60, slot = word >> 51 & 31, rights = word >> 43 & 7;
+    if (service == 10)
+        return SERVICE_10;
+    if (service != ULAVREPIT_LOAD || rights == 0)
+        return NO_MISS;
+    return rights > 1 ? RIGHTS_ABOVE_1 : slot != 0 ? UNLOAD_OF_A_SLOT : NO_MISS;
+}
+
+/* One of these, in order but for that; at times P is not as it should be either, which is not what is answered. */
+static uint64_t region_near_miss(const second_table *t, dice *d)
+{
+    uint8_t p = some_partition(t, ULAVREPIT_LOAD, percent(d, 25) ? 3 : 0, d), s = slot_or_any(t, p, is_open, d);
+    uint32_t region = below(d, SECOND_REGIONS);
+    switch ((region_miss)(1 + below(d, REGION_MISSES - 1))) {
+    case RIGHTS_ABOVE_1:
+        return ulavrepit_word(ULAVREPIT_LOAD, p, percent(d, 50) ? s : 0, region, 2 + below(d, 6), 0);
+    case UNLOAD_OF_A_SLOT:
+        return ulavrepit_word(ULAVREPIT_LOAD, p, s == 0 ? 1 : s, region, 1, 0);
+    default:
+        return ulavrepit_word(10, p, percent(d, 50) ? s : 0, region, 0, 0);
+    }
+}
+
 static uint64_t unload_or_read(const second_table *t, uint8_t service, uint8_t refusal, dice *d)
 {
     uint8_t p = some_partition(t, service, refusal, d);
     uint32_t region = refusal == 16 ? SECOND_REGIONS + below(d, 32 - SECOND_REGIONS) : below(d, SECOND_REGIONS);
-    return service == ULAVREPIT_UNLOAD ? ulavrepit_unload(p, region) : ulavrepit_read_region(p, region);
+    return service == UNLOAD ? ulavrepit_unload(p, region) : ulavrepit_read_region(p, region);
 }
 
 static uint64_t find(const second_table *t, uint8_t refusal, dice *d)
@@ -410,7 +435,7 @@ static uint64_t clear_out(const second_table *t, uint8_t refusal, dice *d)
     return ulavrepit_clear_out(p);
 }
 
-/* A word that is meant to be refused with the number, or accepted (0). */
+/* A word that is meant to be refused with the number, or accepted (0); of unload, one of service 9. */
 static uint64_t word_for(const second_table *t, uint8_t service, uint8_t refusal, dice *d)
 {
     switch (service) {
@@ -431,7 +456,7 @@ static uint64_t word_for(const second_table *t, uint8_t service, uint8_t refusal
         return merge(t, refusal, d);
     case ULAVREPIT_LOAD:
         return load(t, refusal, d);
-    case ULAVREPIT_UNLOAD:
+    case UNLOAD:
     case ULAVREPIT_READ_REGION:
         return unload_or_read(t, service, refusal, d);
     case ULAVREPIT_FIND:
@@ -560,6 +585,8 @@ static uint64_t near_miss(const uint8_t *table, const second_table *t, dice *d)
     uint64_t word = 0;
     if (percent(d, 15))
         return bit_turned(t, d);
+    if (percent(d, 5))
+        return region_near_miss(t, d);
     for (unsigned tries = 0; tries < 8; tries++) {
         uint8_t service = (uint8_t)(1 + below(d, LAST_SERVICE)), refusal = some_check(service, d);
         if (percent(d, 50)) {

@@ -15,11 +15,18 @@
  */
 typedef enum { MIXED, DEEP, WIDE, DENSE, LENDING, REGIONS, CLEARING, MOODS } mood;
 
-/* The services are 1 to this number. */
-enum { LAST_SERVICE = 14 };
+/*
+ * The services are 1 to 14 without 10. What service 9 does with R = 1, unload, has checks of its own and is counted by
+ * itself: in row 10, which is free.
+ */
+enum { UNLOAD = 10, LAST_SERVICE = 14 };
 
-/* The refusal numbers of each service, from 01's column Checks and from 02, ended by 0. */
+/* The refusal numbers of each, from 01's column Checks and from 02, ended by 0. */
 extern const uint8_t service_checks[LAST_SERVICE + 1][8];
+
+/* A word of service 9 by which nothing is loaded or unloaded: R above 1, or R = 1 and S not 0; or one of service 10. */
+typedef enum { NO_MISS, RIGHTS_ABOVE_1, UNLOAD_OF_A_SLOT, SERVICE_10, REGION_MISSES } region_miss;
+region_miss region_missed(uint64_t word);
 
 /* A call word for the table's current partition. The table is handed over as bytes and read. */
 uint64_t next_word(const uint8_t *table, const second_table *t, mood m, dice *d);

@@ -3,7 +3,7 @@
 use mathlib.Core.Path.{_≡_, refl, ap₂}
 use mathlib.Core.Bool.{Bool, true, false, _&&_, and-eq-true-iff, false≢true}
 use mathlib.Core.List.{List, [], _∷_, _++_, map}
-use Prim.Native.Nat.{ℕ}
+use Prim.Native.Nat.{ℕ, _+_, _*_, _^_}
 use native.Mathlib.Decide.{ℕ-discrete}
 use lib.ListN.{length, getD, replicate}
 use lib.Dec.{eqb}
@@ -28,7 +28,7 @@ use Rattle.sound.specs.Sound.{allRights}
 use Rattle.sound.specs.Clauses.{when, has, isNowhere, long, s1, s2Root, s2Other, s2, blankRegion, s3Regions, s3First, s3, rooted, s4Area, s4Absent, s4, s5Slot, s5, apartE, s6, held, covered, s7Root, s7Given, grants, s7Inside, s7Cover, s7, equals, s8Backed, s8Apart, s8, s9, s10Names, s10Once, s10, full, within, s11, sound}
 use Rattle.sound.specs.Holders.{givenTo, givenBy, heir, deepest, trail, holdersOf, inMemory, holdersOutcome, holdersBytes}
 use Rattle.services.specs.Ran.{outcomeOf}
-use Rattle.services.specs.Rules.{Result, check, need, ownOrChild, parentOrChild, freeEntry, long as longEntry, create, delete, prepare, vacant, collect, give, returned, take, cut, merge, elsewhere, load, unload, regionWord, readRegion, find, switch, ungive, branch, clearOut, noRights, uses, unused, known, perform, serve, serveRead, callOn, bootOn, wordsAfter}
+use Rattle.services.specs.Rules.{Result, check, need, ownOrChild, parentOrChild, freeEntry, long as longEntry, create, delete, prepare, vacant, collect, give, returned, take, cut, merge, elsewhere, load, unload, regionWord, readRegion, find, switch, ungive, branch, clearOut, noRights, uses, unused, regionCall, known, perform, serve, serveRead, callOn, bootOn, wordsAfter}
 
 -- ── a case: what is computed, and what 01 says ──
 abbrev pub Case : Type 0
@@ -58,6 +58,10 @@ word n p s u l = wordOf call (record {
   rights = record { read = false; write = false; execute = false };
   line = record { 0 = l };
 })
+
+-- the word of service 9 with these fields: P, S, T, R as a number
+abbrev pub word9 : ℕ → ℕ → ℕ → ℕ → ℕ
+word9 p s u r = word 9 p s u 0 + r * 2 ^ 43
 
 -- on the words l the call word w is done, with these values
 abbrev pub gives : List ℕ → ℕ → ℕ → ℕ → Case
@@ -187,10 +191,10 @@ casesOf B (lines, X) =
     ∷ (run B (word 7 0 0 0 272 ∷ word 1 0 0 0 0 ∷ []) .0, 0 ∷ 1 ∷ 0 ∷ 0 ∷ 1 ∷ 0 ∷ [])
     ∷ []
 
--- ── services that 01's list does not call, and request 101 of 02; B, X, D and A as above ──
+-- ── services that 01's list does not call, and requests 101 and 105 of 02; B, X, D and A as above ──
 abbrev pub furtherCases : List ℕ → List ℕ → List ℕ → List ℕ → List Case
 furtherCases B X D A =
-    let region = run B (word 9 0 0 7 0 ∷ word 11 0 0 7 0 ∷ word 10 0 0 7 0 ∷ word 11 0 0 7 0 ∷ []) in
+    let region = run B (word9 0 0 7 0 ∷ word 11 0 0 7 0 ∷ word9 0 0 7 1 ∷ word 11 0 0 7 0 ∷ []) in
     let gone = run X (word 2 1 0 0 0 ∷ []) in
     let one = run X (word 14 1 0 0 0 ∷ []) in
     let three = run D (word 14 1 0 0 0 ∷ []) in
@@ -201,6 +205,13 @@ furtherCases B X D A =
     -- B, load slot 0 in region 7, read region 7, unload it, read it again: the entry's word, then 0; afterwards B
     ∷ (region .0, 0 ∷ 0 ∷ 0 ∷ 0 ∷ 0 ∷ 0xf800001000000800 ∷ 0 ∷ 0 ∷ 0 ∷ 0 ∷ 0 ∷ 0 ∷ [])
     ∷ (region .1, B)
+    -- B, unload region 8: 16; of partition 1, which is absent: 3
+    ∷ refuses B (word9 0 0 8 1) 16
+    ∷ refuses B (word9 1 0 8 1) 3
+    -- B, service 9 with R = 1 and S = 1, with R = 2 of the absent partition; service 10: 2
+    ∷ refuses B (word9 0 1 7 1) 2
+    ∷ refuses B (word9 1 0 7 2) 2
+    ∷ refuses B (word 10 0 0 7 0) 2
     -- X, delete 1: done; afterwards every word is as if nobody had ever been created. D, delete 1, which has a child: 15
     ∷ (gone .0, 0 ∷ 0 ∷ 0 ∷ [])
     ∷ (gone .1, A)
@@ -252,11 +263,11 @@ right-both (c ∷ bs) cs g h =
 
 -- each part is computed by itself: a declaration has so many steps and no more
 base-right : right (casesOf B session) ≡ true
-unfolding B session D A carried rest tabFrom climb first header structure regions slot call firstWord recordWord areaWordAt regionsWordAt blankWordAt slotWordAt view viewK entryIn headerArea structureArea areaIn nth named inside parentAt encode slotWord headerWord structureWord regionFor regionsWord partWord wordFor pick upd upd1 both? ℕ-discrete lowest present absent absentChild child noStructure free holds meets apart clear openBit openAt keep settle zeroTo zeroBlanks when has isNowhere long s1 s2Root s2Other s2 blankRegion s3Regions s3First s3 rooted s4Area s4Absent s4 s5Slot s5 apartE s6 held covered s7Root s7Given grants s7Inside s7Cover s7 equals s8Backed s8Apart s8 s9 s10Names s10Once s10 full within s11 sound givenTo givenBy heir deepest trail holdersOf inMemory holdersOutcome holdersBytes check need ownOrChild parentOrChild freeEntry longEntry create prepare vacant collect give returned take cut merge elsewhere load switch ungive branch clearOut sum noRights uses unused known perform serve serveRead callOn bootOn wordsAfter outcomeOf
+unfolding B session D A carried rest tabFrom climb first header structure regions slot call firstWord recordWord areaWordAt regionsWordAt blankWordAt slotWordAt view viewK entryIn headerArea structureArea areaIn nth named inside parentAt encode slotWord headerWord structureWord regionFor regionsWord partWord wordFor pick upd upd1 both? ℕ-discrete lowest present absent absentChild child noStructure free holds meets apart clear openBit openAt keep settle zeroTo zeroBlanks when has isNowhere long s1 s2Root s2Other s2 blankRegion s3Regions s3First s3 rooted s4Area s4Absent s4 s5Slot s5 apartE s6 held covered s7Root s7Given grants s7Inside s7Cover s7 equals s8Backed s8Apart s8 s9 s10Names s10Once s10 full within s11 sound givenTo givenBy heir deepest trail holdersOf inMemory holdersOutcome holdersBytes check need ownOrChild parentOrChild freeEntry longEntry create prepare vacant collect give returned take cut merge elsewhere load switch ungive branch clearOut sum noRights uses unused regionCall known perform serve serveRead callOn bootOn wordsAfter outcomeOf
 base-right = refl
 
 further-right : right (furtherCases B (session .1) D A) ≡ true
-unfolding B session D A carried rest tabFrom climb first header structure regions slot call firstWord recordWord areaWordAt regionsWordAt blankWordAt slotWordAt view viewK entryIn headerArea structureArea areaIn nth named inside parentAt encode slotWord headerWord structureWord regionFor regionsWord partWord wordFor pick upd upd1 both? ℕ-discrete lowest present absent absentChild child hasChild noStructure free holds meets apart clear openBit openAt keep settle zeroTo zeroBlanks when has isNowhere long s1 s2Root s2Other s2 blankRegion s3Regions s3First s3 rooted s4Area s4Absent s4 s5Slot s5 apartE s6 held covered s7Root s7Given grants s7Inside s7Cover s7 equals s8Backed s8Apart s8 s9 s10Names s10Once s10 full within s11 sound givenTo givenBy heir deepest trail holdersOf inMemory holdersOutcome holdersBytes check need ownOrChild parentOrChild freeEntry longEntry create delete prepare vacant collect give returned take cut merge elsewhere load unload regionWord readRegion find switch ungive branch clearOut sum noRights uses unused known perform serve serveRead callOn bootOn wordsAfter outcomeOf
+unfolding B session D A carried rest tabFrom climb first header structure regions slot call firstWord recordWord areaWordAt regionsWordAt blankWordAt slotWordAt view viewK entryIn headerArea structureArea areaIn nth named inside parentAt encode slotWord headerWord structureWord regionFor regionsWord partWord wordFor pick upd upd1 both? ℕ-discrete lowest present absent absentChild child hasChild noStructure free holds meets apart clear openBit openAt keep settle zeroTo zeroBlanks when has isNowhere long s1 s2Root s2Other s2 blankRegion s3Regions s3First s3 rooted s4Area s4Absent s4 s5Slot s5 apartE s6 held covered s7Root s7Given grants s7Inside s7Cover s7 equals s8Backed s8Apart s8 s9 s10Names s10Once s10 full within s11 sound givenTo givenBy heir deepest trail holdersOf inMemory holdersOutcome holdersBytes check need ownOrChild parentOrChild freeEntry longEntry create delete prepare vacant collect give returned take cut merge elsewhere load unload regionWord readRegion find switch ungive branch clearOut sum noRights uses unused regionCall known perform serve serveRead callOn bootOn wordsAfter outcomeOf
 further-right = refl
 
 -- ── the statement: in every case, what is computed is what 01 and 02 say ──

@@ -1,8 +1,8 @@
 -- Each refusal number is given exactly under its condition: the conditions of a call, in order, and that they answer it.
 use mathlib.Core.Path.{_≡_, refl, ap, sym, subst}
-use mathlib.Core.Bool.{Bool, true, false, cond, not, _||_, true≢false}
+use mathlib.Core.Bool.{Bool, true, false, cond, not, _||_, true≢false, false≢true}
 use mathlib.Core.List.{List}
-use mathlib.Core.Logic.{_↔_}
+use mathlib.Core.Logic.{_↔_, Iff·rfl}
 use Prim.Native.Nat.{ℕ}
 use lib.Dec.{eqb}
 use borrow.Author.Tests.{not-true}
@@ -17,7 +17,7 @@ use Rattle.sound.specs.Sound.{Sound}
 use Rattle.sound.specs.Canonical.{sound-canon}
 use Rattle.sound.specs.Means.{eq-means, and-means, has-means}
 use Rattle.sound.specs.Whole.{Right, sound-means, sound-right}
-use Rattle.services.specs.Rules.{Result, noRights, Uses, uses, unused, known, serve, callOn}
+use Rattle.services.specs.Rules.{Result, noRights, Uses, uses, unused, regionCall, known, serve, callOn}
 use Rattle.services.specs.Calls.{call-as}
 use Rattle.services.specs.Each.{perform-each}
 use Rattle.isolation.specs.Ladder.{Ladder, finish, must, Answers, answer-one, check-answers}
@@ -46,14 +46,23 @@ Unused x f =
     × (x .r ≡ false → Rightless (f .rights)))
     × (x .l ≡ false → f .line .0 ≡ 0)
 
+-- service 9: R is not above 1, and where it is 1, S is 0
+abbrev pub RegionCall : CallFields → Type 0
+RegionCall f = ((f .rights .read ≡ false) × (f .rights .write ≡ false)) × (f .rights .execute ≡ true → f .slot .0 ≡ 0)
+
 -- .. and there is a service of that number
 abbrev pub Known : CallFields → Type 0
-Known f = (x : Uses) × (uses (f .service) ≡ some x) × Unused x f
+Known f = (f .service ≡ 9 → RegionCall f) × ((x : Uses) × (uses (f .service) ≡ some x) × Unused x f)
 
 -- a || b: b where a is false
 else-means : (a : Bool) {b : Bool} {B : Type 0} → (b ≡ true) ↔ B → (a || b ≡ true) ↔ (a ≡ false → B)
 else-means true m = (λ _ q. absurd (true≢false q), λ _. refl)
 else-means false m = (λ q _. m .0 q, λ f. m .1 (f refl))
+
+-- not a || b: b where a is true
+only-means : (a : Bool) {b : Bool} {A B : Type 0} → (a ≡ true) ↔ A → (b ≡ true) ↔ B → (not a || b ≡ true) ↔ (A → B)
+only-means true f g = (λ q _. g .0 q, λ h. g .1 (h (f .0 refl)))
+only-means false f g = (λ _ x. absurd (false≢true (f .1 x)), λ _. refl)
 
 clear-means : (a : Bool) → (not a ≡ true) ↔ (a ≡ false)
 clear-means a = (not-true a, λ q. ap not q)
@@ -70,9 +79,15 @@ unused-means x f =
     (else-means (x .r) (and-means (and-means (clear-means (g .read)) (clear-means (g .write))) (clear-means (g .execute)))))
     (else-means (x .l) (eq-means (f .line .0) 0))
 
+region-means : (f : CallFields) → (regionCall f ≡ true) ↔ RegionCall f
+unfolding regionCall
+region-means f =
+    let g = f .rights in
+    and-means (and-means (clear-means (g .read)) (clear-means (g .write))) (only-means (g .execute) Iff·rfl (eq-means (f .slot .0) 0))
+
 known-means : (f : CallFields) → (known f ≡ true) ↔ Known f
 unfolding known
-known-means f = has-means (uses (f .service)) (λ x. unused-means x f)
+known-means f = and-means (only-means (eqb (f .service) 9) (eq-means (f .service) 9) (region-means f)) (has-means (uses (f .service)) (λ x. unused-means x f))
 
 -- ── a call ──
 -- the conditions of the service of number n
@@ -90,13 +105,12 @@ numberedLadder n t f =
     (cond (eqb n 6) (takeLadder t s)
     (cond (eqb n 7) (cutLadder t s l)
     (cond (eqb n 8) (mergeLadder t s u)
-    (cond (eqb n 9) (loadLadder t p s u)
-    (cond (eqb n 10) (unloadLadder t p u)
+    (cond (eqb n 9) (cond (f .rights .execute) (unloadLadder t p u) (loadLadder t p s u))
     (cond (eqb n 11) (readRegionLadder t p u)
     (cond (eqb n 12) (findLadder t p l)
     (cond (eqb n 13) (switchLadder t p)
     (cond (eqb n 14) (clearLadder t p)
-    (must 2 ⊥ (finish 0 0 t)))))))))))))))
+    (must 2 ⊥ (finish 0 0 t))))))))))))))
 
 abbrev pub serveLadder : Table → CallFields → Ladder
 serveLadder t f = must 2 (Known f) (numberedLadder (f .service) t f)
@@ -126,8 +140,8 @@ module _ {t : Table} (h : Right t) (f : CallFields) where
         take = at 6 (take-exact h s);
         cut = at 7 (cut-exact h s l);
         merge = at 8 (merge-exact h s u);
-        load = at 9 (load-exact h p s u);
-        unload = at 10 (unload-exact h p u);
+        load = λ q z. at 9 (rw z (load-exact h p s u)) q;
+        unload = λ q z. at 9 (rw z (unload-exact h p u)) q;
         readRegion = at 11 (readRegion-exact h p u);
         find = at 12 (find-exact h p l);
         switch = at 13 (switch-exact h p);

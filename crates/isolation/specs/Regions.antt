@@ -1,4 +1,4 @@
--- Services 9, 10 and 11: a region of a partition is loaded, emptied, read.
+-- Services 9 and 11: a region of a partition is loaded or emptied, and read.
 use mathlib.Core.Path.{_≡_, refl}
 use mathlib.Core.Bool.{Bool, true, not, _&&_}
 use mathlib.Core.Logic.{_⊎_, inl, inr, _↔_}

@@ -161,8 +161,8 @@ module _ {base end : ℕ} {g : Ledger} {t : Table} (h : Right t) (s : Keeps base
         take = λ y x. rw y (take-kept i x);
         cut = λ y x. let (_, ok, q) = cut-done h i m x in rw (y, q) (quiet refl refl refl (cut-holds (h .core) ok));
         merge = λ y x. let (_, _, ok, q) = merge-done h i u x in rw (y, q) (quiet refl refl refl (merge-holds (h .core) ok));
-        load = λ y x. let (_, _, q) = load-done h p i u x in rw (y, q) s;
-        unload = λ y x. let (_, _, q) = unload-done h p u x in rw (y, q) s;
+        load = λ y _ x. let (_, _, q) = load-done h p i u x in rw (y, q) s;
+        unload = λ y _ x. let (_, _, q) = unload-done h p u x in rw (y, q) s;
         readRegion = λ y x. rw (y, readRegion-same h p u x) s;
         find = λ y x. rw (y, find-same h p m x) s;
         switch = λ y x. let (_, q) = switch-done h p x in rw (y, q) (quiet refl refl refl (λ p l. Iff·rfl));

@@ -112,8 +112,8 @@ module _ (t : Table) where
     take = λ _. take-brief (f .slot .0);
     cut = λ _. cut-brief (f .slot .0) (f .line .0);
     merge = λ _. merge-brief (f .slot .0) (f .other);
-    load = λ _. load-brief (f .partition .0) (f .slot .0) (f .other);
-    unload = λ _. unload-brief (f .partition .0) (f .other);
+    load = λ _ _. load-brief (f .partition .0) (f .slot .0) (f .other);
+    unload = λ _ _. unload-brief (f .partition .0) (f .other);
     readRegion = λ _. read-brief (f .partition .0) (f .other);
     find = λ _. find-brief (f .partition .0) (f .line .0);
     switch = λ _. switch-brief (f .partition .0);

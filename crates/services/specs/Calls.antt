@@ -1,11 +1,11 @@
 -- What a call answers, and the words after it.
 use mathlib.Core.Path.{_≡_, refl, ap, sym, subst, _∙_}
-use mathlib.Core.Bool.{Bool, true, false, cond}
-use mathlib.Core.List.{List}
-use Prim.Native.Nat.{ℕ, zero, suc, _≤_, _<_}
+use mathlib.Core.Bool.{Bool, true, false, cond, _||_, false≢true}
+use mathlib.Core.List.{List, [], _∷_}
+use mathlib.Core.Logic.{⊎-elim}
+use Prim.Native.Nat.{ℕ, _<_}
 use native.Mathlib.Omega.{arith}
-use native.Mathlib.Decide.{ℕ-discrete}
-use borrow.Author.Tests.{ne-eqb}
+use borrow.Author.Tests.{eqb-true, ne-eqb}
 use lib.Dec.{eqb}
 use Rattle.words.specs.Kind.{fieldsIn, zeroed, reading}
 use Rattle.words.specs.Words.{call}
@@ -20,6 +20,7 @@ use Rattle.tables.specs.Seen.{see-first}
 use Rattle.tables.specs.declared.Outcome.{Outcome}
 use Rattle.tables.specs.declared.Outcome.the-variants.{Done, Refused}
 use Rattle.sound.specs.Clauses.{sound, has}
+use Rattle.sound.specs.Tests.{or-says}
 use Rattle.services.specs.declared.Answer.{Answer}
 use Rattle.services.specs.Rules.{refused, check, uses, known, perform, serve, serveRead, callOn}
 use Rattle.services.specs.Ran.{Ran, ran-one, ran-refused, ran-as, ran-copied, ran-kept, pass, fail}
@@ -51,25 +52,29 @@ answers-one x y =
     same e f = cc
 
 -- ── a number that is no service's ──
--- n is none of 1 to m, as a `match` on it says
-abbrev pub NoneOf : ℕ → ℕ → Type 0
-NoneOf n zero = Unit {0}
-NoneOf n (suc m) = NoneOf n m × (n ≡ suc m → ⊥)
+-- the services' numbers, the last first
+abbrev pub numbers : List ℕ
+numbers = 14 ∷ 13 ∷ 12 ∷ 11 ∷ 9 ∷ 8 ∷ 7 ∷ 6 ∷ 5 ∷ 4 ∷ 3 ∷ 2 ∷ 1 ∷ []
 
-none-of-at : (n m k : ℕ) → NoneOf n m → 0 < k → k ≤ m → n ≡ k → ⊥
-none-of-at n zero k h a b e = omega arith
-none-of-at n (suc m) k h a b e = go (λ z. none-of-at n m k (h .0) a z e) (ℕ-discrete k (suc m))
-  where
-    go : (k ≤ m → ⊥) → Dec (k ≡ suc m) → ⊥
-    go below (yes z) = h .1 (e ∙ z)
-    go below (no z) = below (omega arith)
+-- n is none of these, as a `match` on it says
+abbrev pub NoneOf : ℕ → List ℕ → Type 0
+NoneOf n [] = Unit {0}
+NoneOf n (k ∷ ks) = NoneOf n ks × (n ≡ k → ⊥)
 
-pub known-not : (f : CallFields) → NoneOf (f .service) 14 → false ≡ known f
+abbrev listed : ℕ → List ℕ → Bool
+listed k [] = false
+listed k (m ∷ ms) = eqb k m || listed k ms
+
+none-of-at : (n k : ℕ) (ks : List ℕ) → NoneOf n ks → listed k ks ≡ true → eqb n k ≡ false
+none-of-at n k [] h z = absurd (false≢true z)
+none-of-at n k (m ∷ ms) h z = ⊎-elim (λ q. ne-eqb n k (λ e. h .1 (e ∙ eqb-true k m q))) (none-of-at n k ms (h .0)) (or-says (eqb k m) (listed k ms) z)
+
+pub known-not : (f : CallFields) → NoneOf (f .service) numbers → false ≡ known f
 unfolding known uses has
-known-not f h = rw (no 1 (omega arith) (omega arith), no 2 (omega arith) (omega arith), no 3 (omega arith) (omega arith), no 4 (omega arith) (omega arith), no 5 (omega arith) (omega arith), no 6 (omega arith) (omega arith), no 7 (omega arith) (omega arith), no 8 (omega arith) (omega arith), no 9 (omega arith) (omega arith), no 10 (omega arith) (omega arith), no 11 (omega arith) (omega arith), no 12 (omega arith) (omega arith), no 13 (omega arith) (omega arith), no 14 (omega arith) (omega arith)) refl
+known-not f h = rw (no 1 refl, no 2 refl, no 3 refl, no 4 refl, no 5 refl, no 6 refl, no 7 refl, no 8 refl, no 9 refl, no 11 refl, no 12 refl, no 13 refl, no 14 refl) refl
   where
-    no : (k : ℕ) → 0 < k → k ≤ 14 → eqb (f .service) k ≡ false
-    no k a b = ne-eqb (f .service) k (none-of-at (f .service) 14 k h a b)
+    no : (k : ℕ) → listed k numbers ≡ true → eqb (f .service) k ≡ false
+    no k = none-of-at (f .service) k numbers h
 
 module _ (t : Table) (f : CallFields) where
   pub serve-unknown : known f ≡ false → serve t f ≡ refused 2

@@ -1,4 +1,4 @@
--- The rules of boot and of the fourteen services, in 01's order and words: the checks with their numbers, then the effect and the values.
+-- The rules of boot and of the thirteen services, in 01's order and words: the checks with their numbers, then the effect and the values.
 use mathlib.Core.Bool.{Bool, true, false, cond, not, _&&_, _||_, Bool·beq}
 use mathlib.Core.List.{List}
 use Prim.Native.Nat.{ℕ, _+_, _*_, _^_}
@@ -205,7 +205,7 @@ merge t s u =
     (check 13 (sameRights (e .rights) (f .rights))
     (done 0 0 (settle (mergeK (t .k) s u e f) (t .region)))))))
 
--- ── 9 load: P own or child, S of P, T region; 3 4 5 16; region T names S; 0, 0 ──
+-- ── 9 with R = 0, load: P own or child, S of P, T region; 3 4 5 16; region T names S; 0, 0 ──
 -- S is already in another region
 unfoldable pub elsewhere : Table → ℕ → ℕ → ℕ → Bool
 elsewhere t p s r = any 8 (λ q. not (eqb q r) && has (λ i. eqb i s) (t .region p q))
@@ -218,7 +218,7 @@ load t p s r =
     (check 16 (ltb r 8 && not (elsewhere t p s r))
     (done 0 0 (settle (t .k) (upd (t .region) p r (some s))))))
 
--- ── 10 unload: P own or child, T; 3 16; region T zero; 0, 0 ──
+-- ── 9 with R = 1, unload: P own or child, T; 3 16; region T zero; 0, 0 ──
 unfoldable pub unload : Table → ℕ → ℕ → Result
 unload t p r =
     check 3 (ownOrChild (t .k) p)
@@ -282,22 +282,25 @@ uses n =
     (cond (eqb n 6) (some (record { p = false; s = true; u = false; r = false; l = false }))
     (cond (eqb n 7) (some (record { p = false; s = true; u = false; r = false; l = true }))
     (cond (eqb n 8) (some (record { p = false; s = true; u = true; r = false; l = false }))
-    (cond (eqb n 9) (some (record { p = true; s = true; u = true; r = false; l = false }))
-    (cond (eqb n 10) (some (record { p = true; s = false; u = true; r = false; l = false }))
+    (cond (eqb n 9) (some (record { p = true; s = true; u = true; r = true; l = false }))
     (cond (eqb n 11) (some (record { p = true; s = false; u = true; r = false; l = false }))
     (cond (eqb n 12) (some (record { p = true; s = false; u = false; r = false; l = true }))
     (cond (eqb n 13) (some (record { p = true; s = false; u = false; r = false; l = false }))
     (cond (eqb n 14) (some (record { p = true; s = false; u = false; r = false; l = false }))
-    none)))))))))))))
+    none))))))))))))
 
 -- a field that the service doesn't use is 0
 unfoldable pub unused : Uses → CallFields → Bool
 unused x f =
     (x .p || eqb (f .partition .0) 0) && (x .s || eqb (f .slot .0) 0) && (x .u || eqb (f .other) 0) && (x .r || noRights (f .rights)) && (x .l || eqb (f .line .0) 0)
 
--- 2: there is a service of that number, and each field that it doesn't use is 0
+-- service 9: R is not above 1, and where it is 1, S is 0
+unfoldable pub regionCall : CallFields → Bool
+regionCall f = not (f .rights .read) && not (f .rights .write) && (not (f .rights .execute) || eqb (f .slot .0) 0)
+
+-- 2: there is a service of that number, each field that it doesn't use is 0, and service 9 is so called
 unfoldable pub known : CallFields → Bool
-known f = has (λ x. unused x f) (uses (f .service))
+known f = (not (eqb (f .service) 9) || regionCall f) && has (λ x. unused x f) (uses (f .service))
 
 -- the service of number n, of such fields
 abbrev pub numbered : ℕ → Table → CallFields → Result
@@ -314,13 +317,12 @@ numbered n t f =
     (cond (eqb n 6) (take t s)
     (cond (eqb n 7) (cut t s l)
     (cond (eqb n 8) (merge t s u)
-    (cond (eqb n 9) (load t p s u)
-    (cond (eqb n 10) (unload t p u)
+    (cond (eqb n 9) (cond (f .rights .execute) (unload t p u) (load t p s u))
     (cond (eqb n 11) (readRegion t p u)
     (cond (eqb n 12) (find t p l)
     (cond (eqb n 13) (switch t p)
     (cond (eqb n 14) (clearOut t p)
-    (refused 2))))))))))))))
+    (refused 2)))))))))))))
 
 unfoldable pub perform : Table → CallFields → Result
 perform t f = numbered (f .service) t f

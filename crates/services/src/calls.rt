@@ -1,5 +1,5 @@
 ghost use mathlib.Core.Path.{_≡_};
-ghost use mathlib.Core.Bool.{true, _||_};
+ghost use mathlib.Core.Bool.{true, false, _&&_, _||_};
 ghost use Rattle.words.specs.Kind.{reading};
 ghost use Rattle.words.specs.Words.{call};
 ghost use Rattle.words.specs.Fields.{SmallCall};
@@ -7,7 +7,7 @@ ghost use Rattle.tables.specs.View.{view};
 ghost use Rattle.tables.specs.Top.{Top};
 ghost use Rattle.tables.specs.Encode.{Canon};
 ghost use Rattle.sound.specs.Whole.{Right};
-ghost use Rattle.services.specs.Rules.{noRights, unused, known, perform, serve, serveRead};
+ghost use Rattle.services.specs.Rules.{noRights, unused, regionCall, known, numbered, perform, serve, serveRead};
 ghost use Rattle.services.specs.Ran.{Ran};
 ghost use Rattle.services.specs.Calls.{Answers};
 ghost use Rattle.services.specs.Reads.{onlyReads};
@@ -61,7 +61,24 @@ fn unused(p: bool, s: bool, u: bool, r: bool, l: bool, f: CallFields) -> bool
     in_order(l, f.line.0 == 0)
 }
 
-// The service is one of the fourteen, and the fields that it doesn't use (P, S, T, R, L) are 0.
+// Service 9: R is not above 1, S is 0 where R is 1, and L is 0.
+fn region_known(f: CallFields) -> bool
+    ensures { λ b. ⌜ b ≡ regionCall f && unused (record { p = true; s = true; u = true; r = true; l = false }) f ⌝ }
+{
+    let r = f.rights;
+    if r.read {
+        return false;
+    }
+    if r.write {
+        return false;
+    }
+    if !in_order(!r.execute, f.slot.0 == 0) {
+        return false;
+    }
+    unused(true, true, true, true, false, f)
+}
+
+// The number is a service's, and the fields that it doesn't use (P, S, T, R, L) are 0.
 fn known(f: CallFields) -> bool
     ensures { λ b. ⌜ b ≡ known f ⌝ }
 {
@@ -75,14 +92,25 @@ fn known(f: CallFields) -> bool
         6 => unused(false, true, false, false, false, f),
         7 => unused(false, true, false, false, true, f),
         8 => unused(false, true, true, false, false, f),
-        9 => unused(true, true, true, false, false, f),
-        10 => unused(true, false, true, false, false, f),
+        9 => region_known(f),
         11 => unused(true, false, true, false, false, f),
         12 => unused(true, false, false, false, true, f),
         13 => unused(true, false, false, false, false, f),
         14 => unused(true, false, false, false, false, f),
         _ => false,
     }
+}
+
+// Service 9: R = 1 unloads, R = 0 loads.
+fn region(t: &mut [u64; 641], f: CallFields) -> Outcome
+    requires { ⌜ Canon (now t) × SmallCall f × Right (view (now t)) ⌝ }
+    ensures { λ r. ⌜ Ran (numbered 9 (view (now (t .entry))) f) (now (t .entry)) r (now (t .exit)) ⌝ }
+{
+    let r = f.rights;
+    if r.execute {
+        return crate::region_services::unload(t, f.partition, f.other);
+    }
+    crate::region_services::load(t, f.partition, f.slot, f.other)
 }
 
 // The service of a call word whose fields are in order.
@@ -100,8 +128,7 @@ fn perform(t: &mut [u64; 641], f: CallFields) -> Outcome
         6 => crate::take_service::take(t, f.slot),
         7 => crate::slot_services::cut(t, f.slot, f.line),
         8 => crate::merge_service::merge(t, f.slot, Slot(f.other)),
-        9 => crate::region_services::load(t, f.partition, f.slot, f.other),
-        10 => crate::region_services::unload(t, f.partition, f.other),
+        9 => region(t, f),
         11 => crate::region_services::read_region(t, f.partition, f.other),
         12 => crate::looks::find(t, f.partition, f.line),
         13 => crate::looks::switch(t, f.partition),

@@ -43,7 +43,7 @@ fn loaded_elsewhere(t: &[u64; 641], p: Partition, s: Slot, r: u32) -> bool
     false
 }
 
-// 9: region r of p names slot s, which is open: a right table stays settled
+// 9 with R = 0: region r of p names slot s, which is open: a right table stays settled
 pub fn load(t: &mut [u64; 641], p: Partition, s: Slot, r: u32) -> Outcome
     requires { ⌜ Canon (now t) × (p .0 < 16) × (s .0 < 32) × Right (view (now t)) ⌝ }
     ensures { λ o. ⌜ Ran (load (view (now (t .entry))) (p .0) (s .0) r) (now (t .entry)) o (now (t .exit)) ⌝ }
@@ -68,7 +68,7 @@ pub fn load(t: &mut [u64; 641], p: Partition, s: Slot, r: u32) -> Outcome
     Outcome::Done(0, 0)
 }
 
-// 10: region r of p names nothing; a right table stays settled
+// 9 with R = 1: region r of p names nothing; a right table stays settled
 pub fn unload(t: &mut [u64; 641], p: Partition, r: u32) -> Outcome
     requires { ⌜ Canon (now t) × (p .0 < 16) × Right (view (now t)) ⌝ }
     ensures { λ o. ⌜ Ran (unload (view (now (t .entry))) (p .0) r) (now (t .entry)) o (now (t .exit)) ⌝ }

@@ -197,8 +197,8 @@ module _ {b : ℕ} {t : Table} (h : Right t) (home : Present (t .k) b) (inside :
         take = λ _ x. let (j, e, g, ok, q) = take-done h i x in rw q (settled-step (two-frame _ _ _ _ (child-in (given-child (h .core) (k .current) i e (ok .at) (ok .given)))) (λ p r o. refl));
         cut = λ _ x. let (e, ok, q) = cut-done h i l x in rw q (settled-step (two-frame _ _ _ _ inside) (λ p r o. refl));
         merge = λ _ x. let (e, g, ok, q) = merge-done h i u x in rw q (settled-step (two-frame _ _ _ _ inside) (λ p r o. refl));
-        load = λ _ x. let (e, ok, q) = load-done h p i u x in rw q (region-step _ _ (ok .who));
-        unload = λ _ x. let (c, _, q) = unload-done h p u x in rw q (region-step _ _ c);
+        load = λ _ _ x. let (e, ok, q) = load-done h p i u x in rw q (region-step _ _ (ok .who));
+        unload = λ _ _ x. let (c, _, q) = unload-done h p u x in rw q (region-step _ _ c);
         readRegion = λ _ x. same-step (readRegion-same h p u x);
         find = λ _ x. same-step (find-same h p l x);
         switch = λ _ x. let (c, q) = switch-done h p x in rw q (settled-step (current-frame p) (λ p r o. refl));

@@ -1,0 +1,13 @@
+use Rattle.services.specs.Ran.{ran-as}
+use Rattle.services.specs.Each.{region-loads, region-unloads}
+use Rattle.services.proofs.calls.region.Statement.{statement}
+use Rattle.services.proofs.calls.region.Tie as tie
+
+pub region-spec : {M : Type 1} → statement M
+region-spec =
+    tie.close
+    (tie.spec
+    (λ c κs. (c .before .before .before .pre .0, c .before .before .before .pre .1 .partition, c .before .before .before .pre .2))
+    (λ c. ran-as (region-unloads _ (c .before .before .before .before .args .f) (c .before .before .if1 .taken)) (c .unload .ensures))
+    (λ c κs. (c .before .before .before .pre .0, c .before .before .before .pre .1 .partition, c .before .before .before .pre .1 .slot, c .before .before .before .pre .2))
+    (λ c. ran-as (region-loads _ (c .before .before .before .before .args .f) (c .before .before .if1 .left)) (c .load .ensures)))

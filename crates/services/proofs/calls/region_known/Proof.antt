@@ -1,0 +1,18 @@
+use mathlib.Core.Path.{refl}
+use borrow.Author.Tests.{not-true, not-false}
+use Rattle.services.specs.Rules.{unused, regionCall}
+use borrow.Author.Needs.{needs}
+use Rattle.services.proofs.calls.region_known.Statement.{statement}
+use Rattle.services.proofs.calls.region_known.Tie as tie
+
+pub region-known-spec : {M : Type 1} → statement M
+unfolding unused regionCall
+region-known-spec =
+    tie.close
+    (tie.spec
+    (λ c. rw (c .if1 .taken) refl)
+    (λ c. rw (c .before .if1 .left, c .if2 .taken) refl)
+    (λ c κs. search needs)
+    (λ c. rw (c .before .before .before .before .before .if1 .left, c .before .before .before .before .if2 .left, ← c .before .in-order .ensures, not-true (c .before .in-order .result) (c .if3 .taken)) refl)
+    (λ c κs. search needs)
+    (λ c. rw (c .before .before .before .before .before .before .if1 .left, c .before .before .before .before .before .if2 .left, ← c .before .before .in-order .ensures, not-false (c .before .before .in-order .result) (c .before .if3 .left)) (c .unused .ensures)))
