@@ -2,19 +2,19 @@
 # make arm-run:   examples/handset.c on an emulated board with a Cortex-M3.
 # make arm-bench: the instructions that each function takes on each processor, counted in the emulator.
 # make firmware:  examples/firmware on that board: a kernel, two tasks, and a fault of the MPU.
-# ARM_ACCESS=any with each of them: a library that may read and write at any address, for a Cortex-M3, M4 or M33 that allows it;
-# it stands in build/arm-any.
+# ARM_ACCESS=aligned with each of them: a library that accesses aligned addresses alone, for a Cortex-M3, M4 or M33 whose firmware
+# traps other accesses; it stands in build/arm-aligned. That for a Cortex-M0, which always traps them, is so in any case.
 # make native:    the same for the processor at hand, build/native/libulavrepit.a: where x86-64 is only emulated, that is what is
 # timed and compared at length (tests/lib.sh, use_native).
 # The LLVM module that the back end makes of the proved crates is compiled a second time, by the kit's own clang. docs/ARM.md
 # says what of that is proved, what is tested and what is believed.
 .PHONY: arm arm-run arm-bench firmware native
 
-ARM_ACCESS ?= aligned
-arm_folder_aligned := build/arm
-arm_folder_any := build/arm-any
-arm_build := $(or $(arm_folder_$(ARM_ACCESS)),$(error ARM_ACCESS is '$(ARM_ACCESS)', and neither aligned nor any))
-arm_processors := $(if $(filter aligned,$(ARM_ACCESS)),cortex-m0) cortex-m3 cortex-m4 cortex-m33
+ARM_ACCESS ?= any
+arm_folder_any := build/arm
+arm_folder_aligned := build/arm-aligned
+arm_build := $(or $(arm_folder_$(ARM_ACCESS)),$(error ARM_ACCESS is '$(ARM_ACCESS)', and neither any nor aligned))
+arm_processors := $(if $(filter any,$(ARM_ACCESS)),cortex-m0) cortex-m3 cortex-m4 cortex-m33
 arm_bin = $(shell bash -c '. tests/lib.sh && kit_bin')
 
 arm: $(arm_processors:%=$(arm_build)/%/libulavrepit.a) $(arm_build)/ulavrepit.h
@@ -28,7 +28,7 @@ arm-bench: $(arm_processors:%=$(arm_build)/%/rows.elf)
 # ---- the library
 
 # No register of a floating-point unit, no instruction that a processor of that name may lack: firmware may have none, or have
-# it switched off. Likewise, unless asked for, no access at an address that is not aligned.
+# it switched off. What stands in a folder cortex-m0, and all with ARM_ACCESS=aligned, accesses no address that is not aligned.
 arm_target_cortex-m0 := --target=thumbv6m-none-eabi -mcpu=cortex-m0
 arm_target_cortex-m3 := --target=thumbv7m-none-eabi -mcpu=cortex-m3
 arm_target_cortex-m4 := --target=thumbv7em-none-eabi -mcpu=cortex-m4+nofp
@@ -36,7 +36,8 @@ arm_target_cortex-m33 := --target=thumbv8m.main-none-eabi -mcpu=cortex-m33+nofp+
 arm_flags := -mfloat-abi=soft --no-default-config
 arm_access_aligned := -mno-unaligned-access
 arm_access_any := -munaligned-access
-arm_library_access = $(arm_access_$(ARM_ACCESS))
+arm_access = $(arm_access_$(if $(filter cortex-m0,$(notdir $(@D))),aligned,$(ARM_ACCESS)))
+arm_library_access = $(arm_access)
 
 # As the kit compiles it for x86-64, and with a list of the functions' frames.
 arm_library_flags := -O3 -ffunction-sections -fdata-sections -mllvm -trap-unreachable -mllvm -no-trap-after-noreturn \
@@ -93,7 +94,7 @@ $(arm_headers): $(arm_build)/include/%.h: arm/board/libc.h
 	@cp $< $@
 
 # ARM_STACK=bytes: with a stack of another size.
-arm_compile = $(arm_bin)/clang $(arm_flags) $(arm_access_$(ARM_ACCESS)) $(arm_c_flags) -nostdlib --ld-path=$(arm_bin)/ld.lld -Larm/board \
+arm_compile = $(arm_bin)/clang $(arm_flags) $(arm_access) $(arm_c_flags) -nostdlib --ld-path=$(arm_bin)/ld.lld -Larm/board \
     -Wl,-e,reset,--gc-sections arm/board/libc.c
 arm_link = $(arm_compile) arm/board/start.c
 arm_needs := $(arm_build)/ulavrepit.h $(arm_headers) arm/arm.mk $(wildcard arm/board/*)

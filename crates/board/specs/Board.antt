@@ -1,33 +1,36 @@
 -- What C hands over and gets back: bytes for words, and one number of 64 bits for an answer.
 use mathlib.Core.Path.{_≡_, refl, ap, sym, subst, _∙_}
-use mathlib.Core.Bool.{Bool, true, false, cond}
+use mathlib.Core.Bool.{Bool, true, false, cond, _&&_}
 use mathlib.Core.List.{List, []}
 use Prim.Native.Nat.{ℕ, _+_, _*_, _^_, _<_}
 use native.Mathlib.Omega.{arith}
 use lib.ListN.{length, getD}
-use lib.Dec.{eqb, leb}
+use lib.Dec.{eqb, leb, ltb}
 use borrow.Author.Tests.{eq-eqb, ne-eqb}
-use Rattle.tables.specs.State.{Table}
+use Rattle.tables.specs.State.{none, Table}
 use Rattle.tables.specs.View.{view}
 use Rattle.tables.specs.Encode.{encode}
 use Rattle.tables.specs.Fitting.{Words}
 use Rattle.tables.specs.Bytes.{wordsOf, bytesOf}
-use Rattle.tables.specs.ByteRecords.{HeaderTells}
+use Rattle.tables.specs.Update.{upd-other}
+use Rattle.tables.specs.Settle.{keep, settle}
+use Rattle.tables.specs.ByteRecords.{HeaderTells, BytesTell, RootOnly, bytes-tell, root-only}
 use Rattle.tables.specs.ByteTrips.{length-wordsOf, words-small, bytes-words}
 use Rattle.tables.specs.Outcomes.{answered}
 use Rattle.tables.specs.declared.Outcome.{Outcome}
 use Rattle.tables.specs.declared.Outcome.the-variants.{Done, Refused}
 use Rattle.sound.specs.Sound.{Sound}
 use Rattle.sound.specs.Clauses.{sound}
+use Rattle.sound.specs.Whole.{sound-means}
 use Rattle.sound.specs.Absent.{header-tells}
 use Rattle.sound.specs.Holders.{wrong-length, inMemory, holdersOf, holdersOutcome, holdersBytes, holders-few, Listed, listed-unsound, listed-copy}
-use Rattle.services.specs.Rules.{Result, done, refused, callOn, bootOn, wordsAfter}
+use Rattle.services.specs.Rules.{Result, done, refused, check, callOn, bootK, bootOn, wordsAfter}
 use Rattle.services.specs.Ran.{outcomeOf, Ran, ran-refused, ran-as, refused-done, done-first, refused-number}
 use Rattle.services.specs.Boot.{boot-any, boot-length}
 use Rattle.services.specs.declared.Answer.{Answer}
 use Rattle.services.specs.Calls.{callerOf, caller-small, Answers, answers-unsound}
 use Rattle.services.specs.Reads.{onlyReads, reads-stand}
-use Rattle.isolation.specs.Whole.{boot-sound, call-sound}
+use Rattle.isolation.specs.Whole.{call-sound}
 
 -- the words that are handed over as bytes; another number of bytes is no table
 unfoldable pub handed : List ℕ → List ℕ
@@ -123,8 +126,23 @@ tells {res} {a} {m} ran q sound-after = go res refl
     go (refused n) e = absurd (refused-done (sym (ap outcomeOf e) ∙ sym (ran .outcome) ∙ q))
 
 -- ── boot ──
-pub boot-tells : (base end : ℕ) {a m : List ℕ} {o : Outcome} {v w : ℕ} → Ran (bootOn a base end) a o m → o ≡ Done v w → HeaderTells m
-boot-tells base end {a} ran q = tells ran q (λ x y t. boot-sound a base end)
+-- what boot writes is the root alone
+pub boot-root : (base end : ℕ) {a m : List ℕ} {o : Outcome} {v w : ℕ} → Ran (bootOn a base end) a o m → o ≡ Done v w → RootOnly m
+unfolding bootOn check outcomeOf wordsAfter settle keep
+boot-root base end {a} {m} {o} {v} {w} ran q = go (eqb (length a) 641) (ltb base end && ltb base (2 ^ 27) && ltb end (2 ^ 27)) ran
+  where
+    booted : Table
+    booted = settle (bootK base end) (λ p r. none)
+
+    go : (x y : Bool) → Ran (check 1 x (check 7 y (done 0 0 booted))) a o m → RootOnly m
+    go true true r =
+        subst RootOnly (sym (r .words))
+        (root-only booted
+        (λ p j h. upd-other _ 0 1 _ p j (λ z. h (z .0, omega (arith, z .1))) ∙ upd-other _ 0 0 _ p j (λ z. h (z .0, omega (arith, z .1))))
+        (λ p i h. upd-other _ 0 0 _ p i h)
+        (λ p. refl))
+    go true false r = absurd (refused-done (sym (r .outcome) ∙ q))
+    go false y r = absurd (refused-done (sym (r .outcome) ∙ q))
 
 pub boot-none : (b : List ℕ) (base end : ℕ) {r : ℕ} → (length b ≡ 5128 → ⊥) → r ≡ packed 1 0 0 → Lent 0 (bootOn (handed b) base end) b r b
 boot-none b base end h p =
@@ -163,6 +181,15 @@ module _ (b : List ℕ) {a m : List ℕ} {w : ℕ} {x : Answer} (size : length b
 
   pub call-tells : {v y : ℕ} → ((i : ℕ) → getD b i 0 < 256) → x .outcome ≡ Done v y → HeaderTells m
   call-tells small q = tells (h .ran) q (λ x y t. call-sound a w (subst Words (sym load) (words-small b small)))
+
+  -- it was asked of a sound table, so that the bytes before it tell them too
+  pub call-told : {v y : ℕ} → ((i : ℕ) → getD b i 0 < 256) → x .outcome ≡ Done v y → BytesTell b
+  unfolding callOn outcomeOf
+  call-told {v} {y} small q = bytes-tell size (λ i _. small i) (subst HeaderTells load (header-tells (go (sound a) refl)))
+    where
+      go : (s : Bool) → sound a ≡ s → Sound a
+      go true e = sound-means a .0 e
+      go false e = let u : callOn a w ≡ refused 1 = rw e refl in absurd (refused-done (sym (ap outcomeOf u) ∙ sym (h .ran .outcome) ∙ q))
 
   -- a call that only reads: the bytes are those of the table already
   pub call-stands : ((i : ℕ) → getD b i 0 < 256) → onlyReads w ≡ true → b ≡ bytesOf m

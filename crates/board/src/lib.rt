@@ -29,7 +29,7 @@ pub extern "C" fn ulavrepit_boot(table: &mut [u8], base: u64, end: u64) -> u64
     let outcome = services::boot_service::boot_table(&mut a, base, end);
     match outcome {
         Outcome::Done(first, _) => {
-            tables::bytes::store(&a, table);
+            tables::bytes::store_root(&a, table);
             packed(0, Partition(0), first)
         }
         Outcome::Refused(n) => packed(n, Partition(0), 0),

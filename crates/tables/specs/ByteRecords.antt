@@ -1,56 +1,60 @@
 -- The bytes of a table, record by record. Of a record that is zero nothing has to be loaded or stored.
-use mathlib.Core.Path.{_≡_, ap, sym, subst, _∙_}
+use mathlib.Core.Path.{_≡_, refl, ap, sym, subst, _∙_}
 use mathlib.Core.Bool.{Bool, true}
 use mathlib.Core.List.{List}
 use Prim.Native.Nat.{ℕ, _+_, _-_, _*_, _/_, _%_, _≤_, _<_}
 use native.Mathlib.Nat.{add-zero, add-assoc}
 use native.Mathlib.Omega.{arith}
-use native.Mathlib.Decide.{decLt}
-use lib.Dec.{eqb}
-use lib.ListN.{length, getD, set, List·getD-eq-default, replicate, length-replicate, getD-replicate, length-set}
+use native.Mathlib.Decide.{ℕ-discrete, decLt}
+use lib.ListN.{length, getD, set, replicate, length-replicate, getD-replicate, length-set}
+use borrow.Author.Tests.{eq-eqb, ne-eqb, lt-ltb, le-ltb}
 use lib.Seq.{ext-getD, getD-set-same, getD-set-other}
-use borrow.Author.Count.{below-more}
-use borrow.Author.Tests.{eqb-true}
-use Rattle.loops.specs.Every.{all, all-at}
 use Rattle.loops.specs.Carry.{done-keeps}
-use Rattle.loops.specs.Rewrite.{tabFrom, tab-is, tab-ext, Filling, fill-start, fill-tab}
+use Rattle.loops.specs.Rewrite.{tabFrom, tab-at, tab-is, tab-ext, Filling, fill-start, fill-put, fill-tab}
 use Rattle.words.specs.Parts.{pack}
 use Rattle.tables.specs.View.{recordWord, areaWordAt}
+use Rattle.tables.specs.State.{none, Table}
+use Rattle.tables.specs.Encode.{headerWord, structureWord, slotWord, regions-none, partWord, wordFor, encode, encode-at}
 use Rattle.tables.specs.Spelling.{ZeroWords}
-use Rattle.tables.specs.Bytes.{octets, wordAt, byteAt, byteOf, wordsOf, bytesOf, putWord}
-use Rattle.tables.specs.ByteTrips.{byte-place}
+use Rattle.tables.specs.ZeroRecord.{zeroRecord, zero-record-means}
+use Rattle.tables.specs.Top.{Top}
+use Rattle.tables.specs.Bytes.{octets, wordFrom, wordAt, byteAt, byteOf, wordsOf, bytesOf, putWord}
+use Rattle.tables.specs.Quads.{zeroEight, zero-eight}
+use Rattle.tables.specs.ByteTrips.{byte-place, bytes-words}
 
--- the 320 bytes of record p are zero
-unfoldable pub zeroBytes : List ℕ → ℕ → Bool
-zeroBytes b p = all 320 (λ o. eqb (getD b (8 + 320 * p + o) 0) 0)
+-- the words of the bytes b from word n on are zero
+pub record ZeroEnd (b : List ℕ) (n : ℕ) : Type 0 where
+  pub within : n ≤ 641
+  pub zero : (i : ℕ) → 8 * n ≤ i → i < 5128 → getD b i 0 ≡ 0
 
 -- A record that begins with a zero word is zero, as in a sound table: there only an absent partition begins so.
 pub record HeaderTells (l : List ℕ) : Type 0 where
   pub zero : (p : ℕ) → p < 16 → areaWordAt l p 0 ≡ 0 → ZeroWords l p
 
+-- .. so it is of the bytes of p
+pub record TellsAt (b : List ℕ) (p : ℕ) : Type 0 where
+  pub zero : wordFrom b (8 + 320 * p) ≡ 0 → (i : ℕ) → 8 + 320 * p ≤ i → i < 328 + 320 * p → getD b i 0 ≡ 0
+
+-- .. and of every partition's
+pub record BytesTell (b : List ℕ) : Type 0 where
+  pub at : (p : ℕ) → p < 16 → TellsAt b p
+
+-- The words of l are zero but for the first, the root's header, its first structure and its first slot.
+pub record RootOnly (l : List ℕ) : Type 0 where
+  pub zero : (n : ℕ) → n < 641 → (n ≡ 0 → ⊥) → (n ≡ 1 → ⊥) → (n ≡ 2 → ⊥) → (n ≡ 9 → ⊥) → getD l n 0 ≡ 0
+
 -- at k, t has the words of the bytes b below k, and is zero from there on
 abbrev pub Loading : List ℕ → ℕ → List ℕ → Type 0
 Loading b k t = Filling (λ i x. wordAt b i) (replicate 641 0) 641 k t
 
--- the bytes of s from n on are zero
-pub record ZeroFrom (n : ℕ) (s : List ℕ) : Type 0 where
+-- the bytes of s from byte i up to byte j are g's, and the others are those of b
+pub record Wrote (g : ℕ → ℕ) (b : List ℕ) (i j : ℕ) (s : List ℕ) : Type 0 where
   pub size : length s ≡ 5128
-  pub zero : (i : ℕ) → n ≤ i → getD s i 0 ≡ 0
+  pub at : (n : ℕ) → i ≤ n → n < j → getD s n 0 ≡ g n
+  pub before : (n : ℕ) → n < i → getD s n 0 ≡ getD b n 0
+  pub after : (n : ℕ) → j ≤ n → getD s n 0 ≡ getD b n 0
 
--- two results of a function that clears all bytes are equal
-pub zero-from-one : {s t : List ℕ} → ZeroFrom 0 s → ZeroFrom 0 t → s ≡ t
-zero-from-one {s} {t} x y = ext-getD 0 s t (x .size ∙ sym (y .size)) (λ i _. x .zero i (omega arith) ∙ sym (y .zero i (omega arith)))
-
--- the bytes of s below n are those of the table l, and the others are zero
-pub record StoredTo (l : List ℕ) (n : ℕ) (s : List ℕ) : Type 0 where
-  pub below : (i : ℕ) → i < n → getD s i 0 ≡ byteOf l i
-  pub rest : ZeroFrom n s
-
--- .. those of the words below k
-abbrev pub Storing : List ℕ → ℕ → List ℕ → Type 0
-Storing l k s = StoredTo l (8 * k) s
-
--- two results of one that loads or stores a record are equal
+-- two results of one that loads or writes are equal
 pub loading-one : (b : List ℕ) {k : ℕ} {s t : List ℕ} → Loading b k s → Loading b k t → s ≡ t
 loading-one b {k} {s} {t} x y = ext-getD 0 s t (x .size ∙ sym (y .size)) (λ i _. go i (decLt i k))
   where
@@ -58,43 +62,114 @@ loading-one b {k} {s} {t} x y = ext-getD 0 s t (x .size ∙ sym (y .size)) (λ i
     go i (yes h) = x .below i h ∙ sym (y .below i h)
     go i (no h) = x .above i (omega arith) ∙ sym (y .above i (omega arith))
 
-pub stored-one : {l : List ℕ} {n : ℕ} {s t : List ℕ} → StoredTo l n s → StoredTo l n t → s ≡ t
-stored-one {n = n} {s} {t} x y = ext-getD 0 s t (x .rest .size ∙ sym (y .rest .size)) (λ i _. go i (decLt i n))
+pub wrote-one : {g : ℕ → ℕ} {b : List ℕ} {i j : ℕ} {s t : List ℕ} → Wrote g b i j s → Wrote g b i j t → s ≡ t
+wrote-one {i = i} {j} {s} {t} x y = ext-getD 0 s t (x .size ∙ sym (y .size)) (λ n _. go n (decLt n i) (decLt n j))
   where
-    go : (i : ℕ) → Dec (i < n) → getD s i 0 ≡ getD t i 0
-    go i (yes h) = x .below i h ∙ sym (y .below i h)
-    go i (no h) = x .rest .zero i (omega arith) ∙ sym (y .rest .zero i (omega arith))
+    go : (n : ℕ) → Dec (n < i) → Dec (n < j) → getD s n 0 ≡ getD t n 0
+    go n (yes h) _ = x .before n h ∙ sym (y .before n h)
+    go n (no h) (yes q) = x .at n (omega arith) q ∙ sym (y .at n (omega arith) q)
+    go n (no h) (no q) = x .after n (omega arith) ∙ sym (y .after n (omega arith))
 
--- elements that are right as they stand
-fill-skip : {g : ℕ → ℕ → ℕ} {l s : List ℕ} {n i : ℕ} → Filling g l n i s → (j : ℕ) → i ≤ j → j ≤ n → ((k : ℕ) → i ≤ k → k < j → getD s k 0 ≡ g k (getD l k 0)) → Filling g l n j s
-fill-skip {g} {l} {s} {n} {i} inv j a b right = record {
-  within = b;
-  size = inv .size;
-  below = λ k h. go k h (decLt k i);
-  above = λ k h. inv .above k (omega arith);
-}
+-- ── where the zeros begin ──
+pub end-start : {b : List ℕ} → ZeroEnd b 641
+end-start = record { within = omega arith; zero = λ i h g. absurd (omega arith) }
+
+-- eight words more are zero
+pub end-on : {b : List ℕ} {k n : ℕ} → ZeroEnd b k → n + 8 ≡ k → zeroEight b (8 * n) ≡ true → ZeroEnd b n
+end-on {b} {k} {n} e q z = record { within = omega (arith, e .within); zero = λ i h g. go i h g (decLt i (8 * k)) }
   where
-    go : (k : ℕ) → k < j → Dec (k < i) → getD s k 0 ≡ g k (getD l k 0)
-    go k h (yes q) = inv .below k q
-    go k h (no q) = right k (omega arith) h
+    go : (i : ℕ) → 8 * n ≤ i → i < 5128 → Dec (i < 8 * k) → getD b i 0 ≡ 0
+    go i h g (yes x) = zero-eight b (8 * n) z i h (omega arith)
+    go i h g (no x) = e .zero i (omega arith) g
 
-module _ (b : List ℕ) (p : ℕ) (z : zeroBytes b p ≡ true) where
-  zero-byte : (i : ℕ) → 8 + 320 * p ≤ i → i < 328 + 320 * p → getD b i 0 ≡ 0
-  unfolding zeroBytes
-  zero-byte i h g = go (i - (8 + 320 * p)) (omega arith) (omega arith)
-    where
-      go : (o : ℕ) → i ≡ 8 + 320 * p + o → o < 320 → getD b i 0 ≡ 0
-      go o e h = rw e (eqb-true _ 0 (all-at 320 (λ o. eqb (getD b (8 + 320 * p + o) 0) 0) z o h))
-
-  zero-at : (k : ℕ) → 1 + 40 * p ≤ k → k < 41 + 40 * p → wordAt b k ≡ 0
+module _ {b : List ℕ} {n : ℕ} (e : ZeroEnd b n) where
+  zero-at : (k : ℕ) → n ≤ k → k < 641 → wordAt b k ≡ 0
   unfolding wordAt tabFrom
-  zero-at k h g = ap (pack octets) (tab-ext 8 _ (λ j. 0) (λ j q. zero-byte (8 * k + j) (omega arith) (omega arith)))
+  zero-at k h g = ap (pack octets) (tab-ext 8 _ (λ j. 0) (λ j q. e .zero (8 * k + j) (omega arith) (omega arith)))
 
-  -- its words are zero, as they were
-  pub load-skip : {t : List ℕ} → p < 16 → Loading b (1 + 40 * p) t → Loading b (41 + 40 * p) t
-  load-skip h inv = fill-skip inv (41 + 40 * p) (omega arith) (omega arith) (λ k a c. inv .above k a ∙ getD-replicate 641 k 0 0 (omega arith) ∙ sym (zero-at k a c))
+  -- the words from there on are zero, as they were
+  pub load-rest : {k : ℕ} {t : List ℕ} → Loading b k t → n ≤ k → t ≡ wordsOf b
+  unfolding wordsOf
+  load-rest {k} {t} inv h = tab-is 641 (wordAt b) t (inv .size) (λ i g. go i g (decLt i k))
+    where
+      go : (i : ℕ) → i < 641 → Dec (i < k) → getD t i 0 ≡ wordAt b i
+      go i g (yes x) = inv .below i x
+      go i g (no x) = inv .above i (omega arith) ∙ getD-replicate 641 i 0 0 g ∙ sym (zero-at i (omega arith) g)
 
--- the bytes of a zero record
+  -- so are the records that begin there or later
+  pub end-top : {r : ℕ} → r ≤ 16 → n ≤ 1 + 40 * r → Top (wordsOf b) r
+  unfolding wordsOf recordWord
+  end-top few past = record {
+    within = few;
+    zero = λ p h g. zero-record-means (wordsOf b) p .1 (λ o q. tab-at 641 (wordAt b) (1 + 40 * p + o) (omega arith) ∙ zero-at (1 + 40 * p + o) (omega arith) (omega arith));
+  }
+
+-- ── loaded ──
+word-at : (b : List ℕ) (k : ℕ) {i : ℕ} → i ≡ 8 * k → wordFrom b i ≡ wordAt b k
+unfolding wordAt
+word-at b k e = ap (wordFrom b) e
+
+pub load-start : (b : List ℕ) {t : List ℕ} → t ≡ replicate 641 0 → Loading b 0 t
+load-start b e = rw e (fill-start (length-replicate {A = ℕ} 641 0))
+
+-- one word more
+pub load-word : (b : List ℕ) {t : List ℕ} {k i w : ℕ} → Loading b k t → k < 641 → i ≡ 8 * k → w ≡ wordFrom b i → Loading b (k + 1) (set t k w)
+load-word b {k = k} inv h e q = fill-put inv h (q ∙ word-at b k e)
+
+pub load-at : (b : List ℕ) {t : List ℕ} {i : ℕ} (j : ℕ) → i ≡ j → Loading b i t → Loading b j t
+load-at b {t} j e inv = subst (λ (k : ℕ). Loading b k t) e inv
+
+-- ── written ──
+module _ {g : ℕ → ℕ} {b : List ℕ} where
+  pub wrote-none : (i : ℕ) → length b ≡ 5128 → Wrote g b i i b
+  wrote-none i h = record { size = h; at = λ n x y. absurd (omega arith); before = λ n x. refl; after = λ n x. refl }
+
+  module _ {i j : ℕ} {s : List ℕ} (w : Wrote g b i j s) where
+    -- the same places, written otherwise
+    pub wrote-at : (m k : ℕ) → i ≡ m → j ≡ k → Wrote g b m k s
+    wrote-at m k d e = subst (λ (n : ℕ). Wrote g b m n s) e (subst (λ (n : ℕ). Wrote g b n j s) d w)
+
+    pub wrote-byte : {v : ℕ} → i ≤ j → j < 5128 → v ≡ g j → Wrote g b i (j + 1) (set s j v)
+    wrote-byte {v} h q e = record {
+      size = length-set s j v ∙ w .size;
+      at = λ n x y. go n x y (ℕ-discrete n j);
+      before = λ n x. other n (omega arith) ∙ w .before n x;
+      after = λ n x. other n (omega arith) ∙ w .after n (omega arith);
+    }
+      where
+        other : (n : ℕ) → (n ≡ j → ⊥) → getD (set s j v) n 0 ≡ getD s n 0
+        other n c = getD-set-other s j n v 0 c
+
+        go : (n : ℕ) → i ≤ n → n < j + 1 → Dec (n ≡ j) → getD (set s j v) n 0 ≡ g n
+        go n x y (yes z) = rw z (getD-set-same s j v 0 (omega (arith, w .size)) ∙ e)
+        go n x y (no z) = other n z ∙ w .at n x (omega arith)
+
+    -- .. and then from there on
+    pub wrote-on : {k : ℕ} {t : List ℕ} → i ≤ j → j ≤ k → Wrote g s j k t → Wrote g b i k t
+    wrote-on {k} {t} h q x = record {
+      size = x .size;
+      at = λ n y z. go n y z (decLt n j);
+      before = λ n y. x .before n (omega arith) ∙ w .before n y;
+      after = λ n y. x .after n y ∙ w .after n (omega arith);
+    }
+      where
+        go : (n : ℕ) → i ≤ n → n < k → Dec (n < j) → getD t n 0 ≡ g n
+        go n y z (yes c) = x .before n c ∙ w .at n y c
+        go n y z (no c) = x .at n (omega arith) z
+
+-- a word put at its place is eight bytes of the table
+pub wrote-word : (l : List ℕ) (k : ℕ) {s t : List ℕ} {i : ℕ} → t ≡ putWord s i (getD l k 0) → length s ≡ 5128 → k < 641 → i ≡ 8 * k → Wrote (byteOf l) s i (i + 8) t
+wrote-word l k {s} {i = i} r size h e =
+    rw r
+    (done-keeps _ s (λ j t. Wrote (byteOf l) s i (i + j) t) 8 (rw add-zero (wrote-none i size))
+    (λ j t q f. rw (← add-assoc) (wrote-byte f (omega arith) (omega arith) (sym (ap (λ (n : ℕ). byteOf l (n + j)) e ∙ byte-place l k j q)))))
+
+-- the whole table
+pub wrote-all : (l : List ℕ) {b s : List ℕ} → Wrote (byteOf l) b 0 5128 s → s ≡ bytesOf l
+unfolding bytesOf
+wrote-all l {s = s} w = tab-is 5128 (byteOf l) s (w .size) (λ n h. w .at n (omega arith) h)
+
+-- ── zero words are zero bytes ──
 byte-zero : (j : ℕ) → j < 8 → byteAt 0 j ≡ 0
 unfolding byteAt
 byte-zero j h = getD-replicate 8 j 0 0 h
@@ -106,61 +181,82 @@ record-byte l p z i h g = rw (word (i / 8 - (1 + 40 * p)) (omega arith) (omega a
     word : (o : ℕ) → i / 8 ≡ 1 + 40 * p + o → o < 40 → getD l (i / 8) 0 ≡ 0
     word o e h = rw e (z o h)
 
--- ── stored ──
--- bytes cleared one by one
-pub cleared : {l s : List ℕ} {i : ℕ} → Filling (λ _ _. 0) l 5128 i s → 5128 ≤ i → ZeroFrom 0 s
-cleared {l} {s} inv h = record { size = inv .size; zero = λ j _. go j (decLt j 5128) }
-  where
-    go : (j : ℕ) → Dec (j < 5128) → getD s j 0 ≡ 0
-    go j (yes q) = inv .below j (omega arith)
-    go j (no q) = List·getD-eq-default s 0 {n = j} (omega (arith, inv .size))
+-- an absent record that is cleared is stored
+pub clear-stored : (l : List ℕ) (p : ℕ) {b s : List ℕ} → ZeroWords l p → Wrote (λ n. 0) b (8 + 320 * p) (328 + 320 * p) s → Wrote (byteOf l) b (8 + 320 * p) (328 + 320 * p) s
+clear-stored l p z w = record { size = w .size; at = λ n x y. w .at n x y ∙ sym (record-byte l p z n x y); before = w .before; after = w .after }
 
-pub store-start : {s : List ℕ} (l : List ℕ) → ZeroFrom 0 s → Storing l 0 s
-store-start l h = record { below = λ i b. absurd (omega arith); rest = h }
+-- one that is zero is cleared
+pub zero-cleared : {b : List ℕ} (p : ℕ) → length b ≡ 5128 → TellsAt b p → wordFrom b (8 + 320 * p) ≡ 0 → Wrote (λ n. 0) b (8 + 320 * p) (328 + 320 * p) b
+zero-cleared p size t z = record { size = size; at = t .zero z; before = λ n x. refl; after = λ n x. refl }
 
-put-byte : {l s : List ℕ} {n v : ℕ} → StoredTo l n s → n < 5128 → v ≡ byteOf l n → StoredTo l (n + 1) (set s n v)
-put-byte {l} {s} {n} {v} inv h q = record {
-  below = below-more _ n (λ i b. getD-set-other s n i v 0 (λ z. omega arith) ∙ inv .below i b) (getD-set-same s n v 0 (omega (arith, inv .rest .size)) ∙ q);
-  rest = record {
-    size = length-set s n v ∙ inv .rest .size;
-    zero = λ i b. getD-set-other s n i v 0 (λ z. omega arith) ∙ inv .rest .zero i (omega arith);
+-- bytes whose words tell, tell
+pub bytes-tell : {b : List ℕ} → length b ≡ 5128 → ((i : ℕ) → i < 5128 → getD b i 0 < 256) → HeaderTells (wordsOf b) → BytesTell b
+unfolding wordsOf bytesOf areaWordAt wordAt
+bytes-tell {b} size small h = record {
+  at = λ p x. record {
+    zero = λ e i y z.
+        let n : 8 + 320 * p ≡ 8 * (1 + 40 * p + 0) = omega arith in
+        ap (λ (s : List ℕ). getD s i 0) (sym (bytes-words b size small))
+        ∙ tab-at 5128 (byteOf (wordsOf b)) i (omega arith)
+        ∙ record-byte (wordsOf b) p (h .zero p x (tab-at 641 (wordAt b) (1 + 40 * p + 0) (omega arith) ∙ rw n at e)) i y z;
   };
 }
 
--- one word more is eight bytes more
-pub store-word : {l s t : List ℕ} {k : ℕ} → Storing l k s → k < 641 → t ≡ putWord s k (getD l k 0) → Storing l (k + 1) t
-store-word {l} {s} {k = k} inv h r =
-    let e : 8 * (k + 1) ≡ 8 * k + 8 = omega arith in
-    rw (r, e)
-    (done-keeps _ s (λ j s. StoredTo l (8 * k + j) s) 8 (rw add-zero inv)
-    (λ j s q f. rw (← add-assoc) (put-byte f (omega arith) (sym (byte-place l k j q)))))
-
--- a zero record: its bytes stand there already
-pub store-skip : {l s : List ℕ} (p : ℕ) → ZeroWords l p → Storing l (1 + 40 * p) s → Storing l (41 + 40 * p) s
-store-skip {l} {s} p z inv = record {
-  below = λ i h. go i h (decLt i (8 * (1 + 40 * p)));
-  rest = record { size = inv .rest .size; zero = λ i b. inv .rest .zero i (omega arith) };
+-- what was written before a record leaves what it tells
+pub tells-after : {g : ℕ → ℕ} {b s : List ℕ} {j p : ℕ} → Wrote g b 0 j s → j ≤ 8 + 320 * p → TellsAt b p → TellsAt s p
+unfolding tabFrom
+tells-after {b = b} {s} {p = p} w h t = record {
+  zero = λ e i x y.
+      w .after i (omega arith)
+      ∙ t .zero (ap (pack octets) (tab-ext 8 (λ n. getD b (8 + 320 * p + n) 0) _ (λ n q. sym (w .after (8 + 320 * p + n) (omega arith)))) ∙ e) i x y;
 }
+
+-- ── the root alone ──
+-- zeros, and then four words
+module _ {l b z r s t u : List ℕ} (only : RootOnly l) (c : Wrote (λ n. 0) b 0 5128 z) where
+  pub root-stored : r ≡ putWord z 0 (getD l 0 0) → s ≡ putWord r 8 (getD l 1 0) → t ≡ putWord s 16 (getD l 2 0) → u ≡ putWord t 72 (getD l 9 0) → u ≡ bytesOf l
+  unfolding bytesOf
+  root-stored e f g h = tab-is 5128 (byteOf l) u (w3 .size) (λ n q. go n q (decLt n 8) (decLt n 16) (decLt n 24) (decLt n 72) (decLt n 80))
+    where
+      w0 : Wrote (byteOf l) z 0 8 r
+      w0 = wrote-word l 0 e (c .size) (omega arith) (omega arith)
+
+      w1 : Wrote (byteOf l) r 8 16 s
+      w1 = wrote-word l 1 f (w0 .size) (omega arith) (omega arith)
+
+      w2 : Wrote (byteOf l) s 16 24 t
+      w2 = wrote-word l 2 g (w1 .size) (omega arith) (omega arith)
+
+      w3 : Wrote (byteOf l) t 72 80 u
+      w3 = wrote-word l 9 h (w2 .size) (omega arith) (omega arith)
+
+      zero : (n : ℕ) → n < 5128 → (n / 8 ≡ 0 → ⊥) → (n / 8 ≡ 1 → ⊥) → (n / 8 ≡ 2 → ⊥) → (n / 8 ≡ 9 → ⊥) → getD z n 0 ≡ byteOf l n
+      zero n q x0 x1 x2 x9 = c .at n (omega arith) q ∙ sym (rw (only .zero (n / 8) (omega arith) x0 x1 x2 x9) (byte-zero (n % 8) (omega arith)))
+
+      -- a byte outside of the four words
+      left : (n : ℕ) → n < 5128 → 24 ≤ n → ((72 ≤ n) × (n < 80) → ⊥) → getD t n 0 ≡ byteOf l n
+      left n q x y = w2 .after n x ∙ w1 .after n (omega arith) ∙ w0 .after n (omega arith) ∙ zero n q (λ k. omega arith) (λ k. omega arith) (λ k. omega arith) (λ k. y (omega arith, omega arith))
+
+      go : (n : ℕ) → n < 5128 → Dec (n < 8) → Dec (n < 16) → Dec (n < 24) → Dec (n < 72) → Dec (n < 80) → getD u n 0 ≡ byteOf l n
+      go n q (yes x) _ _ _ _ = w3 .before n (omega arith) ∙ w2 .before n (omega arith) ∙ w1 .before n x ∙ w0 .at n (omega arith) x
+      go n q (no x) (yes y) _ _ _ = w3 .before n (omega arith) ∙ w2 .before n y ∙ w1 .at n (omega arith) y
+      go n q (no x) (no y) (yes v) _ _ = w3 .before n (omega arith) ∙ w2 .at n (omega arith) v
+      go n q (no x) (no y) (no v) (yes m) _ = w3 .before n m ∙ left n q (omega arith) (λ k. omega (arith, k .0))
+      go n q (no x) (no y) (no v) (no m) (yes k) = w3 .at n (omega arith) k
+      go n q (no x) (no y) (no v) (no m) (no k) = w3 .after n (omega arith) ∙ left n q (omega arith) (λ a. omega (arith, a .1))
+
+-- so are the words of a table with these alone
+pub root-only : (t : Table) → ((p j : ℕ) → ((p ≡ 0) × (j < 2) → ⊥) → t .k .area p j ≡ none) → ((p i : ℕ) → ((p ≡ 0) × (i ≡ 0) → ⊥) → t .k .slot p i ≡ none)
+    → ((p : ℕ) → t .region p ≡ (λ r. none)) → RootOnly (encode t)
+unfolding wordFor partWord headerWord structureWord slotWord
+root-only t area slot region = record { zero = λ n h a b c d. encode-at t n h ∙ rw (ne-eqb n 0 a) (go ((n - 1) / 40) ((n - 1) % 40) (λ z. b (omega arith)) (λ z. c (omega arith)) (λ z. d (omega arith))) }
   where
-    go : (i : ℕ) → i < 8 * (41 + 40 * p) → Dec (i < 8 * (1 + 40 * p)) → getD s i 0 ≡ byteOf l i
-    go i h (yes q) = inv .below i q
-    go i h (no q) = inv .rest .zero i (omega arith) ∙ sym (record-byte l p z i (omega arith) (omega arith))
-
-pub store-end : {l s : List ℕ} → Storing l 641 s → s ≡ bytesOf l
-unfolding bytesOf
-store-end {l} {s} inv = tab-is 5128 (byteOf l) s (inv .rest .size) (inv .below)
-
--- ── loaded ──
-pub load-start : (b : List ℕ) {t : List ℕ} → t ≡ replicate 641 0 → Loading b 0 t
-load-start b e = rw e (fill-start (length-replicate {A = ℕ} 641 0))
-
-pub load-end : (b : List ℕ) {t : List ℕ} → Loading b 641 t → t ≡ wordsOf b
-unfolding wordsOf
-load-end b inv = fill-tab inv (omega arith)
-
--- ── the same place, written otherwise ──
-pub load-at : {g : ℕ → ℕ → ℕ} {l s : List ℕ} {n i : ℕ} (j : ℕ) → i ≡ j → Filling g l n i s → Filling g l n j s
-load-at {g} {l} {s} {n} j e inv = subst (λ (k : ℕ). Filling g l n k s) e inv
-
-pub store-at : {l s : List ℕ} {n : ℕ} (m : ℕ) → n ≡ m → StoredTo l n s → StoredTo l m s
-store-at {l} {s} m e inv = subst (λ (k : ℕ). StoredTo l k s) e inv
+    go : (p o : ℕ) → ((p ≡ 0) × (o ≡ 0) → ⊥) → ((p ≡ 0) × (o ≡ 1) → ⊥) → ((p ≡ 0) × (o ≡ 8) → ⊥) → partWord t p o ≡ 0
+    go p o b c d = at (decLt o 8) (ℕ-discrete o 5) (ℕ-discrete o 0) (decLt o 5)
+      where
+        at : Dec (o < 8) → Dec (o ≡ 5) → Dec (o ≡ 0) → Dec (o < 5) → partWord t p o ≡ 0
+        at (yes h) (yes x) _ _ = rw (lt-ltb o 8 h, eq-eqb o 5 x, region p) regions-none
+        at (yes h) (no x) (yes y) _ = rw (lt-ltb o 8 h, ne-eqb o 5 x, eq-eqb o 0 y, area p 0 (λ z. b (z .0, y))) refl
+        at (yes h) (no x) (no y) (yes v) = rw (lt-ltb o 8 h, ne-eqb o 5 x, ne-eqb o 0 y, lt-ltb o 5 v, area p o (λ z. c (z .0, omega (arith, z .1)))) refl
+        at (yes h) (no x) (no y) (no v) = rw (lt-ltb o 8 h, ne-eqb o 5 x, ne-eqb o 0 y, le-ltb o 5 (omega arith)) refl
+        at (no h) _ _ _ = rw (le-ltb o 8 (omega arith), slot p (o - 8) (λ z. d (z .0, omega (arith, z .1)))) refl

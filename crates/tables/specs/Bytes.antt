@@ -10,9 +10,13 @@ use Rattle.words.specs.Parts.{Part, bits, pack, unpack}
 abbrev pub octets : List Part
 octets = bits 8 ∷ bits 8 ∷ bits 8 ∷ bits 8 ∷ bits 8 ∷ bits 8 ∷ bits 8 ∷ bits 8 ∷ []
 
+-- the word in the eight bytes of b from byte i on
+abbrev pub wordFrom : List ℕ → ℕ → ℕ
+wordFrom b i = pack octets (tab 8 (λ j. getD b (i + j) 0))
+
 -- word k of the bytes b, from their bytes 8k to 8k + 7
 unfoldable pub wordAt : List ℕ → ℕ → ℕ
-wordAt b k = pack octets (tab 8 (λ j. getD b (8 * k + j) 0))
+wordAt b k = wordFrom b (8 * k)
 
 -- byte j of the word w
 unfoldable pub byteAt : ℕ → ℕ → ℕ
@@ -30,9 +34,9 @@ wordsOf b = tab 641 (wordAt b)
 unfoldable pub bytesOf : List ℕ → List ℕ
 bytesOf l = tab 5128 (byteOf l)
 
--- the bytes b with w put at word k, one byte after the other
+-- the bytes b with w put from byte i on, one byte after the other
 abbrev pub putWord : List ℕ → ℕ → ℕ → List ℕ
-putWord b k w = done (λ j s. set s (8 * k + j) (byteAt w j)) b 8
+putWord b i w = done (λ j s. set s (i + j) (byteAt w j)) b 8
 
 -- byte n of the 320 of partition p
 unfoldable pub recordByte : List ℕ → ℕ → ℕ → ℕ

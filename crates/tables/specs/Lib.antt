@@ -35,5 +35,6 @@ pub mod OpenBits
 pub mod Kept
 pub mod Settled
 pub mod Bytes
+pub mod Quads
 pub mod ByteTrips
 pub mod ByteRecords

@@ -2,7 +2,7 @@ use mathlib.Core.Path.{sym, _∙_}
 use lib.ListN.{length-replicate}
 use Prim.Native.Nat.{ℕ}
 use Rattle.services.specs.Brief.{boot-brief, first-small, number-small}
-use Rattle.board.specs.Board.{boot-tells, boot-none, boot-lent, boot-kept}
+use Rattle.board.specs.Board.{boot-root, boot-none, boot-lent, boot-kept}
 use native.Mathlib.Omega.{arith}
 use borrow.Author.Needs.{needs}
 use Rattle.board.proofs.ulavrepit_boot.Statement.{statement}
@@ -16,10 +16,10 @@ ulavrepit-boot-spec =
     (λ c. boot-none _ _ _ (c .before .if1 .taken) (c .packed .ensures))
     (λ c κs. search needs)
     (λ c. search needs)
-    (λ c κs. (c .before .before .before .before .before .before .before .if1 .left, boot-tells _ _ (c .before .before .before .before .before .boot-table .ensures) (c .before .before .before .outcome .given .1)))
+    (λ c κs. (c .before .before .before .before .before .before .before .if1 .left, boot-root _ _ (c .before .before .before .before .before .boot-table .ensures) (c .before .before .before .outcome .given .1)))
     (λ c κs. (omega arith, omega arith, omega (arith, first-small (boot-brief _ _ _) (sym (c .before .before .before .before .before .before .before .before .boot-table .ensures .outcome) ∙ c .before .before .before .before .before .before .outcome .given .1))))
     (λ c. search needs)
     (λ c κs. (omega (arith, number-small (boot-brief _ _ _) (sym (c .before .before .before .boot-table .ensures .outcome) ∙ c .before .outcome2 .given .1)), omega arith, omega arith))
     (λ c. search needs)
-    (λ c. boot-lent _ _ _ (c .before .before .before .before .before .before .before .before .before .before .before .if1 .left) (length-replicate {A = ℕ} 641 0) (c .before .before .before .before .before .before .before .before .before .boot-table .ensures) (c .before .before .before .before .before .before .before .outcome .given .1) (c .packed2 .ensures) (c .before .before .before .store .ensures))
+    (λ c. boot-lent _ _ _ (c .before .before .before .before .before .before .before .before .before .before .before .if1 .left) (length-replicate {A = ℕ} 641 0) (c .before .before .before .before .before .before .before .before .before .boot-table .ensures) (c .before .before .before .before .before .before .before .outcome .given .1) (c .packed2 .ensures) (c .before .before .before .store-root .ensures))
     (λ c. boot-kept _ _ _ (c .before .before .before .before .before .before .if1 .left) (length-replicate {A = ℕ} 641 0) (c .before .before .before .before .boot-table .ensures) (c .before .before .outcome2 .given .1) (c .packed3 .ensures)))

@@ -5,7 +5,7 @@ use borrow.Author.Tests.{not-false}
 use Rattle.tables.specs.Bytes.{bytesOf}
 use Rattle.tables.specs.Top.{top-16}
 use Rattle.services.specs.Brief.{call-brief, first-small, number-small}
-use Rattle.board.specs.Board.{call-none, call-lent, call-tells, call-stands, call-kept, call-caller}
+use Rattle.board.specs.Board.{call-none, call-lent, call-tells, call-told, call-stands, call-kept, call-caller}
 use native.Mathlib.Omega.{arith}
 use borrow.Author.Needs.{needs}
 use Rattle.board.proofs.ulavrepit_call.Statement.{statement}
@@ -23,14 +23,18 @@ ulavrepit-call-spec =
     (λ c κs. search needs)
     (λ c κs.
     let size = c .before .before .before .before .before .before .before .before .before .before .before .before .before .if1 .left in
-    (size, call-tells _ size (c .before .before .before .before .before .before .before .before .before .before .load .ensures) (c .before .before .before .before .before .before .before .before .call-table .ensures) (λ i. c .before .before .before .before .before .before .before .before .before .before .before .before .before .before .slice-known .given i .fits) (c .before .before .before .before .before .outcome .given .1)))
-    (λ c κs. (omega arith, omega (arith, call-caller _ (c .before .before .before .before .before .before .before .before .before .before .before .if1 .left) (c .before .before .before .before .before .before .before .before .load .ensures) (c .before .before .before .before .before .before .call-table .ensures)), omega (arith, first-small (call-brief _ _) (sym (c .before .before .before .before .before .before .call-table .ensures .ran .outcome) ∙ c .before .before .before .outcome .given .1))))
+    let load = c .before .before .before .before .before .before .before .before .before .before .load .ensures .0 in
+    let answer = c .before .before .before .before .before .before .before .before .call-table .ensures in
+    let small = c .before .before .before .before .before .before .before .before .before .before .before .before .before .before .slice-known .given in
+    let done = c .before .before .before .before .before .outcome .given .1 in
+    (size, call-tells _ size load answer (λ i. small i .fits) done, call-told _ size load answer (λ i. small i .fits) done))
+    (λ c κs. (omega arith, omega (arith, call-caller _ (c .before .before .before .before .before .before .before .before .before .before .before .if1 .left) (c .before .before .before .before .before .before .before .before .load .ensures .0) (c .before .before .before .before .before .before .call-table .ensures)), omega (arith, first-small (call-brief _ _) (sym (c .before .before .before .before .before .before .call-table .ensures .ran .outcome) ∙ c .before .before .before .outcome .given .1))))
     (λ c. search needs)
-    (λ c κs. (omega (arith, number-small (call-brief _ _) (sym (c .before .before .before .before .call-table .ensures .ran .outcome) ∙ c .before .outcome2 .given .1)), omega (arith, call-caller _ (c .before .before .before .before .before .before .before .before .before .if1 .left) (c .before .before .before .before .before .before .load .ensures) (c .before .before .before .before .call-table .ensures)), omega arith))
+    (λ c κs. (omega (arith, number-small (call-brief _ _) (sym (c .before .before .before .before .call-table .ensures .ran .outcome) ∙ c .before .outcome2 .given .1)), omega (arith, call-caller _ (c .before .before .before .before .before .before .before .before .before .if1 .left) (c .before .before .before .before .before .before .load .ensures .0) (c .before .before .before .before .call-table .ensures)), omega arith))
     (λ c. ⊎-elim (λ z. ap length (z .6) ∙ z .3 .kept .1 .0) (λ z. ap length (z .1)) (c .before .if2 .came))
     (λ c.
     let size = c .before .before .before .before .before .before .before .before .before .before .before .before .if1 .left in
-    let load = c .before .before .before .before .before .before .before .before .before .load .ensures in
+    let load = c .before .before .before .before .before .before .before .before .before .load .ensures .0 in
     let answer = c .before .before .before .before .before .before .before .call-table .ensures in
     let small = c .before .before .before .before .before .before .before .before .before .before .before .before .before .slice-known .given in
     let reads = c .before .before .only-reads .ensures in
@@ -41,4 +45,4 @@ ulavrepit-call-spec =
     (c .before .if2 .came))
     refl)
     (λ c. search needs)
-    (λ c. call-kept _ (c .before .before .before .before .before .before .before .before .before .before .if1 .left) (c .before .before .before .before .before .before .before .load .ensures) (c .before .before .before .before .before .call-table .ensures) (c .before .before .outcome2 .given .1) (c .packed3 .ensures)))
+    (λ c. call-kept _ (c .before .before .before .before .before .before .before .before .before .before .if1 .left) (c .before .before .before .before .before .before .before .load .ensures .0) (c .before .before .before .before .before .call-table .ensures) (c .before .before .outcome2 .given .1) (c .packed3 .ensures)))

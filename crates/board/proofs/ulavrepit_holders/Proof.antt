@@ -19,6 +19,6 @@ ulavrepit-holders-spec =
     (λ c. search needs)
     (λ c κs. (omega (arith, holders-number _ _ _ (sym (c .before .before .before .before .before .holders-table .ensures .outcome) ∙ c .before .outcome2 .given .1)), omega arith, omega arith))
     (λ c. search needs)
-    (λ c. list-lent _ (c .before .before .before .before .before .before .before .before .before .before .before .if1 .left) (c .before .before .before .before .before .before .before .before .before .load .ensures) (c .before .before .before .before .before .before .holders-table .ensures) (c .before .before .outcome .given .1) (c .packed2 .ensures) refl)
+    (λ c. list-lent _ (c .before .before .before .before .before .before .before .before .before .before .before .if1 .left) (c .before .before .before .before .before .before .before .before .before .load .ensures .0) (c .before .before .before .before .before .before .holders-table .ensures) (c .before .before .outcome .given .1) (c .packed2 .ensures) refl)
     (λ c. search needs)
-    (λ c. list-kept _ (c .before .before .before .before .before .before .before .before .before .before .before .if1 .left) (c .before .before .before .before .before .before .before .before .before .load .ensures) (c .before .before .before .before .before .before .holders-table .ensures) (c .before .before .outcome2 .given .1) (c .packed3 .ensures)))
+    (λ c. list-kept _ (c .before .before .before .before .before .before .before .before .before .before .before .if1 .left) (c .before .before .before .before .before .before .before .before .before .load .ensures .0) (c .before .before .before .before .before .before .holders-table .ensures) (c .before .before .outcome2 .given .1) (c .packed3 .ensures)))

@@ -20,4 +20,4 @@ plan-bytes-spec =
     (λ c κs. (omega arith, refl))
     (λ c κs. (top-16 _, c .before .before .before .before .before .before .pre))
     (λ c κs. subst (λ (p : Plan). Small (p .outcome)) (sym (c .plan-of .ensures .0)) (plan-answers _ _))
-    (λ c. ready-plan _ _ _ (c .before .before .before .before .before .before .if1 .left) (c .before .plan-of .ensures .0 ∙ ap (λ (l : List ℕ). planOf l (c .before .before .before .before .before .before .before .before .args .size)) (c .before .before .before .before .load .ensures)) (c .before .plan-of .ensures .1 ∙ ap (λ (l : List ℕ). marksIn l (c .before .before .before .before .before .before .before .before .args .marks .now)) (c .before .before .before .before .load .ensures)) (c .answer-word .ensures)))
+    (λ c. ready-plan _ _ _ (c .before .before .before .before .before .before .if1 .left) (c .before .plan-of .ensures .0 ∙ ap (λ (l : List ℕ). planOf l (c .before .before .before .before .before .before .before .before .args .size)) (c .before .before .before .before .load .ensures .0)) (c .before .plan-of .ensures .1 ∙ ap (λ (l : List ℕ). marksIn l (c .before .before .before .before .before .before .before .before .args .marks .now)) (c .before .before .before .before .load .ensures .0)) (c .answer-word .ensures)))

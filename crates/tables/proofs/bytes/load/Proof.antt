@@ -1,7 +1,7 @@
-use Prim.Native.Nat.{_+_, _*_, _-_, _≤_}
+use mathlib.Core.Path.{_≡_}
+use Prim.Native.Nat.{_-_, _%_, _≤_}
+use Rattle.tables.specs.ByteRecords.{Loading, load-start, load-word, load-at, load-rest, end-top}
 use native.Mathlib.Omega.{arith}
-use Rattle.loops.specs.Rewrite.{fill-put}
-use Rattle.tables.specs.ByteRecords.{Loading, load-start, load-end, load-at}
 use borrow.Author.Needs.{needs}
 use Rattle.tables.proofs.bytes.load.Statement.{statement}
 use Rattle.tables.proofs.bytes.load.Tie as tie
@@ -10,13 +10,22 @@ pub load-spec : {M : Type 1} → statement M
 load-spec =
     tie.close
     (tie.spec
-    (λ b t₀ p₀ t p. (p ≤ 16) × Loading b (1 + 40 * p) t)
-    (λ b t₀ p₀ t p. 16 - p)
-    (λ c κs. (c .before .pre .0, omega arith))
+    (λ b t₀ end k₀ t k. (k ≤ 641) × (k % 4 ≡ 1) × Loading b k t)
+    (λ b t₀ end k₀ t k. end - k)
+    (λ c κs. c .before .pre .0)
+    (λ c. omega (arith, c .zero-end .ensures .within))
+    (λ c κs. omega (arith, c .before .before .pre .0))
     (λ c. search needs)
-    (λ c. (omega arith, load-at _ (omega arith) (fill-put (load-start _ (c .before .before .pre .1)) (omega arith) (c .word .ensures))))
-    (λ c κs. (c .before .before .before .before .before .pre .0, omega arith, c .before .before .loop .inv .1))
+    (λ c. (omega arith, omega arith, load-at _ _ (omega arith) (load-word _ (load-start _ (c .before .before .before .pre .1)) (omega arith) (omega arith) (c .word .ensures))))
+    (λ c. search needs)
+    (λ c κs.
+    let inv = c .before .before .loop .inv in
+    (c .before .before .before .before .before .before .pre .0, omega (arith, inv .1, c .before .before .before .before .zero-end .ensures .within), inv .2))
     (λ c. search needs)
     (λ c. search needs)
-    (λ c. (omega arith, load-at _ (omega arith) (c .load-record .ensures)))
-    (λ c. load-end _ (load-at _ (omega (arith, c .before .loop .inv .0)) (c .before .loop .inv .1))))
+    (λ c.
+    let inv = c .before .before .before .loop .inv in
+    (omega (arith, inv .1, c .before .before .before .before .before .zero-end .ensures .within), omega (arith, inv .1), c .load-four .ensures))
+    (λ c. omega (arith, c .before .before .before .zero-end .ensures .within))
+    (λ c. omega (arith, c .before .before .before .zero-end .ensures .within))
+    (λ c. (load-rest (c .before .before .before .zero-end .ensures) (c .before .loop .inv .2) (omega arith), end-top (c .before .before .before .zero-end .ensures) (omega (arith, c .before .before .before .zero-end .ensures .within)) (omega arith))))

@@ -1,40 +1,20 @@
-use native.Mathlib.Nat.{add-zero, div-one}
+use mathlib.Core.Path.{_∙_}
+use Rattle.tables.specs.Quads.{put-halves}
 use native.Mathlib.Omega.{arith}
 use borrow.Author.Needs.{needs}
-use lib.ListN.{length-set}
-use Rattle.loops.specs.Carry.{done}
-use Rattle.tables.specs.Bytes.{byteAt}
 use Rattle.tables.proofs.bytes.put.Statement.{statement}
 use Rattle.tables.proofs.bytes.put.Tie as tie
 
 pub put-spec : {M : Type 1} → statement M
-unfolding done byteAt
 put-spec =
     tie.close
     (tie.spec
     (λ c. search needs)
+    (λ c κs. search needs)
+    (λ c κs. search needs)
     (λ c. search needs)
     (λ c. search needs)
+    (λ c κs. search needs)
+    (λ c κs. search needs)
     (λ c. search needs)
-    (λ c. search needs)
-    (λ c. simp length-set (omega arith))
-    (λ c. search needs)
-    (λ c. search needs)
-    (λ c. simp length-set (omega arith))
-    (λ c. search needs)
-    (λ c. search needs)
-    (λ c. simp length-set (omega arith))
-    (λ c. search needs)
-    (λ c. search needs)
-    (λ c. simp length-set (omega arith))
-    (λ c. search needs)
-    (λ c. search needs)
-    (λ c. simp length-set (omega arith))
-    (λ c. search needs)
-    (λ c. search needs)
-    (λ c. simp length-set (omega arith))
-    (λ c. search needs)
-    (λ c. search needs)
-    (λ c. simp length-set (omega arith))
-    (λ c. simp length-set)
-    (λ c. simp (add-zero, div-one)))
+    (λ c. c .before .before .put-quad2 .ensures ∙ rw (c .before .before .before .before .before .before .before .put-quad .ensures) (put-halves _ _ _ (omega arith) (c .before .before .before .before .before .before .before .before .turned .ensures) (c .before .before .before .turned2 .ensures))))

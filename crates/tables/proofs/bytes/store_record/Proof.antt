@@ -1,8 +1,10 @@
-use Prim.Native.Nat.{_-_, _≤_}
+use mathlib.Core.Path.{_≡_, refl, sym, _∙_}
+use Prim.Native.Nat.{_*_, _-_, _%_, _≤_}
 use native.Mathlib.Nat.{add-zero}
-use native.Mathlib.Omega.{arith}
-use Rattle.tables.specs.ByteRecords.{Storing, store-word, store-skip, store-at}
 use Rattle.tables.specs.View.{areaWordAt}
+use Rattle.tables.specs.Bytes.{byteOf}
+use Rattle.tables.specs.ByteRecords.{Wrote, wrote-none, wrote-on, wrote-at, clear-stored}
+use native.Mathlib.Omega.{arith}
 use borrow.Author.Needs.{needs}
 use Rattle.tables.proofs.bytes.store_record.Statement.{statement}
 use Rattle.tables.proofs.bytes.store_record.Tie as tie
@@ -12,23 +14,25 @@ unfolding areaWordAt
 store-record-spec =
     tie.close
     (tie.spec
-    (λ t b₀ k₀ end b k. (k ≤ end) × Storing t k b)
+    (λ t b₀ k₀ end b k. (k₀ ≤ k) × (k ≤ end) × ((end - k) % 4 ≡ 0) × Wrote (byteOf t) b₀ (8 * k₀) (8 * k) b)
     (λ t b₀ k₀ end b k. end - k)
     (λ c. search needs)
     (λ c. search needs)
     (λ c. search needs)
     (λ c. search needs)
     (λ c. search needs)
-    (λ c. store-skip _ (c .before .before .before .before .pre .1 .zero _ (c .before .before .before .before .pre .0) (rw add-zero (c .if1 .taken))) (c .before .before .before .before .pre .2))
+    (λ c κs. search needs)
+    (λ c. search needs)
+    (λ c. clear-stored _ _ (c .before .before .before .before .before .before .before .before .pre .2 .zero _ (c .before .before .before .before .before .before .before .before .pre .1) (rw add-zero (c .before .before .before .before .if1 .taken))) (c .before .before .clear-record .ensures))
     (λ c. search needs)
     (λ c. search needs)
+    (λ c. (omega arith, omega arith, omega arith, wrote-none _ (c .before .before .before .before .before .pre .0)))
     (λ c. search needs)
-    (λ c. (omega arith, c .before .before .before .before .before .pre .2))
-    (λ c. search needs)
-    (λ c. search needs)
-    (λ c κs. (c .before .before .before .loop .inv .1 .rest .size, omega (arith, c .before .before .before .before .before .before .before .before .before .pre .0)))
+    (λ c κs. (c .before .before .loop .inv .3 .size, omega (arith, c .before .before .loop .inv .2, c .before .before .before .before .before .before .before .before .pre .1)))
     (λ c. search needs)
     (λ c. search needs)
-    (λ c. (omega arith, store-word (c .before .before .before .before .before .before .loop .inv .1) (omega (arith, c .before .before .before .before .before .before .before .before .before .before .before .before .pre .0)) (c .before .before .put .ensures)))
-    (λ c. search needs)
-    (λ c. store-at _ (omega (arith, c .before .loop .inv .0)) (c .before .loop .inv .1)))
+    (λ c.
+    let inv = c .before .before .before .before .before .loop .inv in
+    (omega (arith, inv .0), omega (arith, inv .2), omega (arith, inv .2), wrote-at (wrote-on (inv .3) (omega (arith, inv .0)) (omega arith) (c .before .before .store-four .ensures)) _ _ refl (omega arith)))
+    (λ c. c .before .loop .inv .3 .size ∙ sym (c .before .before .before .before .before .before .before .pre .0))
+    (λ c. wrote-at (c .before .loop .inv .3) _ _ (omega arith) (omega (arith, c .before .loop .inv .1))))
