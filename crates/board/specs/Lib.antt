@@ -1,2 +1,3 @@
 pub mod Board
 pub mod Lists
+pub mod Laws

@@ -1,6 +1,6 @@
 ghost use mathlib.Core.Path.{_≡_};
 ghost use Prim.Native.Nat.{_^_, _<_};
-ghost use Rattle.services.specs.Rules.{bootOn};
+ghost use Rattle.rules.specs.Rules.{bootOn};
 ghost use Rattle.board.specs.Board.{handed, packed, Lent, CallLent, ListLent};
 
 // The functions for the board's firmware, which is C. include/ulavrepit.h declares them.
@@ -29,7 +29,7 @@ pub extern "C" fn ulavrepit_boot(table: &mut [u8], base: u64, end: u64) -> u64
     let outcome = services::boot_service::boot_table(&mut a, base, end);
     match outcome {
         Outcome::Done(first, _) => {
-            tables::bytes::store_root(&a, table);
+            memory::store_root(&a, table);
             packed(0, Partition(0), first)
         }
         Outcome::Refused(n) => packed(n, Partition(0), 0),
@@ -45,14 +45,14 @@ pub extern "C" fn ulavrepit_call(table: &mut [u8], word: u64, second: &mut u64) 
         return packed(1, Partition(0), 0);
     }
     let mut a = [0u64; 641];
-    tables::bytes::load(table, &mut a);
+    memory::load(table, &mut a);
     let answer = services::calls::call_table(&mut a, 16, word);
     let caller = answer.caller;
     let outcome = answer.outcome;
     match outcome {
         Outcome::Done(first, value) => {
             if !services::calls::only_reads(word) {
-                tables::bytes::store(&a, table);
+                memory::store(&a, table);
             }
             *second = value;
             packed(0, caller, first)
@@ -61,7 +61,7 @@ pub extern "C" fn ulavrepit_call(table: &mut [u8], word: u64, second: &mut u64) 
     }
 }
 
-// Holders: `sound::holders::holders` on bytes. The second value is written only when it is done.
+// Holders: `holders::holders` on bytes. The second value is written only when it is done.
 #[no_mangle]
 pub extern "C" fn ulavrepit_holders(
     table: &[u8],
@@ -75,8 +75,8 @@ pub extern "C" fn ulavrepit_holders(
         return packed(1, Partition(0), 0);
     }
     let mut a = [0u64; 641];
-    tables::bytes::load(table, &mut a);
-    let outcome = sound::holders::holders_table(&a, 16, line, list);
+    memory::load(table, &mut a);
+    let outcome = holders::holders_table(&a, 16, line, list);
     match outcome {
         Outcome::Done(first, value) => {
             *second = value;

@@ -36,7 +36,7 @@ fn plan_bytes(table: &[u8], size: usize, marks: &mut [u32; 513]) -> Ready
         };
     }
     let mut a = [0u64; 641];
-    tables::bytes::load(table, &mut a);
+    memory::load(table, &mut a);
     let p = runs::listing::plan_of(&a, 16, size, marks);
     let n = p.number;
     let outcome = p.outcome;

@@ -27,8 +27,8 @@ use Rattle.tables.specs.declared.Outcome.{Outcome}
 use Rattle.sound.specs.Sound.{allRights}
 use Rattle.sound.specs.Clauses.{when, has, isNowhere, long, s1, s2Root, s2Other, s2, blankRegion, s3Regions, s3First, s3, rooted, s4Area, s4Absent, s4, s5Slot, s5, apartE, s6, held, covered, s7Root, s7Given, grants, s7Inside, s7Cover, s7, equals, s8Backed, s8Apart, s8, s9, s10Names, s10Once, s10, full, within, s11, sound}
 use Rattle.sound.specs.Holders.{givenTo, givenBy, heir, deepest, trail, holdersOf, inMemory, holdersOutcome, holdersBytes}
-use Rattle.services.specs.Ran.{outcomeOf}
-use Rattle.services.specs.Rules.{Result, check, need, ownOrChild, parentOrChild, freeEntry, long as longEntry, create, delete, prepare, vacant, collect, give, returned, take, cut, merge, elsewhere, load, unload, regionWord, readRegion, find, switch, ungive, branch, clearOut, noRights, uses, unused, regionCall, known, perform, serve, serveRead, callOn, bootOn, wordsAfter}
+use Rattle.rules.specs.Ran.{outcomeOf}
+use Rattle.rules.specs.Rules.{Result, check, need, ownOrChild, parentOrChild, freeEntry, long as longEntry, create, delete, prepare, vacant, collect, give, returned, take, cut, merge, elsewhere, load, unload, regionWord, readRegion, find, switch, ungive, branch, clearOut, noRights, uses, unused, regionCall, known, perform, serve, serveRead, callOn, bootOn, wordsAfter}
 
 -- ── a case: what is computed, and what 01 says ──
 abbrev pub Case : Type 0

@@ -6,9 +6,9 @@ use Prim.Native.Nat.{ℕ, _<_}
 use Rattle.words.specs.Kind.{fieldsIn}
 use Rattle.words.specs.Words.{call}
 use Rattle.tables.specs.View.{view}
-use Rattle.tables.specs.Bytes.{bytesOf, recordByte}
+use Rattle.memory.specs.Bytes.{bytesOf, recordByte}
 use Rattle.sound.specs.Sound.{Sound}
-use Rattle.services.specs.Branch.{Under}
+use Rattle.rules.specs.Branch.{Under}
 use Rattle.isolation.specs.Whole.{Reads}
 use Rattle.untouched.specs.Untouched.{Beside, Untouched, turnedTo}
 use Rattle.board.specs.Board.{handed, CallLent}

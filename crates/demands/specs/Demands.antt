@@ -16,13 +16,13 @@ use Rattle.words.specs.Words.{first, header, structure, regions, slot, call, bo
 use Rattle.tables.specs.State.{Opt, none, some, Table}
 use Rattle.tables.specs.View.{view}
 use Rattle.tables.specs.Encode.{encode}
-use Rattle.tables.specs.Bytes.{bytesOf}
+use Rattle.memory.specs.Bytes.{bytesOf}
 use Rattle.tables.specs.Lines.{Holds}
 use Rattle.tables.specs.WayUp.{over}
 use Rattle.sound.specs.Sound.{Sound}
 use Rattle.sound.specs.Properties.{Isolated}
 use Rattle.sound.specs.Holders.{holdersOf}
-use Rattle.services.specs.Rules.{done, bootOn}
+use Rattle.rules.specs.Rules.{done, bootOn}
 use Rattle.isolation.specs.Ladder.{Ladder, finish, must, there, least, Least, Answers}
 use Rattle.isolation.specs.Boot.{bootLadder}
 use Rattle.isolation.specs.Exact.{callLadder}

@@ -1,10 +1,4 @@
 pub mod Demands
-pub mod Lowest
-pub mod Rising
-pub mod Results
-pub mod Listings
-pub mod Calls
-pub mod Written
 pub mod Theorem
 pub mod Branch
-pub mod BranchProof
+pub mod Laws

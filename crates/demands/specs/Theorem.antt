@@ -7,22 +7,24 @@ use Rattle.words.specs.Trips.{first-trips, header-trips, structure-trips, regio
 use Rattle.tables.specs.State.{Table}
 use Rattle.tables.specs.View.{view}
 use Rattle.tables.specs.Encode.{encode}
-use Rattle.tables.specs.Bytes.{bytesOf}
+use Rattle.memory.specs.Bytes.{bytesOf}
 use Rattle.sound.specs.Properties.{Isolated}
-use Rattle.services.specs.Rules.{done, bootOn}
-use Rattle.isolation.specs.Boot.{bootLadder, boot-exact, boot-right}
-use Rattle.isolation.specs.Fits.{Good, right-good}
-use Rattle.isolation.specs.Ladder.{Answers, Ends, ends}
+use Rattle.rules.specs.Rules.{done, bootOn}
+use Rattle.isolation.specs.Boot.{bootLadder}
+use Rattle.isolation.specs.Laws.Boot.{boot-exact, boot-right}
+use Rattle.isolation.specs.Laws.Fits.{Good, right-good}
+use Rattle.isolation.specs.Ladder.{Answers, Ends}
+use Rattle.isolation.specs.Laws.Ladder.{ends}
 use Rattle.isolation.specs.Whole.{afterAll, from-boot-sound, from-boot-isolated}
 use Rattle.ledger.specs.Ledger.{Ledger, opening, keptOn}
 use Rattle.ledger.specs.Theorem.{demand-3}
-use Rattle.ledger.specs.LedgerRuns.{runs-demand}
+use Rattle.ledger.specs.Laws.LedgerRuns.{runs-demand}
 use Rattle.board.specs.Board.{handed, bytesAfter}
 use Rattle.demands.specs.Demands.{BootLent, firstIn, Accepted, Answered, Changed, Called, Tells, DemandOne, DemandTwo, DemandThree}
-use Rattle.demands.specs.Rising.{boot-rises}
-use Rattle.demands.specs.Results.{reads-back, answered, accepted-done}
-use Rattle.demands.specs.Calls.{handed-small, handed-of, changed, call-answered, call-caller, call-changed, called}
-use Rattle.demands.specs.Written.{holders-answered, holders-written, runs-answered, runs-written, tells}
+use Rattle.demands.specs.Laws.Rising.{boot-rises}
+use Rattle.demands.specs.Laws.Results.{reads-back, answered, accepted-done}
+use Rattle.demands.specs.Laws.Calls.{handed-small, handed-of, changed, call-answered, call-caller, call-changed, called}
+use Rattle.demands.specs.Laws.Written.{holders-answered, holders-written, runs-answered, runs-written, tells}
 
 -- ── boot ──
 module _ (base end : ℕ) {b : List ℕ} {r : ℕ} {c : List ℕ} (h : BootLent b base end r c) where

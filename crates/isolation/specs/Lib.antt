@@ -1,16 +1,8 @@
 -- Each service keeps a table sound (X-core), and the lines that each partition holds after it are known (X-holds). Its checks are conditions (X-exact):
 -- what is done has passed them (X-done), so the table after it is right (X-right). Whole and Exact say it of words.
-pub mod Settled
-pub mod Fits
 pub mod Ladder
-pub mod Two
 pub mod Checks
-pub mod Keep
-pub mod Slots
-pub mod Written
-pub mod NewArea
 pub mod Create
-pub mod Remove
 pub mod Delete
 pub mod Prepare
 pub mod Collect
@@ -25,3 +17,4 @@ pub mod ClearOut
 pub mod Boot
 pub mod Whole
 pub mod Exact
+pub mod Laws

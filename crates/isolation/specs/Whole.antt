@@ -12,27 +12,29 @@ use Rattle.tables.specs.Encode.{encode, Canon}
 use Rattle.tables.specs.Fitting.{Words}
 use Rattle.sound.specs.Sound.{Sound}
 use Rattle.sound.specs.Clauses.{sound}
-use Rattle.sound.specs.Canonical.{sound-canon}
-use Rattle.sound.specs.Properties.{Isolated, sound-isolated}
-use Rattle.sound.specs.Whole.{Right, sound-means, sound-right}
-use Rattle.services.specs.Rules.{Result, done, refused, serve, callOn, bootOn, wordsAfter}
-use Rattle.services.specs.Ran.{check-done}
-use Rattle.services.specs.Calls.{call-as}
-use Rattle.services.specs.Each.{serve-done, done-each, perform-at}
-use Rattle.isolation.specs.Fits.{Good, right-good}
-use Rattle.isolation.specs.Create.{create-right}
-use Rattle.isolation.specs.Delete.{delete-right}
-use Rattle.isolation.specs.Prepare.{prepare-right}
-use Rattle.isolation.specs.Collect.{collect-right}
-use Rattle.isolation.specs.Give.{give-right}
-use Rattle.isolation.specs.Take.{take-right}
-use Rattle.isolation.specs.Cut.{cut-right}
-use Rattle.isolation.specs.Merge.{merge-right}
-use Rattle.isolation.specs.Regions.{load-right, unload-right, readRegion-same}
-use Rattle.isolation.specs.Find.{find-same}
-use Rattle.isolation.specs.Switch.{switch-right}
-use Rattle.isolation.specs.ClearOut.{clear-right}
-use Rattle.isolation.specs.Boot.{boot-right}
+use Rattle.sound.specs.Laws.Canonical.{sound-canon}
+use Rattle.sound.specs.Properties.{Isolated}
+use Rattle.sound.specs.Laws.Properties.{sound-isolated}
+use Rattle.sound.specs.Whole.{Right}
+use Rattle.sound.specs.Laws.Whole.{sound-means, sound-right}
+use Rattle.rules.specs.Rules.{Result, done, refused, serve, callOn, bootOn, wordsAfter}
+use Rattle.rules.specs.Laws.Ran.{check-done}
+use Rattle.rules.specs.Laws.Calls.{call-as}
+use Rattle.rules.specs.Laws.Each.{serve-done, done-each, perform-at}
+use Rattle.isolation.specs.Laws.Fits.{Good, right-good}
+use Rattle.isolation.specs.Laws.Create.{create-right}
+use Rattle.isolation.specs.Laws.Delete.{delete-right}
+use Rattle.isolation.specs.Laws.Prepare.{prepare-right}
+use Rattle.isolation.specs.Laws.Collect.{collect-right}
+use Rattle.isolation.specs.Laws.Give.{give-right}
+use Rattle.isolation.specs.Laws.Take.{take-right}
+use Rattle.isolation.specs.Laws.Cut.{cut-right}
+use Rattle.isolation.specs.Laws.Merge.{merge-right}
+use Rattle.isolation.specs.Laws.Regions.{load-right, unload-right, readRegion-same}
+use Rattle.isolation.specs.Laws.Find.{find-same}
+use Rattle.isolation.specs.Laws.Switch.{switch-right}
+use Rattle.isolation.specs.Laws.ClearOut.{clear-right}
+use Rattle.isolation.specs.Laws.Boot.{boot-right}
 
 -- ── one call ──
 -- each service keeps a table right

@@ -14,10 +14,10 @@ use Rattle.tables.specs.View.{view}
 use Rattle.tables.specs.Search.{lowest}
 use Rattle.tables.specs.declared.Outcome.{Outcome}
 use Rattle.tables.specs.declared.Outcome.the-variants.{Done, Refused}
-use Rattle.services.specs.Rules.{zeroed, branch, callOn, wordsAfter}
-use Rattle.services.specs.Ran.{outcomeOf}
-use Rattle.services.specs.Calls.{callerOf}
-use Rattle.services.specs.declared.Answer.{Answer}
+use Rattle.rules.specs.Rules.{zeroed, branch, callOn, wordsAfter}
+use Rattle.rules.specs.Ran.{outcomeOf}
+use Rattle.rules.specs.Calls.{callerOf}
+use Rattle.rules.specs.declared.Answer.{Answer}
 
 -- whether partition p stands in it for line l; and the tree, which tells whose child one is and who goes with a partition that is cleared out
 pub record Ledger : Type 0 where

@@ -15,16 +15,18 @@ use Rattle.tables.specs.WayUp.{over}
 use Rattle.tables.specs.declared.Outcome.{Outcome}
 use Rattle.tables.specs.declared.Outcome.the-variants.{Done, Refused}
 use Rattle.sound.specs.Sound.{Sound}
-use Rattle.sound.specs.Core.{sound-core}
-use Rattle.sound.specs.Properties.{holder-present, held-range}
-use Rattle.sound.specs.Whole.{sound-means}
-use Rattle.sound.specs.Holders.{holdersOf, inMemory, below-base, from-end, in-memory, Listed, listed-one, listed-outside, listed-done}
-use Rattle.services.specs.Rules.{done, bootOn}
+use Rattle.sound.specs.Laws.Core.{sound-core}
+use Rattle.sound.specs.Laws.Properties.{holder-present, held-range}
+use Rattle.sound.specs.Laws.Whole.{sound-means}
+use Rattle.sound.specs.Holders.{holdersOf, inMemory, Listed}
+use Rattle.sound.specs.Laws.Holders.{below-base, from-end, in-memory, listed-one, listed-outside, listed-done}
+use Rattle.rules.specs.Rules.{done, bootOn}
 use Rattle.isolation.specs.Whole.{afterAll, from-boot-sound}
 use Rattle.ledger.specs.Ledger.{Ledger, opening, keptOn}
-use Rattle.ledger.specs.Kept.{Keeps, from-boot-kept}
-use Rattle.ledger.specs.Lists.{Lists, lists-same, counted}
-use Rattle.ledger.specs.Listing.{holders-list}
+use Rattle.ledger.specs.Laws.Kept.{Keeps, from-boot-kept}
+use Rattle.ledger.specs.Lists.{Lists}
+use Rattle.ledger.specs.Laws.Lists.{lists-same, counted}
+use Rattle.ledger.specs.Laws.Listing.{holders-list}
 
 -- What demand 3 says of a ledger g and the words t of a table of base to end. Listed is what holders promises.
 pub record Demand3 (base end : ℕ) (g : Ledger) (t : List ℕ) : Type 0 where

@@ -4,8 +4,7 @@ pub mod Scan
 pub mod Every
 pub mod Carry
 pub mod Count
-pub mod Oring
 pub mod Map
 pub mod Rewrite
 pub mod Climb
-pub mod Pigeon
+pub mod Laws

@@ -1,11 +1,7 @@
 pub mod Runs
-pub mod RunLaws
-pub mod OneList
 pub mod Pieces
-pub mod Bound
 pub mod Places
 pub mod Ways
-pub mod Stored
 pub mod Marks
 pub mod Listing
-pub mod Meaning
+pub mod Laws

@@ -1,7 +1,7 @@
 -- The runs of a table: each longest run of lines with the same holders, in rising order; and what is answered and left in the list where they are listed.
 use mathlib.Core.Bool.{cond}
 use mathlib.Core.List.{List, [], _∷_, _++_}
-use mathlib.Core.Path.{_≡_, sym, _∙_}
+use mathlib.Core.Path.{_≡_}
 use Prim.Native.Nat.{ℕ, zero, suc, _+_, _-_, _≤_, _<_}
 use lib.Dec.{eqb, leb}
 use lib.ListN.{length, drop, getD}
@@ -72,7 +72,3 @@ runsRecords t list = cond (sound t) (cond (leb (length (runsOf (view t .k))) (le
 pub record Listed (t : List ℕ) (before : List Run) (r : Outcome) (after : List Run) : Type 0 where
   pub outcome : r ≡ runsOutcome t (length before)
   pub records : after ≡ runsRecords t before
-
--- two results are equal: the outcome, and every record
-pub listed-one : {t : List ℕ} {before : List Run} {r s : Outcome} {a b : List Run} → Listed t before r a → Listed t before s b → (r ≡ s) × (a ≡ b)
-listed-one x y = (x .outcome ∙ sym (y .outcome), x .records ∙ sym (y .records))

@@ -31,7 +31,7 @@ pub fn plan_of(t: &[u64; 641], top: u32, size: usize, marks: &mut [u32; 513]) ->
 {
     let mut order = [0u8; 512];
     let mut counts = [0u32; 16];
-    if !sound::decide::is_ordered(t, top, &mut order, &mut counts) {
+    if !decide::is_ordered(t, top, &mut order, &mut counts) {
         return refuse(1);
     }
     let n = crate::walk::mark_runs(t, &order, marks);

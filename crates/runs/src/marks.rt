@@ -1,6 +1,6 @@
 ghost use mathlib.Core.Path.{_≡_};
 ghost use Prim.Native.Nat.{_<_, _^_};
-ghost use Rattle.words.specs.Laws.{markFor};
+ghost use Rattle.words.specs.Kinds.{markFor};
 ghost use Rattle.runs.specs.Ways.{Short, kept};
 use words::Line;
 use words::Partition;

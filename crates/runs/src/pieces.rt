@@ -8,7 +8,7 @@ ghost use Rattle.runs.specs.Pieces.{Hopped};
 ghost use Rattle.runs.specs.Places.{InOrder, Passed};
 ghost use Rattle.runs.specs.Ways.{Climbs, Climbed, Standing, Pieced};
 use crate::marks::mark_of;
-use sound::order::entry_at;
+use decide::order::entry_at;
 use words::Line;
 use words::Partition;
 use words::mark_word;

@@ -2,11 +2,11 @@ ghost use mathlib.Core.Path.{_≡_};
 ghost use Prim.Native.Nat.{_<_};
 ghost use Rattle.tables.specs.View.{view};
 ghost use Rattle.tables.specs.Encode.{Canon};
-ghost use Rattle.services.specs.Rules.{create, prepare, vacant, collect};
-ghost use Rattle.services.specs.Ran.{Ran};
-use crate::pick::Picked;
-use crate::pick::free_entry;
+ghost use Rattle.rules.specs.Rules.{create, prepare, vacant, collect};
+ghost use Rattle.rules.specs.Ran.{Ran};
 use crate::who::own_or_child;
+use blocks::pick::Picked;
+use blocks::pick::free_entry;
 use tables::Outcome;
 use tables::Structure;
 use tables::Which;
@@ -39,8 +39,8 @@ pub fn create(t: &mut [u64; 641], s: Slot) -> Outcome
                 start,
                 end,
             };
-            tables::write::put_header(t, n, header);
-            tables::settle::settle(t);
+            writing::put_header(t, n, header);
+            settling::settle(t);
             Outcome::Done(n.0 as u64, 0)
         }
     }
@@ -71,8 +71,8 @@ pub fn prepare(t: &mut [u64; 641], p: Partition, s: Slot) -> Outcome
                 start,
                 end,
             };
-            tables::write::put_structure(t, p, j, area);
-            tables::settle::settle(t);
+            writing::put_structure(t, p, j, area);
+            settling::settle(t);
             Outcome::Done(j as u64, 0)
         }
     }
@@ -115,7 +115,7 @@ pub fn collect(t: &mut [u64; 641], p: Partition, j: u32) -> Outcome
     if p.0 + j == 0 {
         return Outcome::Refused(15);
     }
-    tables::write::clear_structure(t, p, j);
-    tables::settle::settle(t);
+    writing::clear_structure(t, p, j);
+    settling::settle(t);
     Outcome::Done(0, 0)
 }

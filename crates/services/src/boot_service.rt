@@ -3,8 +3,8 @@ ghost use Prim.Native.Nat.{_^_, _<_};
 ghost use Rattle.tables.specs.State.{none};
 ghost use Rattle.tables.specs.Encode.{encode};
 ghost use Rattle.tables.specs.Settle.{settle};
-ghost use Rattle.services.specs.Rules.{bootK, bootOn};
-ghost use Rattle.services.specs.Ran.{Ran};
+ghost use Rattle.rules.specs.Rules.{bootK, bootOn};
+ghost use Rattle.rules.specs.Ran.{Ran};
 use tables::Outcome;
 use words::Line;
 use words::Partition;
@@ -20,8 +20,8 @@ fn put_root(t: &mut [u64; 641], base: Line, end: Line)
     ensures { λ _. ⌜ now (t .exit) ≡ encode (settle (bootK (base .0) (end .0)) (λ p r. none)) ⌝ }
 {
     let root = Partition(0);
-    tables::write::empty_table(t, base, end);
-    tables::write::put_header(
+    writing::empty_table(t, base, end);
+    writing::put_header(
         t,
         root,
         HeaderFields {
@@ -31,7 +31,7 @@ fn put_root(t: &mut [u64; 641], base: Line, end: Line)
             end: Line(0),
         },
     );
-    tables::write::put_structure(
+    writing::put_structure(
         t,
         root,
         0,
@@ -41,7 +41,7 @@ fn put_root(t: &mut [u64; 641], base: Line, end: Line)
             end: Line(0),
         },
     );
-    tables::write::put_entry(
+    writing::put_entry(
         t,
         root,
         Slot(0),

@@ -7,11 +7,11 @@ ghost use Rattle.tables.specs.View.{view};
 ghost use Rattle.tables.specs.Top.{Top};
 ghost use Rattle.tables.specs.Encode.{Canon};
 ghost use Rattle.sound.specs.Whole.{Right};
-ghost use Rattle.services.specs.Rules.{noRights, unused, regionCall, known, numbered, perform, serve, serveRead};
-ghost use Rattle.services.specs.Ran.{Ran};
-ghost use Rattle.services.specs.Calls.{Answers};
-ghost use Rattle.services.specs.Reads.{onlyReads};
-use crate::Answer;
+ghost use Rattle.rules.specs.Rules.{noRights, unused, regionCall, known, numbered, perform, serve, serveRead};
+ghost use Rattle.rules.specs.Ran.{Ran};
+ghost use Rattle.rules.specs.Calls.{Answers};
+ghost use Rattle.rules.specs.Reads.{onlyReads};
+use rules::Answer;
 use tables::Outcome;
 use words::Partition;
 use words::Rights;
@@ -124,10 +124,10 @@ fn perform(t: &mut [u64; 641], f: CallFields) -> Outcome
         2 => crate::delete_service::delete(t, f.partition),
         3 => crate::area_services::prepare(t, f.partition, f.slot),
         4 => crate::area_services::collect(t, f.partition, f.other),
-        5 => crate::slot_services::give(t, f.partition, f.slot, f.rights),
-        6 => crate::take_service::take(t, f.slot),
-        7 => crate::slot_services::cut(t, f.slot, f.line),
-        8 => crate::merge_service::merge(t, f.slot, Slot(f.other)),
+        5 => blocks::slot_services::give(t, f.partition, f.slot, f.rights),
+        6 => blocks::take_service::take(t, f.slot),
+        7 => blocks::slot_services::cut(t, f.slot, f.line),
+        8 => blocks::merge_service::merge(t, f.slot, Slot(f.other)),
         9 => region(t, f),
         11 => crate::region_services::read_region(t, f.partition, f.other),
         12 => crate::looks::find(t, f.partition, f.line),
@@ -165,7 +165,7 @@ pub fn call_table(t: &mut [u64; 641], top: u32, word: u64) -> Answer
     requires { ⌜ Top (now t) top ⌝ }
     ensures { λ r. ⌜ Answers (now (t .entry)) word r (now (t .exit)) ⌝ }
 {
-    if !sound::decide::is_sound(t, top) {
+    if !decide::is_sound(t, top) {
         return Answer {
             caller: Partition(0),
             outcome: Outcome::Refused(1),

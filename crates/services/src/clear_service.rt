@@ -4,8 +4,8 @@ ghost use Prim.Native.Nat.{_+_, _<_};
 ghost use Rattle.tables.specs.View.{view};
 ghost use Rattle.tables.specs.Encode.{Canon};
 ghost use Rattle.tables.specs.Search.{present};
-ghost use Rattle.services.specs.Rules.{clearOut};
-ghost use Rattle.services.specs.Ran.{Ran};
+ghost use Rattle.rules.specs.Rules.{clearOut};
+ghost use Rattle.rules.specs.Ran.{Ran};
 ghost use Rattle.services.specs.ClearExits.{Cleared, Zero};
 use tables::Outcome;
 use words::Partition;
@@ -16,7 +16,7 @@ fn clear_partition(t: &mut [u64; 641], p: Partition) -> u64
     requires { ⌜ Canon (now t) × (p .0 < 16) × (p .0 ≡ 0 → ⊥) × (present (view (now t) .k) (p .0) ≡ true) ⌝ }
     ensures { λ r. ⌜ Cleared (now (t .entry)) (p .0) r (now (t .exit)) ⌝ }
 {
-    tables::write::clear_record(t, p);
+    writing::clear_record(t, p);
     clear_children(t, p) + 1
 }
 
@@ -47,6 +47,6 @@ pub fn clear_out(t: &mut [u64; 641], p: Partition) -> Outcome
     }
     crate::delete_service::ungive(t, c, p);
     let n = clear_partition(t, p);
-    tables::settle::settle(t);
+    settling::settle(t);
     Outcome::Done(n, 0)
 }

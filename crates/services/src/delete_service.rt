@@ -1,8 +1,8 @@
 ghost use Prim.Native.Nat.{_<_};
 ghost use Rattle.tables.specs.View.{view};
 ghost use Rattle.tables.specs.Encode.{Canon, Is};
-ghost use Rattle.services.specs.Rules.{delete};
-ghost use Rattle.services.specs.Ran.{Ran};
+ghost use Rattle.rules.specs.Rules.{delete};
+ghost use Rattle.rules.specs.Ran.{Ran};
 ghost use Rattle.services.specs.DeleteExits.{ungiveAt, ungiven};
 use tables::Outcome;
 use words::Partition;
@@ -23,7 +23,7 @@ fn ungive_slot(t: &mut [u64; 641], c: Partition, i: Slot, p: Partition)
     let nobody = Partition(0);
     let mut g = f;
     g.given = nobody;
-    tables::write::put_entry(t, c, i, g);
+    writing::put_entry(t, c, i, g);
 }
 
 // .. every slot of c
@@ -51,7 +51,7 @@ pub fn delete(t: &mut [u64; 641], p: Partition) -> Outcome
         return Outcome::Refused(15);
     }
     ungive(t, c, p);
-    tables::write::clear_record(t, p);
-    tables::settle::settle(t);
+    writing::clear_record(t, p);
+    settling::settle(t);
     Outcome::Done(0, 0)
 }

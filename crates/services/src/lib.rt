@@ -1,6 +1,6 @@
-ghost use Rattle.services.specs.Rules.{bootOn};
-ghost use Rattle.services.specs.Ran.{Ran};
-ghost use Rattle.services.specs.Calls.{Answers};
+ghost use Rattle.rules.specs.Rules.{bootOn};
+ghost use Rattle.rules.specs.Ran.{Ran};
+ghost use Rattle.rules.specs.Calls.{Answers};
 
 // The services in code, each proved equal to its rule.
 pub mod area_services;
@@ -9,21 +9,12 @@ pub mod calls;
 pub mod clear_service;
 pub mod delete_service;
 pub mod looks;
-pub mod merge_service;
-pub mod pick;
 pub mod region_services;
-pub mod slot_services;
-pub mod take_service;
 pub mod who;
 
+use rules::Answer;
 use tables::Outcome;
 use words::Partition;
-
-// What a call answers: its outcome, beside the number that the caller had before it (0 where the table is refused).
-pub struct Answer {
-    pub caller: Partition,
-    pub outcome: Outcome,
-}
 
 // Carries out a call word. Any words, of any number and content, and any call word get an answer.
 // Refused: 1 not a sound table of 641 words; 2 not a call word; then as its service says. A refusal changes no word.

@@ -2,8 +2,8 @@ ghost use Prim.Native.Nat.{_<_};
 ghost use Rattle.tables.specs.View.{view};
 ghost use Rattle.tables.specs.Encode.{Canon};
 ghost use Rattle.sound.specs.Whole.{Right};
-ghost use Rattle.services.specs.Rules.{find, switch};
-ghost use Rattle.services.specs.Ran.{Ran};
+ghost use Rattle.rules.specs.Rules.{find, switch};
+ghost use Rattle.rules.specs.Ran.{Ran};
 use crate::who::own_or_child;
 use crate::who::parent_or_child;
 use tables::Found;
@@ -35,6 +35,6 @@ pub fn switch(t: &mut [u64; 641], p: Partition) -> Outcome
     if !parent_or_child(t, p) {
         return Outcome::Refused(3);
     }
-    tables::write::put_current(t, p);
+    writing::put_current(t, p);
     Outcome::Done(0, 0)
 }

@@ -3,9 +3,9 @@ ghost use Prim.Native.Nat.{_<_};
 ghost use Rattle.tables.specs.View.{view};
 ghost use Rattle.tables.specs.Encode.{Canon};
 ghost use Rattle.sound.specs.Whole.{Right};
-ghost use Rattle.services.specs.Rules.{elsewhere, load, unload, readRegion};
-ghost use Rattle.services.specs.Ran.{Ran};
-ghost use Rattle.services.specs.RegionExits.{inAnother};
+ghost use Rattle.rules.specs.Rules.{elsewhere, load, unload, readRegion};
+ghost use Rattle.rules.specs.Ran.{Ran};
+ghost use Rattle.blocks.specs.RegionExits.{inAnother};
 use crate::who::own_or_child;
 use tables::Outcome;
 use words::Partition;
@@ -64,7 +64,7 @@ pub fn load(t: &mut [u64; 641], p: Partition, s: Slot, r: u32) -> Outcome
     if loaded_elsewhere(t, p, s, r) {
         return Outcome::Refused(16);
     }
-    tables::write::put_region(t, p, r, s);
+    writing::put_region(t, p, r, s);
     Outcome::Done(0, 0)
 }
 
@@ -79,7 +79,7 @@ pub fn unload(t: &mut [u64; 641], p: Partition, r: u32) -> Outcome
     if r > 7 {
         return Outcome::Refused(16);
     }
-    tables::write::clear_region(t, p, r);
+    writing::clear_region(t, p, r);
     Outcome::Done(0, 0)
 }
 

@@ -1,7 +1,7 @@
 ghost use mathlib.Core.Path.{_≡_};
 ghost use Prim.Native.Nat.{_<_};
 ghost use Rattle.tables.specs.View.{view};
-ghost use Rattle.services.specs.Rules.{ownOrChild, parentOrChild};
+ghost use Rattle.rules.specs.Rules.{ownOrChild, parentOrChild};
 use words::Partition;
 
 // p is the caller or a child of it

@@ -1,8 +1,7 @@
 -- The table that 641 words mean. An absent thing is `none`. An entry has no open bit of its own: S9 derives it.
-use mathlib.Core.Path.{_≡_, ap, sym, _∙_}
+use mathlib.Core.Path.{_≡_}
 use mathlib.Core.Bool.{Bool}
 use Prim.Native.Nat.{ℕ}
-use native.Mathlib.Omega.{arith}
 use Rattle.words.specs.declared.Rights.{Rights}
 
 pub data Opt (A : Type 0) : Type 0 where
@@ -39,38 +38,12 @@ pub record Table : Type 0 where
   pub region : ℕ → ℕ → Opt ℕ
 
 -- ── equalities, as facts that omega reads ──
-pub some-inj : {A : Type 0} {a b : A} → some a ≡ some b → a ≡ b
-some-inj h = cc
-
-pub not-none : {A B : Type 0} {a : A} (o : Opt A) → o ≡ none → o ≡ some a → B
-not-none o p q = absurd (let z : _≡_ {A = ℕ} 0 1 = cc in omega arith)
-
--- what is never some is none
-pub none-of : {A : Type 0} (o : Opt A) → ((a : A) → o ≡ some a → ⊥) → o ≡ none
-none-of none h = cc
-none-of (some a) h = absurd (h a (cc))
-
 pub record Same (a b : Entry) : Type 0 where
   pub start : a .start ≡ b .start
   pub stop : a .stop ≡ b .stop
   pub given : a .given ≡ b .given
   pub rights : a .rights ≡ b .rights
 
-pub same : {a b : Entry} → a ≡ b → Same a b
-same h = record {
-  start = ap (λ (x : Entry). x .start) h;
-  stop = ap (λ (x : Entry). x .stop) h;
-  given = ap (λ (x : Entry). x .given) h;
-  rights = ap (λ (x : Entry). x .rights) h;
-}
-
--- what a slot holds is one thing
-pub same-at : {a b : Entry} (o : Opt Entry) → o ≡ some a → o ≡ some b → Same a b
-same-at o p q = same (some-inj (sym p ∙ q))
-
 pub record SameA (a b : Area) : Type 0 where
   pub lo : a .lo ≡ b .lo
   pub hi : a .hi ≡ b .hi
-
-pub sameA : {a b : Area} → a ≡ b → SameA a b
-sameA h = record { lo = ap (λ (x : Area). x .lo) h; hi = ap (λ (x : Area). x .hi) h }

@@ -1,9 +1,7 @@
 -- What a writer answered, stored at its place.
-use mathlib.Core.Path.{_≡_, ap, _∙_}
 use mathlib.Core.List.{List}
 use Prim.Native.Nat.{ℕ}
 use lib.ListN.{set}
-use Rattle.words.specs.Kind.{Kind, wordOf, writing, InRange, write-done}
 use Rattle.words.specs.declared.Written.{Written}
 use Rattle.words.specs.declared.Written.the-variants.{Word, Refused}
 
@@ -11,8 +9,3 @@ use Rattle.words.specs.declared.Written.the-variants.{Word, Refused}
 unfoldable pub stored : List ℕ → ℕ → Written → List ℕ
 stored l n (Word w) = set l n w
 stored l n (Refused e) = l
-
--- fields in range are stored
-pub store-word : {A R : Type 0} (k : Kind A R) (l : List ℕ) (n : ℕ) {f g : A} → f ≡ g → InRange k f → stored l n (writing k f) ≡ set l n (wordOf k g)
-unfolding stored
-store-word k l n {f} e h = ap (stored l n) (write-done k f h) ∙ ap (λ g. set l n (wordOf k g)) e

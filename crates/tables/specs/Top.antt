@@ -1,30 +1,11 @@
 -- From which record on a table has zero words alone: later passes stop there.
-use mathlib.Core.Path.{_≡_, refl}
-use mathlib.Core.Bool.{true, false}
+use mathlib.Core.Path.{_≡_}
+use mathlib.Core.Bool.{true}
 use mathlib.Core.List.{List}
 use Prim.Native.Nat.{ℕ, _≤_, _<_}
-use native.Mathlib.Omega.{arith}
-use Rattle.tables.specs.State.{none}
-use Rattle.tables.specs.View.{view}
-use Rattle.tables.specs.Spelling.{zero-areas}
-use Rattle.tables.specs.ZeroWord.{no-area}
-use Rattle.tables.specs.ZeroRecord.{zeroRecord, zero-record-means}
-use Rattle.tables.specs.Search.{present}
+use Rattle.tables.specs.ZeroRecord.{zeroRecord}
 
 -- all records from n on are zero
 pub record Top (l : List ℕ) (n : ℕ) : Type 0 where
   pub within : n ≤ 16
   pub zero : (p : ℕ) → n ≤ p → p < 16 → zeroRecord l p ≡ true
-
--- of any words 16 is one
-pub top-16 : (l : List ℕ) → Top l 16
-top-16 l = record { within = omega arith; zero = λ p a b. absurd (omega arith) }
-
--- a partition from there on has no area, and is absent
-module _ {l : List ℕ} {n : ℕ} (h : Top l n) (p : ℕ) (a : n ≤ p) where
-  pub top-area : (j : ℕ) → view l .k .area p j ≡ none
-  top-area j = no-area l p j (λ b. zero-areas l p (zero-record-means l p .0 (h .zero p a b)) j)
-
-  pub top-absent : present (view l .k) p ≡ false
-  unfolding present
-  top-absent = rw (top-area 0) refl

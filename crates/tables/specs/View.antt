@@ -1,11 +1,9 @@
 -- The 641 words, seen as a table.
-use mathlib.Core.Path.{_≡_, refl}
-use mathlib.Core.Bool.{Bool, true, false, cond}
+use mathlib.Core.Bool.{false, cond}
 use mathlib.Core.List.{List, [], _∷_}
 use lib.ListN.{getD}
 use lib.Dec.{eqb, ltb}
-use borrow.Author.Tests.{ltb-true, lt-ltb}
-use Prim.Native.Nat.{ℕ, _+_, _*_, _<_}
+use Prim.Native.Nat.{ℕ, _+_, _*_}
 use Rattle.words.specs.Kind.{fieldsIn}
 use Rattle.words.specs.Words.{first, header, structure, regions, slot}
 use Rattle.words.specs.Fields.{noRegion}
@@ -15,7 +13,7 @@ use Rattle.words.specs.declared.regions_word.Region.{Region}
 use Rattle.words.specs.declared.regions_word.RegionsFields.{RegionsFields}
 use Rattle.words.specs.declared.slot_word.SlotFields.{SlotFields}
 use Rattle.words.specs.declared.structure_word.StructureFields.{StructureFields}
-use Rattle.tables.specs.State.{Opt, none, some, Entry, Area, K, Table, not-none}
+use Rattle.tables.specs.State.{Opt, none, some, Entry, Area, K, Table}
 
 -- ── places: partition p has 40 words from word 1 + 40 p ──
 abbrev pub areaPlace : ℕ → ℕ → ℕ
@@ -121,41 +119,3 @@ view l = record {
   opened = inside false 16 32 (λ p i. slotAt l p i .opened);
   region = inside none 16 8 (regionAt l);
 }
-
--- ── laws of inside ──
-pub inside-in : {A : Type 0} (z : A) (n m : ℕ) (f : ℕ → ℕ → A) (p i : ℕ) → p < n → i < m → inside z n m f p i ≡ f p i
-unfolding inside
-inside-in z n m f p i a b = rw (lt-ltb p n a, lt-ltb i m b) refl
-
--- where the table has z, and outside, stands z
-pub inside-none : {A : Type 0} (z : A) (n m : ℕ) (f : ℕ → ℕ → A) (p i : ℕ) → (p < n → i < m → f p i ≡ z) → inside z n m f p i ≡ z
-unfolding inside
-inside-none z n m f p i h = go (ltb p n) (ltb i m) refl refl
-  where
-    go : (x y : Bool) → ltb p n ≡ x → ltb i m ≡ y → cond x (cond y (f p i) z) z ≡ z
-    go true true a b = h (ltb-true p n a) (ltb-true i m b)
-    go true false a b = refl
-    go false y a b = refl
-
-pub inside-some : {A : Type 0} (n m : ℕ) (f : ℕ → ℕ → Opt A) (p i : ℕ) (a : A) → inside none n m f p i ≡ some a → (p < n) × (i < m) × (f p i ≡ some a)
-unfolding inside
-inside-some n m f p i a q = go (ltb p n) (ltb i m) refl refl q
-  where
-    go : (x y : Bool) → ltb p n ≡ x → ltb i m ≡ y → cond x (cond y (f p i) none) none ≡ some a → (p < n) × (i < m) × (f p i ≡ some a)
-    go true true u v z = (ltb-true p n u, ltb-true i m v, z)
-    go true false u v z = not-none none refl z
-    go false y u v z = not-none none refl z
-
--- ── what is there stands within 16 by 32, 5 or 8 ──
-module _ (l : List ℕ) where
-  pub slot-bounds : (p i : ℕ) (e : Entry) → view l .k .slot p i ≡ some e → (p < 16) × (i < 32)
-  unfolding view viewK
-  slot-bounds p i e q = let s = inside-some 16 32 (λ p i. entryIn (slotAt l p i)) p i e q in (s .0, s .1)
-
-  pub area-bounds : (p j : ℕ) (a : Area) → view l .k .area p j ≡ some a → (p < 16) × (j < 5)
-  unfolding view viewK
-  area-bounds p j a q = let s = inside-some 16 5 (areaAt l) p j a q in (s .0, s .1)
-
-  pub region-bounds : (p r i : ℕ) → view l .region p r ≡ some i → (p < 16) × (r < 8)
-  unfolding view
-  region-bounds p r i q = let s = inside-some 16 8 (regionAt l) p r i q in (s .0, s .1)

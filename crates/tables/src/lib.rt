@@ -4,16 +4,12 @@ ghost use lib.ListN.{length};
 ghost use Rattle.tables.specs.Fitting.{Words};
 ghost use Rattle.tables.specs.Store.{stored};
 
-// What the 641 words of a table mean. Here, and nowhere above, it is known which word holds what.
-pub mod areas;
-pub mod bytes;
+// What the 641 words of a table mean. Here, in `writing`, `settling` and `memory`, and nowhere else, it is known which word holds what.
 pub mod climb;
 pub mod copies;
 pub mod read;
 pub mod regions;
 pub mod search;
-pub mod settle;
-pub mod write;
 pub mod zeros;
 
 use words::Partition;
@@ -69,8 +65,8 @@ fn fits_word(w: u64)
     ensures { λ _. ⌜ w < 2 ^ 64 ⌝ }
 {}
 
-// The word goes to its place. A refusal stores nothing: no caller here meets one.
-fn store(t: &mut [u64; 641], at: usize, word: Written)
+// The word goes to its place. A refusal stores nothing: no caller meets one.
+pub fn store(t: &mut [u64; 641], at: usize, word: Written)
     requires { ⌜ at < 641 ⌝ }
     ensures { λ _. ⌜ now (t .exit) ≡ stored (now (t .entry)) at word ⌝ }
 {

@@ -124,7 +124,7 @@ fn print_run(t: &[u64; 641], run: Run) {
     let mut list = [0u8; 16];
     let start = run.start.0 as u64;
     let line = text::then_decimal(text::decimal(text::empty(), start), run.end.0 as u64);
-    let outcome = sound::holders::holders_table(t, 16, start, &mut list);
+    let outcome = holders::holders_table(t, 16, start, &mut list);
     if let Outcome::Done(n, _) = outcome {
         text::print(names(line, &list, n));
     }

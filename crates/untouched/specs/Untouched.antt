@@ -13,9 +13,9 @@ use Rattle.tables.specs.Write.{putCurrent}
 use Rattle.tables.specs.Fitting.{Words}
 use Rattle.sound.specs.Sound.{Present, Sound}
 use Rattle.sound.specs.Properties.{Above}
-use Rattle.services.specs.Branch.{Under}
-use Rattle.services.specs.Rules.{callOn, wordsAfter}
-use Rattle.services.specs.Ran.{outcomeOf}
+use Rattle.rules.specs.Branch.{Under}
+use Rattle.rules.specs.Rules.{callOn, wordsAfter}
+use Rattle.rules.specs.Ran.{outcomeOf}
 use Rattle.isolation.specs.Whole.{Reads, afterAll}
 
 -- "any list of calls, each made while the current partition is k or a descendant of k": by the table of that call, and whether it is done or refused

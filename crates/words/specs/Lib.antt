@@ -1,7 +1,8 @@
 pub mod Parts
 pub mod Kind
 pub mod Words
-pub mod Laws
+pub mod Kinds
 pub mod Fields
 pub mod Trips
 pub mod Printed
+pub mod Laws

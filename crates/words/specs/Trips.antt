@@ -1,7 +1,8 @@
 -- Packed words round-trip both ways: each kind, by the one law of Kind.
-use Rattle.words.specs.Kind.{RoundTrips, round-trips}
+use Rattle.words.specs.Kind.{RoundTrips}
+use Rattle.words.specs.Laws.Kind.{round-trips}
 use Rattle.words.specs.Words.{first, header, structure, regions, slot, call, boot, mark}
-use Rattle.words.specs.Laws.{first-lawful, header-lawful, structure-lawful, regions-lawful, slot-lawful, call-lawful, boot-lawful, mark-lawful}
+use Rattle.words.specs.Laws.Kinds.{first-lawful, header-lawful, structure-lawful, regions-lawful, slot-lawful, call-lawful, boot-lawful, mark-lawful}
 
 pub first-trips : RoundTrips first
 first-trips = round-trips first-lawful

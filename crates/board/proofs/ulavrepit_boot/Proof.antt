@@ -1,8 +1,8 @@
 use mathlib.Core.Path.{sym, _∙_}
 use lib.ListN.{length-replicate}
 use Prim.Native.Nat.{ℕ}
-use Rattle.services.specs.Brief.{boot-brief, first-small, number-small}
-use Rattle.board.specs.Board.{boot-root, boot-none, boot-lent, boot-kept}
+use Rattle.rules.specs.Laws.Brief.{boot-brief, first-small, number-small}
+use Rattle.board.specs.Laws.Board.{boot-root, boot-none, boot-lent, boot-kept}
 use native.Mathlib.Omega.{arith}
 use borrow.Author.Needs.{needs}
 use Rattle.board.proofs.ulavrepit_boot.Statement.{statement}

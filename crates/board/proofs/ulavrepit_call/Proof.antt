@@ -2,10 +2,10 @@ use mathlib.Core.Path.{_≡_, refl, ap, sym, _∙_}
 use mathlib.Core.Logic.{⊎-elim}
 use lib.ListN.{length}
 use borrow.Author.Tests.{not-false}
-use Rattle.tables.specs.Bytes.{bytesOf}
-use Rattle.tables.specs.Top.{top-16}
-use Rattle.services.specs.Brief.{call-brief, first-small, number-small}
-use Rattle.board.specs.Board.{call-none, call-lent, call-tells, call-told, call-stands, call-kept, call-caller}
+use Rattle.memory.specs.Bytes.{bytesOf}
+use Rattle.tables.specs.Laws.Top.{top-16}
+use Rattle.rules.specs.Laws.Brief.{call-brief, first-small, number-small}
+use Rattle.board.specs.Laws.Board.{call-none, call-lent, call-tells, call-told, call-stands, call-kept, call-caller}
 use native.Mathlib.Omega.{arith}
 use borrow.Author.Needs.{needs}
 use Rattle.board.proofs.ulavrepit_call.Statement.{statement}

@@ -1,6 +1,6 @@
 use mathlib.Core.Path.{refl, sym, _∙_}
-use Rattle.tables.specs.Top.{top-16}
-use Rattle.board.specs.Board.{holders-first, holders-number, list-none, list-lent, list-kept}
+use Rattle.tables.specs.Laws.Top.{top-16}
+use Rattle.board.specs.Laws.Board.{holders-first, holders-number, list-none, list-lent, list-kept}
 use native.Mathlib.Omega.{arith}
 use borrow.Author.Needs.{needs}
 use Rattle.board.proofs.ulavrepit_holders.Statement.{statement}

@@ -1,7 +1,7 @@
 use lib.ListN.{length-replicate}
 use Prim.Native.Nat.{ℕ}
-use Rattle.services.specs.Ran.{ran-refused, ran-as, ran-copied, ran-kept}
-use Rattle.services.specs.Boot.{boot-any, boot-length}
+use Rattle.rules.specs.Laws.Ran.{ran-refused, ran-as, ran-copied, ran-kept}
+use Rattle.services.specs.Laws.Boot.{boot-any, boot-length}
 use borrow.Author.Needs.{needs}
 use Rattle.services.proofs.boot.Statement.{statement}
 use Rattle.services.proofs.boot.Tie as tie

@@ -1,6 +1,6 @@
-use Rattle.tables.specs.Top.{top-16}
-use Rattle.sound.specs.Holders.{wrong-length}
-use Rattle.services.specs.Calls.{answers-unsound, answers-done, answers-refused}
+use Rattle.tables.specs.Laws.Top.{top-16}
+use Rattle.sound.specs.Laws.Holders.{wrong-length}
+use Rattle.rules.specs.Laws.Calls.{answers-unsound, answers-done, answers-refused}
 use borrow.Author.Needs.{needs}
 use Rattle.services.proofs.call.Statement.{statement}
 use Rattle.services.proofs.call.Tie as tie

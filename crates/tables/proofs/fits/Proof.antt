@@ -1,7 +1,7 @@
 use native.Mathlib.Omega.{arith}
 use borrow.Author.Needs.{needs}
 use Prim.Native.Nat.{_-_}
-use Rattle.tables.specs.Fitting.{Fitting, fit-start, fit-on, fit-end}
+use Rattle.tables.specs.Laws.Fitting.{Fitting, fit-start, fit-on, fit-end}
 use Rattle.tables.proofs.fits.Statement.{statement}
 use Rattle.tables.proofs.fits.Tie as tie
 

@@ -1,4 +1,4 @@
-use Rattle.tables.specs.Top.{top-16}
+use Rattle.tables.specs.Laws.Top.{top-16}
 use borrow.Author.Needs.{needs}
 use Rattle.tally.proofs.print_run.Statement.{statement}
 use Rattle.tally.proofs.print_run.Tie as tie

@@ -1,9 +1,9 @@
 use mathlib.Core.Path.{ap}
 use Prim.Native.Nat.{ℕ, _-_, _≤_}
 use lib.ListN.{replicate, length-replicate}
-use Rattle.tables.specs.Top.{top-16}
+use Rattle.tables.specs.Laws.Top.{top-16}
 use Rattle.runs.specs.declared.listing.Plan.{Plan}
-use Rattle.runs.specs.Listing.{plan-fits, marks-size}
+use Rattle.runs.specs.Laws.Listing.{plan-fits, marks-size}
 use native.Mathlib.Omega.{arith}
 use borrow.Author.Needs.{needs}
 use Rattle.tally.proofs.print_runs.Statement.{statement}

@@ -1,5 +1,5 @@
 use Prim.Native.Nat.{_-_, _≤_}
-use Rattle.tables.specs.Top.{top-16}
+use Rattle.tables.specs.Laws.Top.{top-16}
 use borrow.Author.Needs.{needs}
 use Rattle.tally.proofs.serve_piece.Statement.{statement}
 use Rattle.tally.proofs.serve_piece.Tie as tie

@@ -3,11 +3,12 @@ use mathlib.Core.List.{List}
 use Prim.Native.Nat.{ℕ}
 use native.Mathlib.Omega.{arith}
 use borrow.Author.Needs.{needs}
-use Rattle.tables.specs.Top.{top-16}
+use Rattle.tables.specs.Laws.Top.{top-16}
 use Rattle.runs.specs.declared.listing.Plan.{Plan}
 use Rattle.runs.specs.Listing.{planOf, marksIn}
 use Rattle.board.specs.Board.{resultOf}
-use Rattle.board.specs.Lists.{Small, ready-none, ready-plan, plan-answers}
+use Rattle.board.specs.Lists.{Small}
+use Rattle.board.specs.Laws.Lists.{ready-none, ready-plan, plan-answers}
 use Rattle.board.proofs.lists.plan_bytes.Statement.{statement}
 use Rattle.board.proofs.lists.plan_bytes.Tie as tie
 

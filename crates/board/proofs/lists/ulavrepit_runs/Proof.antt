@@ -56,8 +56,9 @@ use denote.Triple.Walked.{says, Stays, stay-slice, stay-none-slice, walkOf, goes
 use denote.Exit.{yes}
 use Rattle.runs.specs.declared.Run.{Run}
 use Rattle.runs.specs.Marks.{runAt}
-use Rattle.runs.specs.Listing.{marksIn, plan-fits, listed}
-use Rattle.runs.specs.Stored.{stored, length-stored, stored-is}
+use Rattle.runs.specs.Listing.{marksIn}
+use Rattle.runs.specs.Laws.Listing.{plan-fits, listed}
+use Rattle.runs.specs.Laws.Stored.{stored, length-stored, stored-is}
 use Rattle.board.specs.declared.lists.Ready.{Ready}
 use Rattle.board.specs.Board.{handed, resultOf}
 use Rattle.board.specs.Lists.{readyOf, Handed}

@@ -1,7 +1,7 @@
 use mathlib.Core.Path.{refl, _∙_}
 use native.Mathlib.Omega.{arith}
 use borrow.Author.Needs.{needs}
-use Rattle.runs.specs.Listing.{decided-unsound, decided-sound, decided-order, plan-unsound, plan-short, plan-done, marks-unsound, marks-sound}
+use Rattle.runs.specs.Laws.Listing.{decided-unsound, decided-sound, decided-order, plan-unsound, plan-short, plan-done, marks-unsound, marks-sound}
 use Rattle.runs.proofs.listing.plan_of.Statement.{statement}
 use Rattle.runs.proofs.listing.plan_of.Tie as tie
 

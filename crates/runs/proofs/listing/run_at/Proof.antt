@@ -1,5 +1,5 @@
 use borrow.Author.Needs.{needs}
-use Rattle.runs.specs.Marks.{run-is}
+use Rattle.runs.specs.Laws.Marks.{run-is}
 use Rattle.runs.proofs.listing.run_at.Statement.{statement}
 use Rattle.runs.proofs.listing.run_at.Tie as tie
 

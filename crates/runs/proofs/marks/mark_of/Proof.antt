@@ -1,6 +1,6 @@
 use mathlib.Core.Path.{_∙_}
 use borrow.Author.Needs.{needs}
-use Rattle.runs.specs.Ways.{kept-mark}
+use Rattle.runs.specs.Laws.Ways.{kept-mark}
 use Rattle.runs.proofs.marks.mark_of.Statement.{statement}
 use Rattle.runs.proofs.marks.mark_of.Tie as tie
 

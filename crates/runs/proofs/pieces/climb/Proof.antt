@@ -2,7 +2,8 @@ use mathlib.Core.Path.{ap}
 use native.Mathlib.Omega.{arith}
 use borrow.Author.Needs.{needs}
 use Rattle.words.specs.declared.mark_word.MarkFields.{MarkFields}
-use Rattle.runs.specs.Ways.{Climbing, climb-start, climb-up, climb-root}
+use Rattle.runs.specs.Ways.{Climbing}
+use Rattle.runs.specs.Laws.Ways.{climb-start, climb-up, climb-root}
 use Rattle.runs.proofs.pieces.climb.Statement.{statement}
 use Rattle.runs.proofs.pieces.climb.Tie as tie
 

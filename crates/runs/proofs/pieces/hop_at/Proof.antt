@@ -2,8 +2,8 @@ use native.Mathlib.Omega.{arith}
 use borrow.Author.Needs.{needs}
 use Prim.Native.Nat.{_-_}
 use Rattle.tables.specs.View.{view}
-use Rattle.runs.specs.Pieces.{tested, holder-small}
-use Rattle.runs.specs.Places.{Hopping, pass-in, pass-on, pass-here, passed-set}
+use Rattle.runs.specs.Laws.Pieces.{tested, holder-small}
+use Rattle.runs.specs.Laws.Places.{Hopping, pass-in, pass-on, pass-here, passed-set}
 use Rattle.runs.proofs.pieces.hop_at.Statement.{statement}
 use Rattle.runs.proofs.pieces.hop_at.Tie as tie
 

@@ -3,8 +3,8 @@ use native.Mathlib.Omega.{arith}
 use borrow.Author.Needs.{needs}
 use Prim.Native.Nat.{_-_}
 use Rattle.tables.specs.View.{view}
-use Rattle.runs.specs.Pieces.{tested, stop-small}
-use Rattle.runs.specs.Ways.{Walking, climbs, walk-start, walk-holds, walk-here, low-small, walk-down, walk-last}
+use Rattle.runs.specs.Laws.Pieces.{tested, stop-small}
+use Rattle.runs.specs.Laws.Ways.{Walking, climbs, walk-start, walk-holds, walk-here, low-small, walk-down, walk-last}
 use Rattle.runs.proofs.pieces.piece_at.Statement.{statement}
 use Rattle.runs.proofs.pieces.piece_at.Tie as tie
 

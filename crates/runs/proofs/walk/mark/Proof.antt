@@ -1,6 +1,6 @@
 use native.Mathlib.Omega.{arith}
 use borrow.Author.Needs.{needs}
-use Rattle.runs.specs.Marks.{marked-same, marked-new}
+use Rattle.runs.specs.Laws.Marks.{marked-same, marked-new}
 use Rattle.runs.proofs.walk.mark.Statement.{statement}
 use Rattle.runs.proofs.walk.mark.Tie as tie
 

@@ -4,8 +4,8 @@ use native.Mathlib.Omega.{arith}
 use borrow.Author.Needs.{needs}
 use Prim.Native.Nat.{_-_}
 use Rattle.tables.specs.View.{view}
-use Rattle.runs.specs.Pieces.{tested, stop-small}
-use Rattle.runs.specs.Marks.{Walk, walk-begins, standing, walk-on, walk-nearer, marks-few, mark-end}
+use Rattle.runs.specs.Laws.Pieces.{tested, stop-small}
+use Rattle.runs.specs.Laws.Marks.{Walk, walk-begins, standing, walk-on, walk-nearer, marks-few, mark-end}
 use Rattle.runs.proofs.walk.mark_runs.Statement.{statement}
 use Rattle.runs.proofs.walk.mark_runs.Tie as tie
 

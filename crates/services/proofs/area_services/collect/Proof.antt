@@ -1,10 +1,10 @@
 use mathlib.Core.Path.{refl, sym, _∙_}
 use borrow.Author.Tests.{not-true, not-false}
-use Rattle.tables.specs.Encode.{is-canon}
-use Rattle.tables.specs.Settled.{settled-is}
-use Rattle.services.specs.Rules.{collect}
-use Rattle.services.specs.Ran.{ran-refused, ran-done, pass, fail}
-use Rattle.services.specs.AreaExits.{no-such, structure-there, occupied, root-first, not-root-first}
+use Rattle.tables.specs.Laws.Encode.{is-canon}
+use Rattle.settling.specs.Laws.Settled.{settled-is}
+use Rattle.rules.specs.Rules.{collect}
+use Rattle.rules.specs.Laws.Ran.{ran-refused, ran-done, pass, fail}
+use Rattle.services.specs.Laws.AreaExits.{no-such, structure-there, occupied, root-first, not-root-first}
 use native.Mathlib.Omega.{arith}
 use borrow.Author.Needs.{needs}
 use Rattle.services.proofs.area_services.collect.Statement.{statement}

@@ -1,12 +1,12 @@
 use mathlib.Core.Path.{refl, sym, _∙_}
 use borrow.Author.Tests.{lt-leb}
-use Rattle.tables.specs.Encode.{is-canon}
-use Rattle.tables.specs.Search.{lowest-some}
-use Rattle.tables.specs.Answers.{which-is}
-use Rattle.services.specs.Rules.{create, long}
-use Rattle.services.specs.Ran.{ran-refused, fail, there, missing}
-use Rattle.services.specs.Pick.{picked-no, picked-is}
-use Rattle.services.specs.AreaExits.{created}
+use Rattle.tables.specs.Laws.Encode.{is-canon}
+use Rattle.tables.specs.Laws.Search.{lowest-some}
+use Rattle.tables.specs.Laws.Answers.{which-is}
+use Rattle.rules.specs.Rules.{create, long}
+use Rattle.rules.specs.Laws.Ran.{ran-refused, fail, there, missing}
+use Rattle.blocks.specs.Laws.Pick.{picked-no, picked-is}
+use Rattle.services.specs.Laws.AreaExits.{created}
 use native.Mathlib.Omega.{arith}
 use borrow.Author.Needs.{needs}
 use Rattle.services.proofs.area_services.create.Statement.{statement}

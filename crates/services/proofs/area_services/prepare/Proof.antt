@@ -1,12 +1,12 @@
 use mathlib.Core.Path.{refl, sym, _∙_}
 use borrow.Author.Tests.{not-true, not-false, lt-leb, le-leb}
-use Rattle.tables.specs.Encode.{is-canon}
-use Rattle.tables.specs.Search.{lowest-some}
-use Rattle.tables.specs.Settled.{settled-is}
-use Rattle.tables.specs.Answers.{structure-is}
-use Rattle.services.specs.Rules.{prepare, long}
-use Rattle.services.specs.Ran.{ran-refused, ran-done, pass, fail, there, missing}
-use Rattle.services.specs.Pick.{picked-no, picked-is}
+use Rattle.tables.specs.Laws.Encode.{is-canon}
+use Rattle.tables.specs.Laws.Search.{lowest-some}
+use Rattle.settling.specs.Laws.Settled.{settled-is}
+use Rattle.tables.specs.Laws.Answers.{structure-is}
+use Rattle.rules.specs.Rules.{prepare, long}
+use Rattle.rules.specs.Laws.Ran.{ran-refused, ran-done, pass, fail, there, missing}
+use Rattle.blocks.specs.Laws.Pick.{picked-no, picked-is}
 use native.Mathlib.Omega.{arith}
 use borrow.Author.Needs.{needs}
 use Rattle.services.proofs.area_services.prepare.Statement.{statement}

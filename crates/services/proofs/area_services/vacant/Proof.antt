@@ -1,9 +1,9 @@
-use Rattle.loops.specs.Every.{Passing}
-use Rattle.loops.specs.Scan.{seek-start, seek-hit, seek-on, seek-end}
+use Rattle.loops.specs.Laws.Every.{Passing}
+use Rattle.loops.specs.Laws.Scan.{seek-start, seek-hit, seek-on, seek-end}
 use Rattle.tables.specs.View.{view}
 use Rattle.tables.specs.Search.{isSome}
-use Rattle.services.specs.Rules.{vacant}
-use Rattle.services.specs.AreaExits.{slot-there}
+use Rattle.rules.specs.Rules.{vacant}
+use Rattle.services.specs.Laws.AreaExits.{slot-there}
 use mathlib.Core.Bool.{not}
 use Prim.Native.Nat.{_+_, _*_, _-_}
 use native.Mathlib.Omega.{arith}

@@ -1,5 +1,5 @@
-use Rattle.services.specs.Ran.{ran-refused, ran-done}
-use Rattle.services.specs.Boot.{boot-empty, boot-high, boot-done}
+use Rattle.rules.specs.Laws.Ran.{ran-refused, ran-done}
+use Rattle.services.specs.Laws.Boot.{boot-empty, boot-high, boot-done}
 use native.Mathlib.Omega.{arith}
 use borrow.Author.Needs.{needs}
 use Rattle.services.proofs.boot_service.boot_table.Statement.{statement}

@@ -1,6 +1,6 @@
 use mathlib.Core.Path.{refl}
-use Rattle.tables.specs.Encode.{is-canon}
-use Rattle.services.specs.Boot.{root-words}
+use Rattle.tables.specs.Laws.Encode.{is-canon}
+use Rattle.services.specs.Laws.Boot.{root-words}
 use native.Mathlib.Omega.{arith}
 use borrow.Author.Needs.{needs}
 use Rattle.services.proofs.boot_service.put_root.Statement.{statement}

@@ -1,8 +1,8 @@
 use mathlib.Core.Path.{sym, _∙_}
 use borrow.Author.Tests.{not-true, not-false}
-use Rattle.sound.specs.Whole.{sound-means, sound-right}
-use Rattle.sound.specs.Canonical.{sound-canon}
-use Rattle.services.specs.Calls.{answers-unsound, answers-sound}
+use Rattle.sound.specs.Laws.Whole.{sound-means, sound-right}
+use Rattle.sound.specs.Laws.Canonical.{sound-canon}
+use Rattle.rules.specs.Laws.Calls.{answers-unsound, answers-sound}
 use borrow.Author.Needs.{needs}
 use Rattle.services.proofs.calls.call_table.Statement.{statement}
 use Rattle.services.proofs.calls.call_table.Tie as tie

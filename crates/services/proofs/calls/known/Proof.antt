@@ -1,7 +1,7 @@
 use mathlib.Core.Path.{refl, _∙_}
-use Rattle.services.specs.Rules.{uses}
-use Rattle.services.specs.Each.{known-at}
-use Rattle.services.specs.Calls.{known-not}
+use Rattle.rules.specs.Rules.{uses}
+use Rattle.rules.specs.Laws.Each.{known-at}
+use Rattle.rules.specs.Laws.Calls.{known-not}
 use borrow.Author.Needs.{needs}
 use Rattle.services.proofs.calls.known.Statement.{statement}
 use Rattle.services.proofs.calls.known.Tie as tie

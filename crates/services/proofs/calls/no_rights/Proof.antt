@@ -1,5 +1,5 @@
 use mathlib.Core.Path.{refl}
-use Rattle.services.specs.Rules.{noRights}
+use Rattle.rules.specs.Rules.{noRights}
 use Rattle.services.proofs.calls.no_rights.Statement.{statement}
 use Rattle.services.proofs.calls.no_rights.Tie as tie
 

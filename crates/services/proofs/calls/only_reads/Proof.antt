@@ -1,4 +1,4 @@
-use Rattle.services.specs.Reads.{reads-region, reads-found}
+use Rattle.rules.specs.Laws.Reads.{reads-region, reads-found}
 use borrow.Author.Needs.{needs}
 use Rattle.services.proofs.calls.only_reads.Statement.{statement}
 use Rattle.services.proofs.calls.only_reads.Tie as tie

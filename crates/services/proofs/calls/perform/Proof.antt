@@ -1,8 +1,8 @@
 use mathlib.Core.Path.{_∙_}
 use mathlib.Core.Bool.{false≢true}
-use Rattle.services.specs.Ran.{ran-as}
-use Rattle.services.specs.Each.{perform-at}
-use Rattle.services.specs.Calls.{known-not}
+use Rattle.rules.specs.Laws.Ran.{ran-as}
+use Rattle.rules.specs.Laws.Each.{perform-at}
+use Rattle.rules.specs.Laws.Calls.{known-not}
 use Rattle.services.proofs.calls.perform.Statement.{statement}
 use Rattle.services.proofs.calls.perform.Tie as tie
 

@@ -1,5 +1,5 @@
-use Rattle.services.specs.Ran.{ran-as}
-use Rattle.services.specs.Each.{region-loads, region-unloads}
+use Rattle.rules.specs.Laws.Ran.{ran-as}
+use Rattle.rules.specs.Laws.Each.{region-loads, region-unloads}
 use Rattle.services.proofs.calls.region.Statement.{statement}
 use Rattle.services.proofs.calls.region.Tie as tie
 

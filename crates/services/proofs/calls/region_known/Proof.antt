@@ -1,6 +1,6 @@
 use mathlib.Core.Path.{refl}
 use borrow.Author.Tests.{not-true, not-false}
-use Rattle.services.specs.Rules.{unused, regionCall}
+use Rattle.rules.specs.Rules.{unused, regionCall}
 use borrow.Author.Needs.{needs}
 use Rattle.services.proofs.calls.region_known.Statement.{statement}
 use Rattle.services.proofs.calls.region_known.Tie as tie

@@ -1,7 +1,7 @@
 use mathlib.Core.Path.{sym, _∙_}
 use borrow.Author.Tests.{not-true, not-false}
-use Rattle.services.specs.Ran.{ran-refused, ran-as}
-use Rattle.services.specs.Calls.{serve-unknown, serve-known}
+use Rattle.rules.specs.Laws.Ran.{ran-refused, ran-as}
+use Rattle.rules.specs.Laws.Calls.{serve-unknown, serve-known}
 use borrow.Author.Needs.{needs}
 use Rattle.services.proofs.calls.serve.Statement.{statement}
 use Rattle.services.proofs.calls.serve.Tie as tie

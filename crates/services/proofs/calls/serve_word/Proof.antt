@@ -1,6 +1,6 @@
 use mathlib.Core.Path.{sym, _∙_}
-use Rattle.services.specs.Ran.{ran-refused, ran-as}
-use Rattle.services.specs.Calls.{read-small, read-serves, read-refuses}
+use Rattle.rules.specs.Laws.Ran.{ran-refused, ran-as}
+use Rattle.rules.specs.Laws.Calls.{read-small, read-serves, read-refuses}
 use borrow.Author.Needs.{needs}
 use Rattle.services.proofs.calls.serve_word.Statement.{statement}
 use Rattle.services.proofs.calls.serve_word.Tie as tie

@@ -1,6 +1,6 @@
 use mathlib.Core.Path.{refl}
 use borrow.Author.Tests.{not-true, not-false}
-use Rattle.services.specs.Rules.{unused}
+use Rattle.rules.specs.Rules.{unused}
 use borrow.Author.Needs.{needs}
 use Rattle.services.proofs.calls.unused.Statement.{statement}
 use Rattle.services.proofs.calls.unused.Tie as tie

@@ -4,9 +4,9 @@ use mathlib.Core.Logic.{⊎-elim}
 use native.Mathlib.Omega.{arith}
 use borrow.Author.Needs.{needs}
 use Rattle.tables.specs.View.{view}
-use Rattle.tables.specs.Encode.{is-canon}
-use Rattle.tables.specs.FitView.{fit-view}
-use Rattle.services.specs.ClearExits.{left, Emptying, cleared-few, zero-now, left-falls, cleared-all, child-left, empty-start, empty-few, empty-left, empty-no, empty-yes, empty-end}
+use Rattle.tables.specs.Laws.Encode.{is-canon}
+use Rattle.tables.specs.Laws.FitView.{fit-view}
+use Rattle.services.specs.Laws.ClearExits.{left, Emptying, cleared-few, zero-now, left-falls, cleared-all, child-left, empty-start, empty-few, empty-left, empty-no, empty-yes, empty-end}
 use Prim.Native.Nat.{ℕ, _+_, _-_, _*_, _<_}
 use borrow.Fn.Kinds.{In}
 use borrow.Fn.PlainCycle.{Measures, is, falls, and}
@@ -17,7 +17,7 @@ use Rattle.services.proofs.clear_service.clear_partition.Reads as clear
 use Rattle.services.proofs.clear_service.clear_partition.Kinds as clear-partition-kinds
 use Rattle.services.proofs.clear_service.+clear_children+clear_partition.Lts-clear_partition as clear-partition-lts
 use Rattle.tables.proofs.search.is_child.Reads as is-child-reads
-use Rattle.tables.proofs.write.clear_record.Reads as clear-record-reads
+use Rattle.writing.proofs.clear_record.Reads as clear-record-reads
 use Rattle.services.proofs.clear_service.+clear_children+clear_partition.{statement}
 use Rattle.services.proofs.clear_service.+clear_children+clear_partition.Tie.{close}
 

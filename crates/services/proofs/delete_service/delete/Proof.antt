@@ -1,10 +1,10 @@
 use mathlib.Core.Path.{sym, _∙_}
 use borrow.Author.Tests.{not-true, not-false}
-use Rattle.tables.specs.Encode.{is-canon}
-use Rattle.services.specs.Rules.{delete}
-use Rattle.services.specs.Ran.{ran-refused, fail}
-use Rattle.services.specs.SlotExits.{child-now}
-use Rattle.services.specs.DeleteExits.{delete-parent, delete-done}
+use Rattle.tables.specs.Laws.Encode.{is-canon}
+use Rattle.rules.specs.Rules.{delete}
+use Rattle.rules.specs.Laws.Ran.{ran-refused, fail}
+use Rattle.blocks.specs.Laws.SlotExits.{child-now}
+use Rattle.services.specs.Laws.DeleteExits.{delete-parent, delete-done}
 use borrow.Author.Needs.{needs}
 use Rattle.services.proofs.delete_service.delete.Statement.{statement}
 use Rattle.services.proofs.delete_service.delete.Tie as tie

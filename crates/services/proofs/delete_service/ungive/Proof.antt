@@ -1,8 +1,8 @@
 use Prim.Native.Nat.{_-_}
 use Rattle.tables.specs.View.{view}
-use Rattle.tables.specs.Encode.{is-canon}
-use Rattle.tables.specs.FitView.{fit-view}
-use Rattle.services.specs.DeleteExits.{Ungiving, ungive-start, ungive-more, ungive-end}
+use Rattle.tables.specs.Laws.Encode.{is-canon}
+use Rattle.tables.specs.Laws.FitView.{fit-view}
+use Rattle.services.specs.Laws.DeleteExits.{Ungiving, ungive-start, ungive-more, ungive-end}
 use native.Mathlib.Omega.{arith}
 use borrow.Author.Needs.{needs}
 use Rattle.services.proofs.delete_service.ungive.Statement.{statement}

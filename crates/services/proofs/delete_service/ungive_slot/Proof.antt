@@ -1,5 +1,5 @@
 use borrow.Author.Tests.{not-true, not-false}
-use Rattle.services.specs.DeleteExits.{slot-empty, slot-others, slot-ungiven}
+use Rattle.services.specs.Laws.DeleteExits.{slot-empty, slot-others, slot-ungiven}
 use native.Mathlib.Omega.{arith}
 use borrow.Author.Needs.{needs}
 use Rattle.services.proofs.delete_service.ungive_slot.Statement.{statement}

@@ -1,11 +1,11 @@
 use mathlib.Core.Path.{sym, _∙_}
 use borrow.Author.Tests.{not-true, not-false}
-use Rattle.tables.specs.Search.{lowest-some}
-use Rattle.tables.specs.Answers.{found-is}
-use Rattle.tables.specs.Encode.{canon-is}
-use Rattle.sound.specs.Settled.{right-settled, settled-words}
-use Rattle.services.specs.Rules.{find}
-use Rattle.services.specs.Ran.{ran-refused, ran-done, pass, fail, there, missing, second-is}
+use Rattle.tables.specs.Laws.Search.{lowest-some}
+use Rattle.tables.specs.Laws.Answers.{found-is}
+use Rattle.tables.specs.Laws.Encode.{canon-is}
+use Rattle.sound.specs.Laws.Settled.{right-settled, settled-words}
+use Rattle.rules.specs.Rules.{find}
+use Rattle.rules.specs.Laws.Ran.{ran-refused, ran-done, pass, fail, there, missing, second-is}
 use borrow.Author.Needs.{needs}
 use Rattle.services.proofs.looks.find.Statement.{statement}
 use Rattle.services.proofs.looks.find.Tie as tie

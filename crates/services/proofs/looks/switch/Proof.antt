@@ -1,8 +1,8 @@
 use mathlib.Core.Path.{refl, sym, _∙_}
 use borrow.Author.Tests.{not-true, not-false}
-use Rattle.sound.specs.Settled.{current-settled, settled-words}
-use Rattle.services.specs.Rules.{switch}
-use Rattle.services.specs.Ran.{ran-refused, ran-done, pass, fail}
+use Rattle.sound.specs.Laws.Settled.{current-settled, settled-words}
+use Rattle.rules.specs.Rules.{switch}
+use Rattle.rules.specs.Laws.Ran.{ran-refused, ran-done, pass, fail}
 use borrow.Author.Needs.{needs}
 use Rattle.services.proofs.looks.switch.Statement.{statement}
 use Rattle.services.proofs.looks.switch.Tie as tie

@@ -1,5 +1,5 @@
 use borrow.Author.Tests.{not-true, not-false}
-use Rattle.services.specs.RegionExits.{region-none, region-some, another-same, another-none, another-some}
+use Rattle.blocks.specs.Laws.RegionExits.{region-none, region-some, another-same, another-none, another-some}
 use borrow.Author.Needs.{needs}
 use Rattle.services.proofs.region_services.in_another.Statement.{statement}
 use Rattle.services.proofs.region_services.in_another.Tie as tie

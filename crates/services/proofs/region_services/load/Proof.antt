@@ -1,9 +1,9 @@
 use mathlib.Core.Path.{sym, _∙_}
 use borrow.Author.Tests.{not-true, not-false}
-use Rattle.sound.specs.Settled.{load-settled, settled-words}
-use Rattle.services.specs.Rules.{load}
-use Rattle.services.specs.Ran.{ran-refused, ran-done, pass, fail, there, missing}
-use Rattle.services.specs.RegionExits.{entry-none, entry-there, load-high, load-twice, load-done}
+use Rattle.sound.specs.Laws.Settled.{load-settled, settled-words}
+use Rattle.rules.specs.Rules.{load}
+use Rattle.rules.specs.Laws.Ran.{ran-refused, ran-done, pass, fail, there, missing}
+use Rattle.blocks.specs.Laws.RegionExits.{entry-none, entry-there, load-high, load-twice, load-done}
 use native.Mathlib.Omega.{arith}
 use Rattle.services.proofs.region_services.load.Statement.{statement}
 use Rattle.services.proofs.region_services.load.Tie as tie

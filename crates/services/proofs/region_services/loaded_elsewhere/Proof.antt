@@ -1,10 +1,10 @@
 use mathlib.Core.Path.{sym, _∙_}
 use Prim.Native.Nat.{_-_}
-use Rattle.loops.specs.Every.{Missing}
-use Rattle.loops.specs.Scan.{seek-start, seek-hit, seek-on, seek-end}
+use Rattle.loops.specs.Laws.Every.{Missing}
+use Rattle.loops.specs.Laws.Scan.{seek-start, seek-hit, seek-on, seek-end}
 use Rattle.tables.specs.View.{view}
-use Rattle.services.specs.Rules.{elsewhere}
-use Rattle.services.specs.RegionExits.{inAnother}
+use Rattle.rules.specs.Rules.{elsewhere}
+use Rattle.blocks.specs.RegionExits.{inAnother}
 use native.Mathlib.Omega.{arith}
 use borrow.Author.Needs.{needs}
 use Rattle.services.proofs.region_services.loaded_elsewhere.Statement.{statement}

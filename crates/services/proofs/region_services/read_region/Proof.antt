@@ -1,10 +1,10 @@
 use mathlib.Core.Path.{sym, _∙_}
 use borrow.Author.Tests.{not-true, not-false}
-use Rattle.tables.specs.Encode.{canon-is}
-use Rattle.sound.specs.Settled.{right-settled, settled-words}
-use Rattle.services.specs.Rules.{readRegion}
-use Rattle.services.specs.Ran.{ran-refused, ran-done, pass, fail, second-is}
-use Rattle.services.specs.RegionExits.{region-high, region-low, region-small, word-none, word-some}
+use Rattle.tables.specs.Laws.Encode.{canon-is}
+use Rattle.sound.specs.Laws.Settled.{right-settled, settled-words}
+use Rattle.rules.specs.Rules.{readRegion}
+use Rattle.rules.specs.Laws.Ran.{ran-refused, ran-done, pass, fail, second-is}
+use Rattle.blocks.specs.Laws.RegionExits.{region-high, region-low, region-small, word-none, word-some}
 use native.Mathlib.Omega.{arith}
 use borrow.Author.Needs.{needs}
 use Rattle.services.proofs.region_services.read_region.Statement.{statement}

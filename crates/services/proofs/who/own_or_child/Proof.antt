@@ -1,4 +1,4 @@
-use Rattle.services.specs.Who.{own-caller, own-other}
+use Rattle.services.specs.Laws.Who.{own-caller, own-other}
 use borrow.Author.Needs.{needs}
 use Rattle.services.proofs.who.own_or_child.Statement.{statement}
 use Rattle.services.proofs.who.own_or_child.Tie as tie

@@ -1,4 +1,4 @@
-use Rattle.services.specs.Who.{is-parent, of-root, no-parent}
+use Rattle.services.specs.Laws.Who.{is-parent, of-root, no-parent}
 use borrow.Author.Needs.{needs}
 use Rattle.services.proofs.who.parent_or_child.Statement.{statement}
 use Rattle.services.proofs.who.parent_or_child.Tie as tie

@@ -4,7 +4,7 @@ use native.Mathlib.Omega.{arith}
 use borrow.Author.Needs.{needs}
 use borrow.Fn.Kinds.{In}
 use borrow.Fn.PlainCycle.{Measures, is, falls, and}
-use Rattle.tables.specs.WayUp.{room-one, room-step, up-root, up-lost, up-step}
+use Rattle.tables.specs.Laws.WayUp.{room-one, room-step, up-root, up-lost, up-step}
 use Rattle.tables.proofs.climb.climb.Reads as climb
 use Rattle.tables.proofs.climb.climb.Kinds as climb-kinds
 use Rattle.tables.proofs.climb.+climb.Lts-climb as climb-lts

@@ -1,6 +1,6 @@
 use native.Mathlib.Omega.{arith}
 use borrow.Author.Needs.{needs}
-use Rattle.tables.specs.WayUp.{Writing, write-start, same-room, set-room, write-more, write-end}
+use Rattle.tables.specs.Laws.WayUp.{Writing, write-start, same-room, set-room, write-more, write-end}
 use Rattle.tables.proofs.climb.write_way.Statement.{statement}
 use Rattle.tables.proofs.climb.write_way.Tie as tie
 

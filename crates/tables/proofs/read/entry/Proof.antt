@@ -1,4 +1,4 @@
-use Rattle.tables.specs.Seen.{see}
+use Rattle.tables.specs.Laws.Seen.{see}
 use Rattle.tables.specs.View.{slotWordAt}
 use borrow.Author.Needs.{needs}
 use Rattle.tables.proofs.read.entry.Statement.{statement}

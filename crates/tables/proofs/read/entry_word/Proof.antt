@@ -1,4 +1,4 @@
-use Rattle.tables.specs.Seen.{word-of}
+use Rattle.tables.specs.Laws.Seen.{word-of}
 use Rattle.tables.specs.View.{slotWordAt}
 use borrow.Author.Needs.{needs}
 use Rattle.tables.proofs.read.entry_word.Statement.{statement}

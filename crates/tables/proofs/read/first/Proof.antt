@@ -1,4 +1,4 @@
-use Rattle.tables.specs.Seen.{see-first}
+use Rattle.tables.specs.Laws.Seen.{see-first}
 use Rattle.tables.specs.View.{firstWord}
 use borrow.Author.Needs.{needs}
 use Rattle.tables.proofs.read.first.Statement.{statement}

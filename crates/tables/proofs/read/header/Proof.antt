@@ -1,4 +1,4 @@
-use Rattle.tables.specs.Seen.{see-header}
+use Rattle.tables.specs.Laws.Seen.{see-header}
 use native.Mathlib.Nat.{add-zero}
 use Rattle.tables.specs.View.{areaWordAt}
 use borrow.Author.Needs.{needs}

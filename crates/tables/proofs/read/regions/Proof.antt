@@ -1,4 +1,4 @@
-use Rattle.tables.specs.Seen.{see-regions}
+use Rattle.tables.specs.Laws.Seen.{see-regions}
 use Rattle.tables.specs.View.{regionsWordAt}
 use borrow.Author.Needs.{needs}
 use Rattle.tables.proofs.read.regions.Statement.{statement}

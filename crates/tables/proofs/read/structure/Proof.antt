@@ -1,4 +1,4 @@
-use Rattle.tables.specs.Seen.{see-structure}
+use Rattle.tables.specs.Laws.Seen.{see-structure}
 use mathlib.Core.Path.{_≡_, ap, _∙_}
 use Prim.Native.Nat.{ℕ, _+_, _*_}
 use lib.ListN.{getD}

@@ -1,9 +1,10 @@
 use mathlib.Core.Path.{refl, ap}
 use Prim.Native.Nat.{_-_, _<_}
-use Rattle.loops.specs.Scan.{Seeking, seek-start, seek-hit, seek-on, seek-end}
+use Rattle.loops.specs.Laws.Scan.{Seeking, seek-start, seek-hit, seek-on, seek-end}
 use Rattle.tables.specs.State.{none, some}
 use Rattle.tables.specs.View.{view}
-use Rattle.tables.specs.Search.{lowest, absentChild, absent-child}
+use Rattle.tables.specs.Search.{lowest, absentChild}
+use Rattle.tables.specs.Laws.Search.{absent-child}
 use Rattle.tables.specs.Answers.{whichOf}
 use native.Mathlib.Omega.{arith}
 use borrow.Author.Needs.{needs}

@@ -1,9 +1,10 @@
 use mathlib.Core.Path.{ap}
 use Prim.Native.Nat.{_-_}
-use Rattle.loops.specs.Scan.{Seeking, seek-start, seek-hit, seek-on, seek-end}
+use Rattle.loops.specs.Laws.Scan.{Seeking, seek-start, seek-hit, seek-on, seek-end}
 use Rattle.tables.specs.State.{none, some}
 use Rattle.tables.specs.View.{view}
-use Rattle.tables.specs.Search.{lowest, noStructure, structure-some}
+use Rattle.tables.specs.Search.{lowest, noStructure}
+use Rattle.tables.specs.Laws.Search.{structure-some}
 use Rattle.tables.specs.Answers.{structureOf}
 use native.Mathlib.Omega.{arith}
 use borrow.Author.Needs.{needs}

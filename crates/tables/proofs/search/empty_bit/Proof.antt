@@ -1,5 +1,5 @@
 use mathlib.Core.Path.{refl}
-use Rattle.tables.specs.Search.{entry-some}
+use Rattle.tables.specs.Laws.Search.{entry-some}
 use native.Mathlib.Omega.{arith}
 use borrow.Author.Needs.{needs}
 use Rattle.tables.proofs.search.empty_bit.Statement.{statement}

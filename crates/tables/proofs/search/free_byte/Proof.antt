@@ -3,9 +3,10 @@ use Prim.Native.Nat.{_*_}
 use native.Mathlib.Omega.{arith}
 use borrow.Author.Tests.{not-true, not-false}
 use Rattle.loops.specs.Bit.{bitOf}
-use Rattle.loops.specs.Map.{Mapping, map-lt, map-start, map-on, map-room, map-end}
+use Rattle.loops.specs.Laws.Map.{Mapping, map-lt, map-start, map-on, map-room, map-end}
 use Rattle.tables.specs.View.{view}
-use Rattle.tables.specs.Search.{free, structure-some, absent-free, empty-free}
+use Rattle.tables.specs.Search.{free}
+use Rattle.tables.specs.Laws.Search.{structure-some, absent-free, empty-free}
 use borrow.Author.Needs.{needs}
 use Rattle.tables.proofs.search.free_byte.Statement.{statement}
 use Rattle.tables.proofs.search.free_byte.Tie as tie

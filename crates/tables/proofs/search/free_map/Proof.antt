@@ -1,5 +1,5 @@
 use native.Mathlib.Omega.{arith}
-use Rattle.loops.specs.Map.{map-join}
+use Rattle.loops.specs.Laws.Map.{map-join}
 use Rattle.tables.specs.View.{view}
 use Rattle.tables.specs.Search.{free}
 use borrow.Author.Needs.{needs}

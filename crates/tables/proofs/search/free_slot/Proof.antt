@@ -1,5 +1,5 @@
 use mathlib.Core.Path.{ap}
-use Rattle.loops.specs.Map.{zeros-none, zeros-first}
+use Rattle.loops.specs.Laws.Map.{zeros-none, zeros-first}
 use Rattle.tables.specs.State.{none, some}
 use Rattle.tables.specs.Search.{lowest}
 use Rattle.tables.specs.Answers.{foundOf}

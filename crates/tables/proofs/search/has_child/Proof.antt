@@ -1,7 +1,7 @@
 use mathlib.Core.Path.{sym, _∙_}
 use Prim.Native.Nat.{_-_}
-use Rattle.loops.specs.Every.{Missing}
-use Rattle.loops.specs.Scan.{seek-start, seek-hit, seek-on, seek-end}
+use Rattle.loops.specs.Laws.Every.{Missing}
+use Rattle.loops.specs.Laws.Scan.{seek-start, seek-hit, seek-on, seek-end}
 use Rattle.tables.specs.View.{view}
 use Rattle.tables.specs.Search.{child, hasChild}
 use native.Mathlib.Omega.{arith}

@@ -1,6 +1,6 @@
 use mathlib.Core.Path.{ap, sym, _∙_}
 use Prim.Native.Nat.{_-_}
-use Rattle.loops.specs.Scan.{Seeking, seek-start, seek-hit, seek-on, seek-end}
+use Rattle.loops.specs.Laws.Scan.{Seeking, seek-start, seek-hit, seek-on, seek-end}
 use Rattle.tables.specs.State.{none, some}
 use Rattle.tables.specs.View.{view}
 use Rattle.tables.specs.Search.{lowest, holdsAt}

@@ -1,6 +1,7 @@
 use mathlib.Core.Path.{refl}
 use borrow.Author.Tests.{not-true, not-false, eq-eqb, ne-eqb}
-use Rattle.tables.specs.Search.{present, child, header-some}
+use Rattle.tables.specs.Search.{present, child}
+use Rattle.tables.specs.Laws.Search.{header-some}
 use borrow.Author.Needs.{needs}
 use Rattle.tables.proofs.search.is_child.Statement.{statement}
 use Rattle.tables.proofs.search.is_child.Tie as tie

@@ -1,5 +1,6 @@
 use mathlib.Core.Path.{refl}
-use Rattle.tables.specs.Search.{present, header-some}
+use Rattle.tables.specs.Search.{present}
+use Rattle.tables.specs.Laws.Search.{header-some}
 use borrow.Author.Needs.{needs}
 use Rattle.tables.proofs.search.is_present.Statement.{statement}
 use Rattle.tables.proofs.search.is_present.Tie as tie

@@ -1,6 +1,6 @@
 use mathlib.Core.Path.{_∙_}
-use Rattle.loops.specs.Oring.{or-none}
-use Rattle.tables.specs.Spelling.{blank-word}
+use Rattle.loops.specs.Laws.Oring.{or-none}
+use Rattle.tables.specs.Laws.Spelling.{blank-word}
 use Rattle.tables.specs.ZeroRecord.{zeroBlanks}
 use borrow.Author.Needs.{needs}
 use Rattle.tables.proofs.zeros.blank_words.Statement.{statement}

@@ -1,7 +1,7 @@
 use mathlib.Core.Path.{_∙_}
 use Rattle.words.specs.Kind.{zeroed-sum}
 use Rattle.words.specs.Words.{regions}
-use Rattle.tables.specs.Spelling.{regions-word}
+use Rattle.tables.specs.Laws.Spelling.{regions-word}
 use borrow.Author.Needs.{needs}
 use Rattle.tables.proofs.zeros.regions_bits.Statement.{statement}
 use Rattle.tables.proofs.zeros.regions_bits.Tie as tie

@@ -1,5 +1,5 @@
 use mathlib.Core.Path.{refl, _∙_}
-use Rattle.tables.specs.Spelling.{regions-word}
+use Rattle.tables.specs.Laws.Spelling.{regions-word}
 use borrow.Author.Needs.{needs}
 use Rattle.tables.proofs.zeros.regions_word.Statement.{statement}
 use Rattle.tables.proofs.zeros.regions_word.Tie as tie

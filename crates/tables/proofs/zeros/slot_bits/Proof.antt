@@ -1,7 +1,7 @@
 use mathlib.Core.Path.{_∙_}
 use Rattle.words.specs.Kind.{zeroed-sum}
 use Rattle.words.specs.Words.{slot}
-use Rattle.tables.specs.Spelling.{slot-word}
+use Rattle.tables.specs.Laws.Spelling.{slot-word}
 use borrow.Author.Needs.{needs}
 use Rattle.tables.proofs.zeros.slot_bits.Statement.{statement}
 use Rattle.tables.proofs.zeros.slot_bits.Tie as tie

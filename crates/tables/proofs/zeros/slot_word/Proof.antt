@@ -1,5 +1,5 @@
 use mathlib.Core.Path.{refl, _∙_}
-use Rattle.tables.specs.Spelling.{slot-word}
+use Rattle.tables.specs.Laws.Spelling.{slot-word}
 use borrow.Author.Needs.{needs}
 use Rattle.tables.proofs.zeros.slot_word.Statement.{statement}
 use Rattle.tables.proofs.zeros.slot_word.Tie as tie

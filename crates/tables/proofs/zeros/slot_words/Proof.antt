@@ -1,8 +1,8 @@
 use mathlib.Core.Path.{refl, _∙_}
 use Prim.Native.Nat.{_+_, _-_}
 use lib.ListN.{getD}
-use Rattle.loops.specs.Oring.{Oring, or-start, or-on, or-end}
-use Rattle.tables.specs.ZeroRecord.{structure-slots}
+use Rattle.loops.specs.Laws.Oring.{Oring, or-start, or-on, or-end}
+use Rattle.tables.specs.Laws.ZeroRecord.{structure-slots}
 use native.Mathlib.Omega.{arith}
 use borrow.Author.Needs.{needs}
 use Rattle.tables.proofs.zeros.slot_words.Statement.{statement}

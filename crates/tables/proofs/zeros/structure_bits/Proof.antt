@@ -1,7 +1,7 @@
 use mathlib.Core.Path.{_∙_}
 use Rattle.words.specs.Kind.{zeroed-sum}
 use Rattle.words.specs.Words.{structure}
-use Rattle.tables.specs.Spelling.{area-word}
+use Rattle.tables.specs.Laws.Spelling.{area-word}
 use borrow.Author.Needs.{needs}
 use Rattle.tables.proofs.zeros.structure_bits.Statement.{statement}
 use Rattle.tables.proofs.zeros.structure_bits.Tie as tie

@@ -1,5 +1,5 @@
 use mathlib.Core.Path.{refl, _∙_}
-use Rattle.tables.specs.Spelling.{area-word}
+use Rattle.tables.specs.Laws.Spelling.{area-word}
 use borrow.Author.Needs.{needs}
 use Rattle.tables.proofs.zeros.structure_word.Statement.{statement}
 use Rattle.tables.proofs.zeros.structure_word.Tie as tie

@@ -1,6 +1,6 @@
 use mathlib.Core.Path.{sym, ap, _∙_}
 use Rattle.words.specs.Kind.{write-done, write-refused}
-use Rattle.words.specs.Laws.{regions-range, eight-slots}
+use Rattle.words.specs.Laws.Kinds.{regions-range, eight-slots}
 use Rattle.words.specs.Words.{regions}
 use Rattle.words.specs.declared.Written.the-variants.{Word}
 use native.Mathlib.Omega.{arith}

@@ -1,0 +1,18 @@
+use borrow.Author.Tests.{not-true, not-false}
+use Rattle.rules.specs.Laws.Ran.{ran-refused}
+use Rattle.blocks.specs.Laws.MergeExits.{merge-none, merge-other-none}
+use borrow.Author.Needs.{needs}
+use Rattle.blocks.proofs.merge_service.merge.Statement.{statement}
+use Rattle.blocks.proofs.merge_service.merge.Tie as tie
+
+pub merge-spec : {M : Type 1} → statement M
+merge-spec =
+    tie.close
+    (tie.spec
+    (λ c κs. search needs)
+    (λ c κs. search needs)
+    (λ c. ran-refused (merge-none _ (c .before .before .before .before .before .first .ensures .current) (c .before .before .entry .ensures) (not-true _ (c .if1 .taken))))
+    (λ c κs. search needs)
+    (λ c. ran-refused (merge-other-none (c .before .before .before .before .before .before .before .before .before .first .ensures .current) (c .before .before .before .before .before .before .entry .ensures) (not-false _ (c .before .before .before .before .if1 .left)) (c .before .before .entry2 .ensures) (not-true _ (c .if2 .taken))))
+    (λ c κs. record { canon = c .before .before .before .before .before .before .before .before .before .before .before .before .pre .0; now = c .before .before .before .before .before .before .before .before .before .before .first .ensures .current; caller = c .before .before .before .before .before .before .before .before .before .before .first .ensures .current-small; inI = c .before .before .before .before .before .before .before .before .before .before .before .before .pre .1; inU = c .before .before .before .before .before .before .before .before .before .before .before .before .pre .2; first = c .before .before .before .before .before .before .before .entry .ensures; first-there = not-false _ (c .before .before .before .before .before .if1 .left); second = c .before .before .before .entry2 .ensures; second-there = not-false _ (c .before .if2 .left); right = c .before .before .before .before .before .before .before .before .before .before .before .before .pre .3 })
+    (λ c. search needs))

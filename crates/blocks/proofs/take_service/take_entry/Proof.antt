@@ -1,0 +1,21 @@
+use mathlib.Core.Path.{sym, _∙_}
+use Rattle.tables.specs.Laws.Search.{lowest-some}
+use Rattle.tables.specs.Laws.Answers.{found-is}
+use Rattle.tables.specs.Laws.Encode.{is-canon}
+use Rattle.blocks.specs.Laws.TakeExits.{can-take, take-kept, take-done}
+use native.Mathlib.Omega.{arith}
+use borrow.Author.Needs.{needs}
+use Rattle.blocks.proofs.take_service.take_entry.Statement.{statement}
+use Rattle.blocks.proofs.take_service.take_entry.Tie as tie
+
+pub take-entry-spec : {M : Type 1} → statement M
+take-entry-spec =
+    tie.close
+    (tie.spec
+    (λ c κs. c .before .pre .seen .given-small)
+    (λ c. search needs)
+    (λ c. search needs)
+    (λ c. take-kept (c .before .before .before .before .pre) (found-is _ (sym (c .enum-told .given .1) ∙ c .before .before .returned-slot .ensures)))
+    (λ c κs. (can-take (c .before .before .before .before .before .before .pre), lowest-some 32 _ _ (found-is _ (sym (c .before .before .found .given .1) ∙ c .before .before .before .before .returned-slot .ensures)) .below))
+    (λ c κs. (is-canon (c .before .take-back .ensures), omega (arith, c .before .before .before .before .before .before .before .before .pre .caller, c .before .before .before .before .before .before .before .before .pre .seen .given-small)))
+    (λ c. take-done (c .before .before .before .before .before .before .before .before .before .pre) (found-is _ (sym (c .before .before .before .before .before .found .given .1) ∙ c .before .before .before .before .before .before .before .returned-slot .ensures)) (c .before .before .take-back .ensures) (c .settle-regions .ensures)))

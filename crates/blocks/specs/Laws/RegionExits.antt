@@ -1,0 +1,90 @@
+-- The services of regions: the region and the entry that were read are those of the table; and the exits of load.
+use mathlib.Core.Path.{_≡_, refl, ap, sym, _∙_}
+use mathlib.Core.Bool.{true, false, not, _&&_}
+use mathlib.Core.List.{List}
+use Prim.Native.Nat.{ℕ, _≤_, _<_}
+use native.Mathlib.Omega.{arith}
+use lib.Dec.{ltb, eqb}
+use borrow.Author.Tests.{lt-ltb, le-ltb, eq-eqb, ne-eqb}
+use Rattle.words.specs.declared.regions_word.Region.{Region}
+use Rattle.words.specs.declared.regions_word.RegionsFields.{RegionsFields}
+use Rattle.words.specs.declared.slot_word.SlotFields.{SlotFields}
+use Rattle.tables.specs.State.{none, some, Table}
+use Rattle.tables.specs.View.{view, nth, named, entryOf, entryIn}
+use Rattle.tables.specs.Update.{upd}
+use Rattle.tables.specs.Encode.{slotWord}
+use Rattle.tables.specs.Seen.{Seen, SeenRegions}
+use Rattle.tables.specs.Settle.{settle}
+use Rattle.sound.specs.Clauses.{has}
+use Rattle.rules.specs.Rules.{Result, done, refused, check, ownOrChild, elsewhere, load, regionWord}
+use Rattle.rules.specs.Laws.Ran.{pass, fail, there}
+use Rattle.blocks.specs.RegionExits.{inAnother}
+
+-- ── the number of a region ──
+pub region-high : (r : ℕ) → 7 < r → ltb r 8 ≡ false
+region-high r h = le-ltb r 8 (omega arith)
+
+pub region-low : (r : ℕ) → r ≤ 7 → ltb r 8 ≡ true
+region-low r h = lt-ltb r 8 (omega arith)
+
+-- ── the region x that was read ──
+module _ {l : List ℕ} {p : ℕ} {f : RegionsFields} {x : Region} (v : SeenRegions l p f) (r : ℕ) (h : r < 8) (is : x ≡ nth f r) where
+  pub region-small : x .slot .0 < 32
+  region-small = rw is (v .small r)
+
+  seen : view l .region p r ≡ named x
+  seen = v .region r h ∙ ap named (sym is)
+
+  pub region-none : x .loaded ≡ false → view l .region p r ≡ none
+  unfolding named
+  region-none q = seen ∙ rw q refl
+
+  pub region-some : x .loaded ≡ true → view l .region p r ≡ some (x .slot .0)
+  unfolding named
+  region-some q = seen ∙ rw q refl
+
+  pub word-none : x .loaded ≡ false → regionWord (view l) p (view l .region p r) ≡ 0
+  unfolding regionWord
+  word-none q = rw (region-none q) refl
+
+  pub word-some : {w : ℕ} → x .loaded ≡ true → w ≡ slotWord (view l .k .slot p (x .slot .0)) (view l .opened p (x .slot .0)) → regionWord (view l) p (view l .region p r) ≡ w
+  unfolding regionWord
+  word-some q e = rw (region-some q) (sym e)
+
+-- ── a slot in another region ──
+pub another-same : (t : Table) (p s r q : ℕ) → q ≡ r → false ≡ inAnother t p s r q
+unfolding inAnother
+another-same t p s r q z = rw (eq-eqb q r z) refl
+
+pub another-none : (t : Table) (p s r q : ℕ) → (q ≡ r → ⊥) → t .region p q ≡ none → false ≡ inAnother t p s r q
+unfolding inAnother has
+another-none t p s r q z e = rw (ne-eqb q r z, e) refl
+
+pub another-some : (t : Table) (p s r q : ℕ) {i : ℕ} → (q ≡ r → ⊥) → t .region p q ≡ some i → eqb i s ≡ inAnother t p s r q
+unfolding inAnother has
+another-some t p s r q z e = rw (ne-eqb q r z, e) refl
+
+-- ── the entry f that was read ──
+module _ {l : List ℕ} {p s : ℕ} {f : SlotFields} (v : Seen l p s f) where
+  pub entry-none : f .present ≡ false → view l .k .slot p s ≡ none
+  unfolding entryIn
+  entry-none q = v .slot ∙ rw q refl
+
+  pub entry-there : f .present ≡ true → view l .k .slot p s ≡ some (entryOf f)
+  unfolding entryIn
+  entry-there q = v .slot ∙ rw q refl
+
+-- ── load: the checks before 16 pass ──
+module _ {l : List ℕ} {p s : ℕ} {f : SlotFields} (own : ownOrChild (view l .k) p ≡ true) (v : Seen l p s f) (q : f .present ≡ true) (o : f .opened ≡ true) (r : ℕ) where
+  from-16 : {x : Result} → check 16 (ltb r 8 && not (elsewhere (view l) p s r)) (done 0 0 (settle (view l .k) (upd (view l .region) p r (some s)))) ≡ x → load (view l) p s r ≡ x
+  unfolding load
+  from-16 e = pass 3 own (there 4 _ _ (entry-there v q) (pass 5 (v .opened ∙ o) e))
+
+  pub load-high : 7 < r → load (view l) p s r ≡ refused 16
+  load-high h = from-16 (fail 16 _ (rw (region-high r h) refl))
+
+  pub load-twice : r ≤ 7 → elsewhere (view l) p s r ≡ true → load (view l) p s r ≡ refused 16
+  load-twice h e = from-16 (fail 16 _ (rw (region-low r h, e) refl))
+
+  pub load-done : r ≤ 7 → elsewhere (view l) p s r ≡ false → load (view l) p s r ≡ done 0 0 (settle (view l .k) (upd (view l .region) p r (some s)))
+  load-done h e = from-16 (pass 16 (rw (region-low r h, e) refl) refl)

@@ -1,0 +1,106 @@
+-- Cut and give, exit by exit: the number of each refusal, and, done, that nothing is left to settle, since each part of an open entry is open.
+use mathlib.Core.Path.{_≡_, refl, ap, sym, subst, _∙_}
+use mathlib.Core.Bool.{Bool, true, false}
+use mathlib.Core.List.{List}
+use Prim.Native.Nat.{ℕ, _<_, _≤_}
+use native.Mathlib.Omega.{arith}
+use borrow.Author.Tests.{lt-ltb, le-ltb}
+use Rattle.words.specs.declared.Rights.{Rights}
+use Rattle.words.specs.declared.slot_word.SlotFields.{SlotFields}
+use Rattle.tables.specs.State.{none, some, K}
+use Rattle.tables.specs.View.{view, entryOf}
+use Rattle.tables.specs.Encode.{encode, Canon, Is}
+use Rattle.tables.specs.Seen.{Seen}
+use Rattle.tables.specs.Search.{lowest, child, free}
+use Rattle.tables.specs.Settle.{clear, settled}
+use Rattle.tables.specs.declared.Outcome.the-variants.{Done, Refused}
+use Rattle.sound.specs.Clauses.{within}
+use Rattle.sound.specs.Whole.{Right}
+use Rattle.sound.specs.Laws.Settled.{Settled, clear-part, settled-words, entry-clear, put-settled, right-settled}
+use Rattle.rules.specs.Rules.{endingAt, startingAt, givenTo, rangeOf, cut, give}
+use Rattle.rules.specs.Ran.{Ran}
+use Rattle.rules.specs.Laws.Ran.{ran-refused, ran-done, pass, fail, there, missing}
+use Rattle.blocks.specs.Pick.{Free}
+use Rattle.blocks.specs.Laws.RegionExits.{entry-there}
+use Rattle.blocks.specs.SlotExits.{CanPut, splitAt, CanCut, handedTo, CanGive}
+
+-- in a right table no area shares a line with a free entry
+free-clear : {l : List ℕ} {s : ℕ} {f : SlotFields} → Right (view l) → Free l s f → clear (view l .k .area) (f .start .0) (f .end .0) ≡ true
+free-clear {f = f} right entry = entry-clear (right-settled right) {e = entryOf f} (entry-there (entry .seen) (entry .present)) ∙ entry .seen .opened ∙ entry .opened
+
+pub can-put : {l : List ℕ} {c p s : ℕ} {f : SlotFields} → Canon l → c < 16 → s < 32 → Seen l p s f → f .present ≡ true → CanPut l c s f
+can-put a b d v q = record {
+  canon = a;
+  inP = b;
+  inI = d;
+  present = q;
+  given-small = v .given-small;
+  start-small = v .start-small;
+  end-small = v .end-small;
+}
+
+-- ── cut ──
+module _ {l : List ℕ} {s k : ℕ} {f : SlotFields} (h : CanCut l s k f) where
+  pub can-split : {c : ℕ} → c < 16 → CanPut l c s f
+  can-split b = can-put (h .canon) b (h .inI) (h .entry .seen) (h .entry .present)
+
+  pub cut-low : k ≤ f .start .0 → Ran (cut (view l) s k) l (Refused 7) l
+  unfolding cut
+  cut-low b = ran-refused (h .entry .rule _ ∙ fail 7 _ (rw (le-ltb (f .start .0) k b) refl))
+
+  pub cut-high : f .start .0 < k → f .end .0 ≤ k → Ran (cut (view l) s k) l (Refused 7) l
+  unfolding cut
+  cut-high a b = ran-refused (h .entry .rule _ ∙ fail 7 _ (rw (lt-ltb (f .start .0) k a) (le-ltb k (f .end .0) b)))
+
+  module _ {c : ℕ} (now : view l .k .current ≡ c) (low : f .start .0 < k) (high : k < f .end .0) where
+    pub cut-full : lowest 32 (free (view l .k) c) ≡ none → Ran (cut (view l) s k) l (Refused 8) l
+    unfolding cut
+    cut-full z =
+        ran-refused (h .entry .rule _ ∙ pass 7 (rw (lt-ltb (f .start .0) k low) (lt-ltb k (f .end .0) high))
+        (missing 8 _ (ap (λ (c : ℕ). lowest 32 (free (view l .k) c)) now ∙ z)))
+
+    -- both parts are open, as the whole was
+    split-settled : (n : ℕ) → Settled (splitAt (view l) c s n k f)
+    split-settled n =
+        let whole = free-clear (h .right) (h .entry) in
+        let part = clear-part (view l .k .area) in
+        rw (h .entry .opened) (put-settled
+        (put-settled (right-settled (h .right)) c s (endingAt (entryOf f) k) true (part (f .start .0) (f .start .0) k (f .end .0) whole (omega arith) (omega arith)) (λ _. refl))
+        c n (startingAt (entryOf f) k) true (part (f .start .0) k (f .end .0) (f .end .0) whole (omega arith) (omega arith)) (λ _. refl))
+
+    pub cut-done : {n : ℕ} {m : List ℕ} → lowest 32 (free (view l .k) c) ≡ some n → Is m (splitAt (view l) c s n k f) → Ran (cut (view l) s k) l (Done n 0) m
+    unfolding cut
+    cut-done {n} {m} z put =
+        ran-done (h .entry .rule _ ∙ pass 7 (rw (lt-ltb (f .start .0) k low) (lt-ltb k (f .end .0) high))
+        (there 8 _ n (ap (λ (c : ℕ). lowest 32 (free (view l .k) c)) now ∙ z) refl))
+        (subst (λ (c : ℕ). m ≡ encode (settled (splitAt (view l) c s n k f))) (sym now) (settled-words put (split-settled n)))
+
+-- ── give ──
+-- the test of P, with the caller's number read first
+pub child-now : (k : K) (p : ℕ) {c : ℕ} {b : Bool} → k .current ≡ c → child k c p ≡ b → child k (k .current) p ≡ b
+child-now k p now e = ap (λ (c : ℕ). child k c p) now ∙ e
+
+module _ {l : List ℕ} {c p s : ℕ} {f : SlotFields} (h : CanGive l c p s f) where
+  pub can-hand : CanPut l c s f
+  can-hand = can-put (h .canon) (h .caller) (h .inI) (h .entry .seen) (h .entry .present)
+
+  pub give-full : (r : Rights) → lowest 32 (free (view l .k) p) ≡ none → Ran (give (view l) p s r) l (Refused 8) l
+  unfolding give
+  give-full r z = ran-refused (pass 3 (child-now _ _ (h .now) (h .isChild)) (h .entry .rule _ ∙ missing 8 _ z))
+
+  module _ (r : Rights) {n : ℕ} (z : lowest 32 (free (view l .k) p) ≡ some n) where
+    pub give-more : within r (f .rights) ≡ false → Ran (give (view l) p s r) l (Refused 10) l
+    unfolding give
+    give-more w = ran-refused (pass 3 (child-now _ _ (h .now) (h .isChild)) (h .entry .rule _ ∙ there 8 _ n z (fail 10 _ w)))
+
+    -- both entries are open: their range is that of f
+    handed-settled : Settled (handedTo (view l) c s p n r f)
+    handed-settled =
+        let whole = free-clear (h .right) (h .entry) in
+        rw (h .entry .opened) (put-settled (put-settled (right-settled (h .right)) c s (givenTo (entryOf f) p) true whole (λ _. refl)) p n (rangeOf (entryOf f) r) true whole (λ _. refl))
+
+    pub give-done : {m : List ℕ} → within r (f .rights) ≡ true → Is m (handedTo (view l) c s p n r f) → Ran (give (view l) p s r) l (Done n 0) m
+    unfolding give
+    give-done {m} w put =
+        ran-done (pass 3 (child-now _ _ (h .now) (h .isChild)) (h .entry .rule _ ∙ there 8 _ n z (pass 10 w refl)))
+        (subst (λ (c : ℕ). m ≡ encode (settled (handedTo (view l) c s p n r f))) (sym (h .now)) (settled-words put handed-settled))

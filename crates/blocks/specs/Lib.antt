@@ -1,0 +1,6 @@
+pub mod Pick
+pub mod SlotExits
+pub mod RegionExits
+pub mod TakeExits
+pub mod MergeExits
+pub mod Laws

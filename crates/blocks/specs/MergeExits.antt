@@ -1,0 +1,41 @@
+-- The exits of merge.
+use mathlib.Core.Path.{_≡_}
+use mathlib.Core.Bool.{Bool, true, false, _&&_, _||_}
+use mathlib.Core.List.{List}
+use Prim.Native.Nat.{ℕ, _<_}
+use lib.Dec.{eqb}
+use Rattle.loops.specs.Every.{any}
+use Rattle.words.specs.declared.slot_word.SlotFields.{SlotFields}
+use Rattle.tables.specs.State.{Opt, none, some, Entry, K, Table}
+use Rattle.tables.specs.View.{view, entryOf}
+use Rattle.tables.specs.Encode.{Canon}
+use Rattle.tables.specs.Write.{putSlot}
+use Rattle.tables.specs.Seen.{Seen}
+use Rattle.sound.specs.Clauses.{has, grants}
+use Rattle.sound.specs.Whole.{Right}
+use Rattle.rules.specs.Rules.{endingAt}
+
+-- an entry given to c that contains both
+unfoldable pub containsBoth : ℕ → Entry → Entry → Opt Entry → Bool
+containsBoth c e f = has (λ g. grants c e g && grants c f g)
+
+-- check 12
+unfoldable pub mayJoin : K → ℕ → Entry → Entry → Bool
+mayJoin k c e f = eqb c 0 || any 32 (λ i. containsBoth c e f (k .slot (k .parent c) i))
+
+-- slot s of c ends where f ended, and slot u of c is free
+abbrev pub joinedAt : Table → ℕ → ℕ → ℕ → SlotFields → SlotFields → Table
+joinedAt t c s u e f = putSlot (putSlot t c s (some (endingAt (entryOf e) (f .end .0))) (e .opened)) c u none false
+
+-- e and f are the entries in slots s and u of the caller c
+pub record CanMerge (l : List ℕ) (c s u : ℕ) (e f : SlotFields) : Type 0 where
+  pub canon : Canon l
+  pub now : view l .k .current ≡ c
+  pub caller : c < 16
+  pub inI : s < 32
+  pub inU : u < 32
+  pub first : Seen l c s e
+  pub first-there : e .present ≡ true
+  pub second : Seen l c u f
+  pub second-there : f .present ≡ true
+  pub right : Right (view l)

@@ -1,0 +1,53 @@
+-- The exits of cut and give.
+use mathlib.Core.Path.{_≡_}
+use mathlib.Core.Bool.{true}
+use mathlib.Core.List.{List}
+use Prim.Native.Nat.{ℕ, _^_, _<_}
+use Rattle.words.specs.declared.Rights.{Rights}
+use Rattle.words.specs.declared.slot_word.SlotFields.{SlotFields}
+use Rattle.tables.specs.State.{some, Table}
+use Rattle.tables.specs.View.{view, entryOf}
+use Rattle.tables.specs.Encode.{Canon}
+use Rattle.tables.specs.Write.{putSlot}
+use Rattle.tables.specs.Search.{child}
+use Rattle.sound.specs.Whole.{Right}
+use Rattle.rules.specs.Rules.{endingAt, startingAt, givenTo, rangeOf}
+use Rattle.blocks.specs.Pick.{Free}
+
+-- what the writes of slot s of c ask of its entry f
+pub record CanPut (l : List ℕ) (c s : ℕ) (f : SlotFields) : Type 0 where
+  pub canon : Canon l
+  pub inP : c < 16
+  pub inI : s < 32
+  pub present : f .present ≡ true
+  pub given-small : f .given .0 < 16
+  pub start-small : f .start .0 < 2 ^ 27
+  pub end-small : f .end .0 < 2 ^ 27
+
+-- slot s of c ends at k, and slot n of c goes on from there
+abbrev pub splitAt : Table → ℕ → ℕ → ℕ → ℕ → SlotFields → Table
+splitAt t c s n k f = putSlot (putSlot t c s (some (endingAt (entryOf f) k)) (f .opened)) c n (some (startingAt (entryOf f) k)) (f .opened)
+
+-- ── cut ──
+pub record CanCut (l : List ℕ) (s k : ℕ) (f : SlotFields) : Type 0 where
+  pub canon : Canon l
+  pub inI : s < 32
+  pub line : k < 2 ^ 27
+  pub entry : Free l s f
+  pub right : Right (view l)
+
+-- ── give ──
+-- slot s of c is given to p, and slot n of p has its range with rights r
+abbrev pub handedTo : Table → ℕ → ℕ → ℕ → ℕ → Rights → SlotFields → Table
+handedTo t c s p n r f = putSlot (putSlot t c s (some (givenTo (entryOf f) p)) (f .opened)) p n (some (rangeOf (entryOf f) r)) (f .opened)
+
+-- p is a child of c, the caller, whose entry f in slot s is free
+pub record CanGive (l : List ℕ) (c p s : ℕ) (f : SlotFields) : Type 0 where
+  pub canon : Canon l
+  pub now : view l .k .current ≡ c
+  pub caller : c < 16
+  pub inP : p < 16
+  pub inI : s < 32
+  pub isChild : child (view l .k) c p ≡ true
+  pub entry : Free l s f
+  pub right : Right (view l)

@@ -1,0 +1,11 @@
+use mathlib.Core.Path.{refl}
+use borrow.Author.Needs.{needs}
+use Rattle.decide.proofs.is_sound.Statement.{statement}
+use Rattle.decide.proofs.is_sound.Tie as tie
+
+pub is-sound-spec : {M : Type 1} → statement M
+is-sound-spec =
+    tie.close
+    (tie.spec
+    (λ c κs. (c .before .before .pre, refl, refl))
+    (λ c. c .is-ordered .ensures .says))

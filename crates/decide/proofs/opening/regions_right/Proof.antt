@@ -1,0 +1,36 @@
+use mathlib.Core.Path.{ap, sym, _∙_}
+use mathlib.Core.Bool.{not}
+use Prim.Native.Nat.{_-_}
+use borrow.Author.Tests.{not-true}
+use Rattle.loops.specs.Laws.Every.{Passing}
+use Rattle.loops.specs.Laws.Scan.{seek-start, seek-hit, seek-on, seek-end}
+use Rattle.tables.specs.View.{view}
+use Rattle.decide.specs.Opening.{regionRight}
+use Rattle.decide.specs.Laws.Opening.{s10-each, s10-none}
+use native.Mathlib.Omega.{arith}
+use borrow.Author.Needs.{needs}
+use Rattle.decide.proofs.opening.regions_right.Statement.{statement}
+use Rattle.decide.proofs.opening.regions_right.Tie as tie
+
+abbrev Inv-loop : tie.InvT-loop
+Inv-loop t p f r₀ r = Passing (regionRight (view t) (p .0)) 8 r
+
+abbrev μ-loop : tie.MeasureT-loop
+μ-loop t p f r₀ r = 8 - r
+
+pub regions-right-spec : {M : Type 1} → statement M
+regions-right-spec =
+    tie.close
+    (tie.spec
+    Inv-loop
+    μ-loop
+    (λ c κs. search needs)
+    (λ c κs. search needs)
+    (λ c. s10-none (c .before .before .regions .ensures) (sym (c .before .some-loaded .ensures) ∙ not-true _ (c .if1 .taken)))
+    (λ c. seek-start)
+    (λ c κs. (c .before .before .before .before .before .pre, omega arith, c .before .before .before .before .regions .ensures))
+    (λ c. seek-hit (c .before .before .before .loop .inv) (omega arith) (ap not (sym (c .before .region-right .ensures)) ∙ c .if2 .taken) ∙ s10-each _ _)
+    (λ c. search needs)
+    (λ c. search needs)
+    (λ c. seek-on (c .before .before .before .loop .inv) (omega arith) (ap not (sym (c .before .region-right .ensures)) ∙ c .if2 .left))
+    (λ c. seek-end (c .before .loop .inv) (omega arith) ∙ s10-each _ _))

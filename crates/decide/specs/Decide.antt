@@ -1,0 +1,25 @@
+-- The exits of the decision: one pass over the partitions.
+use mathlib.Core.Path.{_≡_}
+use mathlib.Core.Bool.{Bool, true}
+use mathlib.Core.List.{List}
+use Prim.Native.Nat.{ℕ}
+use Rattle.loops.specs.Every.{all}
+use Rattle.tables.specs.View.{view}
+use Rattle.settling.specs.Areas.{AreasOf, Parted}
+use Rattle.sound.specs.Clauses.{s6, sound}
+use Rattle.shape.specs.AtOnce.{Shaped}
+use Rattle.decide.specs.Order.{Orders}
+
+-- ── the parts of the decision, in the order of the code ──
+-- what is known before the partitions are looked at one by one
+pub record CanDecide (l o c : List ℕ) (n : ℕ) (s e : List ℕ) : Type 0 where
+  pub shaped : Shaped l
+  pub areas : AreasOf (view l .k) n s e
+  pub parted : Parted n s e
+  pub s6 : all 16 (s6 (view l .k)) ≡ true
+  pub orders : Orders (view l .k) o c
+
+-- what it says, and how it leaves the entries
+pub record Decided (l : List ℕ) (r : Bool) (o c : List ℕ) : Type 0 where
+  pub says : r ≡ sound l
+  pub orders : r ≡ true → Orders (view l .k) o c

@@ -1,0 +1,182 @@
+-- Exactly the sound tables pass: each exit of the decision, by the clause that fails there. The records from the top on need no look.
+use mathlib.Core.Path.{_≡_, refl, sym, _∙_}
+use mathlib.Core.Bool.{Bool, true, false, not, _&&_, false≢true}
+use mathlib.Core.List.{List}
+use Prim.Native.Nat.{ℕ, _≤_, _<_}
+use native.Mathlib.Decide.{ℕ-discrete, decLt}
+use native.Mathlib.Omega.{arith}
+use lib.ListN.{length}
+use lib.Dec.{ltb, eqb}
+use borrow.Author.Tests.{eq-eqb, ne-eqb, not-false}
+use Rattle.loops.specs.Every.{all}
+use Rattle.loops.specs.Laws.Every.{all-at, all-of, bool-ext}
+use Rattle.tables.specs.State.{K}
+use Rattle.tables.specs.View.{view}
+use Rattle.tables.specs.Search.{present}
+use Rattle.tables.specs.ZeroRecord.{zeroRecord}
+use Rattle.tables.specs.Top.{Top}
+use Rattle.tables.specs.Laws.Top.{top-absent}
+use Rattle.sound.specs.Clauses.{s1, s2, s3First, s3, s4, s5, s6, s7Given, s7, s8Backed, s9, s10, s11, sound}
+use Rattle.sound.specs.Laws.Tests.{and-says, and-true, not-says}
+use Rattle.sound.specs.Laws.MeansEntries.{present-means}
+use Rattle.sound.specs.Laws.MeansWords.{s2-means, s5-means}
+use Rattle.decide.specs.Entries.{Solid, exactly}
+use Rattle.decide.specs.Laws.Entries.{s7-parts}
+use Rattle.shape.specs.Laws.Absent.{absent-s3, absent-s4, absent-s5, absent-s6, absent-s7, absent-s8, absent-s9, absent-s10, absent-s11}
+use Rattle.shape.specs.AtOnce.{restAt, shapeAt, Shaped}
+use Rattle.shape.specs.Laws.AtOnce.{areasApart, atOnce, Passes, rest-true, rest-says, sound-at-once, shaped-s2, shaped-record}
+use Rattle.decide.specs.Order.{Orders}
+use Rattle.decide.specs.Laws.Order.{SameOrders, orders-one}
+use Rattle.decide.specs.Decide.{CanDecide, Decided}
+
+-- a test that cannot pass is false
+pub never : (b : Bool) → (b ≡ true → ⊥) → false ≡ b
+never true h = absurd (h refl)
+never false h = refl
+
+-- a test b, whose result a was turned round: it failed, or it passed
+pub failed : {a b : Bool} → a ≡ b → not a ≡ true → b ≡ true → ⊥
+failed {a} e n q = not-says a n (e ∙ q)
+
+pub passed : {a b : Bool} → a ≡ b → not a ≡ false → b ≡ true
+passed {a} e n = sym e ∙ not-false a n
+
+-- true && b is b
+pub and-is : (a b : Bool) → a ≡ true → b ≡ a && b
+and-is a b h = rw h refl
+
+module _ (l : List ℕ) (p : ℕ) where
+  -- the root is present; another that is absent is all zero, and has nothing left to test
+  pub absent-rest : p < 16 → s2 l (view l .k) p ≡ true → present (view l .k) p ≡ false → restAt l p ≡ true
+  unfolding s2
+  absent-rest b q n = go (ℕ-discrete p 0)
+    where
+      go : Dec (p ≡ 0) → restAt l p ≡ true
+      go (yes z) =
+          let r = s2-means l p b .0 q in
+          absurd (false≢true (sym n ∙ present-means (view l .k) p .1 (_, r .root z .0)))
+      go (no z) =
+          let w : zeroRecord l p ≡ true = rw (ne-eqb p 0 z, n) at q in
+          rest-true l p (record {
+            s3 = absent-s3 l p w;
+            s4 = absent-s4 l p w z;
+            s5 = absent-s5 l p w;
+            s6 = absent-s6 l p w;
+            s7 = absent-s7 l p w z;
+            s11 = absent-s11 l p w z;
+            s8 = absent-s8 l p w;
+            s9 = absent-s9 l p w;
+            s10 = absent-s10 l p w;
+          })
+
+  -- .. and has its shape
+  pub absent-shape : p < 16 → s2 l (view l .k) p ≡ true → present (view l .k) p ≡ false → true ≡ shapeAt l p
+  unfolding shapeAt
+  absent-shape b q n =
+      let h = rest-says l p (absent-rest b q n) in
+      sym (and-true _ _ q (and-true _ _ (and-true _ _ (h .s3) (h .s4)) (h .s5)))
+
+  -- a clause that fails
+  pub rest-no : (Passes l p → ⊥) → false ≡ restAt l p
+  rest-no h = never (restAt l p) (λ q. h (rest-says l p q))
+
+  -- all clauses but the last pass
+  pub rest-last : s3 l p && s4 l (view l .k) p && s5 l (view l .k) p ≡ true → s6 (view l .k) p && s7 (view l .k) p ≡ true → s11 (view l .k) p ≡ true
+      → all 5 (s8Backed (view l .k) p) ≡ true → s9 (view l) p ≡ true → s10 (view l) p ≡ restAt l p
+  unfolding restAt
+  rest-last a b c d e = and-is _ (s10 (view l) p) (and-true _ _ (and-true _ _ (and-true _ _ (and-true _ _ a b) c) d) e)
+
+  -- S5 at p, which S6 and S7 lean on
+  pub solid : p < 16 → s3 l p && s4 l (view l .k) p && s5 l (view l .k) p ≡ true → Solid (view l .k) p
+  solid b q = s5-means l p b .0 (and-says (s3 l p && s4 l (view l .k) p) (s5 l (view l .k) p) q .1) .range
+
+-- ── the records from the top on need no look ──
+module _ {l : List ℕ} {m : ℕ} (h : Top l m) where
+  -- S1 asks for a record, that of current
+  pub top-first : s1 (view l .k) && s3First l ≡ true → 0 < m
+  unfolding s1
+  top-first q = go (decLt 0 m)
+    where
+      go : Dec (0 < m) → 0 < m
+      go (yes b) = b
+      go (no b) =
+          let (x, y) = and-says (s1 (view l .k)) (s3First l) q in
+          absurd (false≢true (sym (top-absent h (view l .k .current) (omega arith)) ∙ and-says (ltb (view l .k .base) (view l .k .stop)) (present (view l .k) (view l .k .current)) x .1))
+
+  -- .. so the root's is looked at
+  pub top-shape : 0 < m → (p : ℕ) → m ≤ p → p < 16 → shapeAt l p ≡ true
+  unfolding s2
+  top-shape some p a b =
+      let n = top-absent h p a in
+      sym (absent-shape l p b (rw (ne-eqb p 0 (λ z. omega arith), n) (h .zero p a b)) n)
+
+  pub top-rest : Shaped l → (p : ℕ) → m ≤ p → p < 16 → s2 l (view l .k) p && restAt l p ≡ true
+  top-rest shaped p a b =
+      let q = shaped-s2 shaped p b in
+      and-true _ _ q (absent-rest l p b q (top-absent h p a))
+
+-- ── the parts of the decision, in the order of the code ──
+-- two results are equal; where they are true, so are the number and the order of the entries of each partition that is present
+pub decided-one : {l : List ℕ} {r r′ : Bool} {o c o′ c′ : List ℕ} → Decided l r o c → Decided l r′ o′ c′ → (r ≡ r′) × (r ≡ true → SameOrders (view l .k) 16 o c o′ c′)
+decided-one x y = let z = x .says ∙ sym (y .says) in (z, λ q. orders-one (x .orders q) (y .orders (sym z ∙ q)))
+
+-- the clauses of present_sound, with what each check said
+module _ {l o c : List ℕ} {n : ℕ} {s e : List ℕ} (can : CanDecide l o c n s e) (p : ℕ) (b : p < 16) (here : present (view l .k) p ≡ true) where
+  abbrev k : K
+  k = view l .k
+
+  s7-says : Passes l p → (s7Given k p ≡ true) × (exactly k p ≡ true)
+  s7-says h = and-says (s7Given k p) (exactly k p) (sym (s7-parts k p here) ∙ h .s7)
+
+  pub no-given : s7Given k p ≡ false → false ≡ restAt l p
+  no-given q = rest-no l p (λ h. false≢true (sym q ∙ s7-says h .0))
+
+  pub no-cover : exactly k p && s11 k p ≡ false → false ≡ restAt l p
+  no-cover q = rest-no l p (λ h. false≢true (sym q ∙ and-true _ _ (s7-says h .1) (h .s11)))
+
+  pub rest-regions : s7Given k p ≡ true → exactly k p && s11 k p ≡ true → all 5 (s8Backed k p) ≡ true → s9 (view l) p ≡ true → s10 (view l) p ≡ restAt l p
+  rest-regions g x d q =
+      let (y, z) = and-says (exactly k p) (s11 k p) x in
+      rest-last l p (shaped-record (can .shaped) p b) (and-true _ _ (all-at 16 (s6 k) (can .s6) p b) (s7-parts k p here ∙ and-true _ _ g y)) z d q
+
+module _ (l : List ℕ) where
+  -- the sound tables pass each part
+  pub record Parts : Type 0 where
+    pub first : s1 (view l .k) && s3First l ≡ true
+    pub shapes : all 16 (shapeAt l) ≡ true
+    pub apart : areasApart (view l .k) ≡ true
+    pub s6 : all 16 (s6 (view l .k)) ≡ true
+    pub partitions : all 16 (λ p. s2 l (view l .k) p && restAt l p) ≡ true
+
+  pub parts : sound l ≡ true → Parts
+  unfolding atOnce shapeAt
+  parts q =
+      let (r, w) = and-says _ (areasApart (view l .k)) (sound-at-once l ∙ q) in
+      let (z, u) = and-says (eqb (length l) 641 && (s1 (view l .k) && s3First l)) (all 16 (λ p. s2 l (view l .k) p && restAt l p)) r in
+      let at : (p : ℕ) → p < 16 → (s2 l (view l .k) p ≡ true) × Passes l p = λ p b.
+      let (x, y) = and-says (s2 l (view l .k) p) (restAt l p) (all-at 16 (λ p. s2 l (view l .k) p && restAt l p) u p b) in
+      (x, rest-says l p y) in
+      record {
+        first = and-says (eqb (length l) 641) (s1 (view l .k) && s3First l) z .1;
+        shapes = all-of 16 (shapeAt l) (λ p b. let (x, h) = at p b in and-true _ _ x (and-true _ _ (and-true _ _ (h .s3) (h .s4)) (h .s5)));
+        apart = w;
+        s6 = all-of 16 (s6 (view l .k)) (λ p b. at p b .1 .s6);
+        partitions = u;
+      }
+
+  -- a part that fails: nothing is left to do, and no order is promised
+  pub not-sound : {o c : List ℕ} → (Parts → ⊥) → Decided l false o c
+  not-sound h = record { says = never (sound l) (λ q. h (parts q)); orders = λ q. absurd (false≢true q) }
+
+  -- the last part decides
+  pub decided : {r : Bool} {o c : List ℕ} → length l ≡ 641 → s1 (view l .k) && s3First l ≡ true → areasApart (view l .k) ≡ true → Orders (view l .k) o c
+      → r ≡ all 16 (λ p. s2 l (view l .k) p && restAt l p) → Decided l r o c
+  unfolding atOnce
+  decided h a d orders e = record {
+    says = e ∙ bool-ext _ _ (λ q. sym (sound-at-once l) ∙ and-true _ _ (and-true _ _ (and-true _ _ (eq-eqb (length l) 641 h) a) q) d) (λ q. parts q .partitions);
+    orders = λ _. orders;
+  }
+
+-- the records that pass have their shape
+pub shaped : {l : List ℕ} → all 16 (shapeAt l) ≡ true → Shaped l
+shaped {l} h = record { at = all-at 16 (shapeAt l) h }

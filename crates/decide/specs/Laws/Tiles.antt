@@ -1,0 +1,448 @@
+-- The walk along a partition's entries and its parent's grants decides S7's cover and S11: where they hold it is nowhere stuck, where it ends they hold.
+use mathlib.Core.Path.{_≡_, refl, ap, sym, subst, _∙_}
+use mathlib.Core.Bool.{Bool, true, false, cond, _&&_, false≢true}
+use mathlib.Core.List.{List}
+use Prim.Native.Nat.{ℕ, _+_, _-_, _≤_, _<_}
+use native.Mathlib.Decide.{ℕ-discrete, decLt}
+use native.Mathlib.Omega.{arith}
+use lib.ListN.{getD}
+use lib.Dec.{eqb}
+use borrow.Author.Tests.{eq-eqb, ne-eqb}
+use Rattle.loops.specs.Every.{all}
+use Rattle.words.specs.declared.Rights.{Rights}
+use Rattle.words.specs.declared.slot_word.SlotFields.{SlotFields}
+use Rattle.tables.specs.State.{Opt, none, some, Entry, Same}
+use Rattle.tables.specs.Laws.State.{some-inj, not-none, same}
+use Rattle.tables.specs.View.{entryOf, entryIn, view}
+use Rattle.tables.specs.Laws.View.{slot-bounds}
+use Rattle.tables.specs.Lines.{In}
+use Rattle.settling.specs.Rising.{lowOf, highOf}
+use Rattle.tables.specs.Search.{present}
+use Rattle.tables.specs.Seen.{Seen}
+use Rattle.sound.specs.Sound.{Around, allRights}
+use Rattle.sound.specs.Clauses.{s7Root, s7Inside, s7Cover, within, s11}
+use Rattle.sound.specs.Laws.Tests.{and-says, and-true}
+use Rattle.sound.specs.Laws.MeansEntries.{present-means, slots32, root-means, inside-means, cover-means}
+use Rattle.sound.specs.Laws.MeansRegions.{within-means, s11-means}
+use Rattle.sound.specs.Laws.MeansWords.{s2-means}
+use Rattle.decide.specs.Entries.{exactly, fullSlot}
+use Rattle.decide.specs.Laws.Entries.{rights-root}
+use Rattle.shape.specs.AtOnce.{Shaped}
+use Rattle.shape.specs.Laws.AtOnce.{shaped-s2, shaped-record}
+use Rattle.decide.specs.Laws.Decide.{never, solid}
+use Rattle.decide.specs.Order.{linesOf, placed, Orders}
+use Rattle.decide.specs.Laws.Order.{held-of, lines-of}
+use Rattle.decide.specs.Tiles.{Piece, Tiling, Fits, Tiled, fitted, stuck, entryOr, rowOf, InOrder, ChildOf}
+
+-- ── two rows: n entries E, and m entries F, some of them given to p ──
+-- each of E has a line; in both, each ends by the start of those after it
+record TwoRows (E : ℕ → Entry) (n : ℕ) (F : ℕ → Entry) (m : ℕ) : Type 0 where
+  pub line : (a : ℕ) → a < n → E a .start < E a .stop
+  pub ends : (a b : ℕ) → a < b → b < n → E a .stop ≤ E b .start
+  pub grants : (a b : ℕ) → a < b → b < m → F a .stop ≤ F b .start
+
+-- each of E lies inside one of F that is given to p, with no right that it lacks; and they cover those
+pub record Exact (E : ℕ → Entry) (n : ℕ) (F : ℕ → Entry) (m p : ℕ) : Type 0 where
+  pub inside : (a : ℕ) → a < n → (b : ℕ) × (b < m) × (F b .given ≡ p) × Around (E a) (F b)
+  pub cover : (b : ℕ) → b < m → F b .given ≡ p → (l : ℕ) → In l (F b) → (a : ℕ) × (a < n) × In l (E a)
+  pub rights : (a b : ℕ) → a < n → b < m → F b .given ≡ p → Around (E a) (F b) → within (E a .rights) (F b .rights) ≡ true
+
+-- ── one range lo to hi with rights r ──
+-- two results are equal, in a row where each has a line and ends by the start of those after it
+module _ {E : ℕ → Entry} {n i lo hi : ℕ} {r : Rights} (line : (a : ℕ) → a < n → E a .start < E a .stop) (ends : (a b : ℕ) → a < b → b < n → E a .stop ≤ E b .start) where
+  -- one place more would be in the range, which those before it cover
+  no-further : {x y at at′ : ℕ} → y ≤ n → hi ≤ at → Tiling E i x lo hi at r → Tiling E i y lo hi at′ r → x < y → ⊥
+  no-further {x} few far t u h =
+      let e = u .piece x (t .up) h in
+      let (a, _, b, v) = t .cover (E x .start) (e .from) (omega (arith, line x (omega arith), e .to)) in
+      omega (arith, v .to, ends a x b (omega arith))
+
+  -- where they tile the range, the walk is not stuck
+  no-stop : {x k at at′ : ℕ} → x ≤ n → hi ≤ at → Tiling E i x lo hi at r → at′ < hi → Tiling E i k lo hi at′ r → Fits E n k hi at′ r
+  no-stop {x} {k} {at} {at′} few far t c u =
+      let (a, from, b, v) = t .cover at′ (u .on) (omega arith) in
+      go a b v (reached a from v (decLt a k))
+    where
+      reached : (a : ℕ) → i ≤ a → In at′ (E a) → Dec (a < k) → k ≤ a
+      reached a from v (yes h) = absurd (omega (arith, v .to, u .piece a from h .before))
+      reached a from v (no h) = omega arith
+
+      starts : (a : ℕ) → k ≤ a → a < n → In at′ (E a) → Dec (k ≡ a) → E k .start ≤ at′
+      starts a h b v (yes z) = rw z (v .from)
+      starts a h b v (no z) = omega (arith, v .from, line k (omega arith), ends k a (omega arith) b)
+
+      at-least : k < n → lo ≤ E k .start → Dec (E k .start < at′) → at′ ≤ E k .start
+      at-least b from (yes h) = let (a, _, d, v) = u .cover (E k .start) from h in absurd (omega (arith, v .to, ends a k d b))
+      at-least b from (no h) = omega arith
+
+      go : (a : ℕ) → a < x → In at′ (E a) → k ≤ a → Fits E n k hi at′ r
+      go a b v h =
+          let e = t .piece k (u .up) (omega arith) in
+          let low = starts a h (omega arith) v (ℕ-discrete k a) in
+          let high = at-least (omega arith) (e .from) (decLt (E k .start) at′) in
+          record { there = omega arith; start = omega arith; to = e .to; rights = e .rights }
+
+  row-one : {x y : ℕ} → Tiled E n i lo hi r x → Tiled E n i lo hi r y → x ≡ y
+  row-one (fitted at few far t) (fitted at′ few′ far′ u) = omega (arith, no-further few′ far t u, no-further few far′ u t)
+  row-one (fitted at few far t) (stuck k at′ _ z c u no-fit) = absurd (no-fit (no-stop few far t c u))
+  row-one (stuck k at _ z c t no-fit) (fitted at′ few′ far′ u) = absurd (no-fit (no-stop few′ far′ u c t))
+  row-one (stuck k at _ z c t no-fit) (stuck k′ at′ _ z′ c′ u no-fit′) = z ∙ sym z′
+
+-- ── laws of the walk along one range ──
+module _ {E : ℕ → Entry} {i lo hi : ℕ} {r : Rights} where
+  pub tile-start : Tiling E i i lo hi lo r
+  tile-start = record {
+    up = omega arith;
+    on = omega arith;
+    piece = λ a b c. absurd (omega arith);
+    cover = λ l b c. absurd (omega arith);
+  }
+
+  tile-on : {n k at : ℕ} → Tiling E i k lo hi at r → E k .start < E k .stop → Fits E n k hi at r → Tiling E i (k + 1) lo hi (E k .stop) r
+  tile-on {n} {k} {at} inv line f = record {
+    up = omega (arith, inv .up);
+    on = omega (arith, inv .on, f .start);
+    piece = λ a b c. piece a b c (ℕ-discrete a k);
+    cover = λ l b c. cover l b c (decLt l at);
+  }
+    where
+      piece : (a : ℕ) → i ≤ a → a < k + 1 → Dec (a ≡ k) → Piece (E a) lo hi (E k .stop) r
+      piece a b c (yes z) = rw z (record { from = omega (arith, inv .on, f .start); to = f .to; before = omega arith; rights = f .rights })
+      piece a b c (no z) = let e = inv .piece a b (omega arith) in record { from = e .from; to = e .to; before = omega (arith, e .before, f .start); rights = e .rights }
+
+      cover : (l : ℕ) → lo ≤ l → l < E k .stop → Dec (l < at) → (a : ℕ) × (i ≤ a) × (a < k + 1) × In l (E a)
+      cover l b c (yes d) = let (a, g, h, u) = inv .cover l b d in (a, g, omega arith, u)
+      cover l b c (no d) = (k, inv .up, omega arith, record { from = omega (arith, f .start); to = c })
+
+  pub tile-end : {n k at : ℕ} → Tiling E i k lo hi at r → k ≤ n → hi ≤ at → Tiled E n i lo hi r k
+  tile-end {at = at} inv few c = fitted at few c inv
+
+-- ── laws of the walk along the grants ──
+module _ {E F : ℕ → Entry} {p : ℕ} where
+  exact-start : Exact E 0 F 0 p
+  exact-start = record {
+    inside = λ a b. absurd (omega arith);
+    cover = λ a b. absurd (omega arith);
+    rights = λ a b c. absurd (omega arith);
+  }
+
+  -- the next is not given to p
+  exact-skip : {i j : ℕ} → Exact E i F j p → (F j .given ≡ p → ⊥) → Exact E i F (j + 1) p
+  exact-skip {i} {j} inv no-grant = record {
+    inside = λ a b. let (c, h, g, u) = inv .inside a b in (c, omega arith, g, u);
+    cover = λ b h g. inv .cover b (below b h g) g;
+    rights = λ a b c h g. inv .rights a b c (below b h g) g;
+  }
+    where
+      below : (b : ℕ) → b < j + 1 → F b .given ≡ p → b < j
+      below b h g = go (ℕ-discrete b j)
+        where
+          go : Dec (b ≡ j) → b < j
+          go (yes z) = absurd (no-grant (subst (λ (b : ℕ). F b .given ≡ p) z g))
+          go (no z) = omega arith
+
+  module _ {n m : ℕ} (w : TwoRows E n F m) {i j : ℕ} (inv : Exact E i F j p) (few : i ≤ n) where
+    -- an entry that comes later lies in none of these grants: its start is held by an earlier one
+    later : (k b : ℕ) → i ≤ k → k < n → b < j → F b .given ≡ p → Around (E k) (F b) → ⊥
+    later k b c d h g u =
+        let (a, e, v) = inv .cover b h g (E k .start) (record { from = u .from; to = omega (arith, u .to, w .line k d) }) in
+        omega (arith, v .to, w .ends a k (omega arith) d)
+
+    -- not all of them lie inside
+    exact-short : m ≤ j → i < n → Exact E n F m p → ⊥
+    exact-short c d ex =
+        let (b, h, g, u) = ex .inside i d in
+        later i b (omega arith) d (omega arith) g u
+
+    module _ (next : j < m) (given : F j .given ≡ p) {x : ℕ} where
+      exact-on : x ≤ n → Tiled E n i (F j .start) (F j .stop) (F j .rights) x → Exact E x F (j + 1) p
+      exact-on few′ (stuck k at b z c t no-fit) = absurd (omega arith)
+      exact-on few′ (fitted at _ c t) = record {
+        inside = λ a b. inside a b (decLt a i);
+        cover = λ b h. cover b h (ℕ-discrete b j);
+        rights = λ a b c h. rights a b c h (decLt a i) (ℕ-discrete b j);
+      }
+        where
+          inside : (a : ℕ) → a < x → Dec (a < i) → (b : ℕ) × (b < j + 1) × (F b .given ≡ p) × Around (E a) (F b)
+          inside a b (yes d) = let (c, h, g, u) = inv .inside a d in (c, omega arith, g, u)
+          inside a b (no d) = let e = t .piece a (omega arith) b in (j, omega arith, given, record { from = e .from; to = e .to })
+
+          cover : (b : ℕ) → b < j + 1 → Dec (b ≡ j) → F b .given ≡ p → (l : ℕ) → In l (F b) → (a : ℕ) × (a < x) × In l (E a)
+          cover b h (yes z) g l u =
+              let v : In l (F j) = subst (λ (b : ℕ). In l (F b)) z u in
+              let (a, _, d, w) = t .cover l (v .from) (omega (arith, v .to)) in
+              (a, d, w)
+          cover b h (no z) g l u = let (a, d, v) = inv .cover b (omega arith) g l u in (a, omega (arith, t .up), v)
+
+          rights : (a b : ℕ) → a < x → b < j + 1 → Dec (a < i) → Dec (b ≡ j) → F b .given ≡ p → Around (E a) (F b) → within (E a .rights) (F b .rights) ≡ true
+          rights a b c h (yes d) (yes z) g u =
+              let (b′, h′, _, u′) = inv .inside a d in
+              let v : Around (E a) (F j) = subst (λ (b : ℕ). Around (E a) (F b)) z u in
+              absurd (omega (arith, w .line a (omega arith), w .grants b′ j h′ next, u′ .to, v .from))
+          rights a b c h (yes d) (no z) g u = inv .rights a b d (omega arith) g u
+          rights a b c h (no d) (yes z) g u = rw z (t .piece a (omega arith) c .rights)
+          rights a b c h (no d) (no z) g u = absurd (later a b (omega arith) (omega arith) (omega arith) g u)
+
+      -- they do not tile it
+      exact-stuck : n < x → Tiled E n i (F j .start) (F j .stop) (F j .rights) x → Exact E n F m p → ⊥
+      exact-stuck far (fitted at few′ c t) ex = omega arith
+      exact-stuck far (stuck k at _ _ c t no-fit) ex =
+          let (a, d, u) = ex .cover j next given at (record { from = t .on; to = c }) in
+          let e : k ≤ a = reached a d u (decLt a k) in
+          let s : E k .start ≤ at = omega (arith, u .from, starts a e d (ℕ-discrete k a)) in
+          let (b, h, g, v) = ex .inside k (omega arith) in
+          here (omega arith) s ex b h g v (decLt b j) (decLt j b)
+        where
+          -- those before k end by line at
+          ended : (a : ℕ) → a < k → Dec (a < i) → E a .stop ≤ at
+          ended a b (yes d) = let (b′, h, _, u) = inv .inside a d in omega (arith, u .to, w .grants b′ j h next, t .on)
+          ended a b (no d) = t .piece a (omega arith) b .before
+
+          reached : (a : ℕ) → a < n → In at (E a) → Dec (a < k) → k ≤ a
+          reached a d u (yes h) = absurd (omega (arith, u .to, ended a h (decLt a i)))
+          reached a d u (no h) = omega arith
+
+          starts : (a : ℕ) → k ≤ a → a < n → Dec (k ≡ a) → E k .start ≤ E a .start
+          starts a e d (yes z) = rw z (omega arith)
+          starts a e d (no z) = omega (arith, w .line k (omega arith), w .ends k a (omega arith) d)
+
+          exactly-at : k < n → E k .start ≤ at → Around (E k) (F j) → Dec (E k .start < at) → E k .start ≡ at
+          exactly-at d s v (yes h) =
+              let (a, _, e, u) = t .cover (E k .start) (v .from) h in
+              absurd (omega (arith, u .to, w .ends a k e d))
+          exactly-at d s v (no h) = omega arith
+
+          here : k < n → E k .start ≤ at → Exact E n F m p → (b : ℕ) → b < m → F b .given ≡ p → Around (E k) (F b) → Dec (b < j) → Dec (j < b) → ⊥
+          here d s ex b h g v (yes y) _ = later k b (t .up) d y g v
+          here d s ex b h g v (no y) (yes z) = omega (arith, v .from, w .grants j b z h)
+          here d s ex b h g v (no y) (no z) =
+              let e : b ≡ j = omega arith in
+              let u : Around (E k) (F j) = subst (λ (b : ℕ). Around (E k) (F b)) e v in
+              no-fit (record { there = d; start = exactly-at d s u (decLt (E k .start) at); to = u .to; rights = ex .rights k j d next given u })
+
+-- ── the entries of a partition by place ──
+-- the first i entries of p lie inside those of the first j of q that are given to p, and cover them
+pub record Walked (l o : List ℕ) (p q n m i j : ℕ) : Type 0 where
+  pub few : i ≤ n
+  pub far : j ≤ m
+  pub exact : Exact (rowOf l o p) i (rowOf l o q) j p
+
+module _ {l o : List ℕ} {p n : ℕ} (h : InOrder l o p n) where
+  -- what stands at place a
+  row-at : (a : ℕ) → a < n → view l .k .slot p (placed o p a) ≡ some (rowOf l o p a)
+  unfolding entryOr
+  row-at a b =
+      let (x, u) = h .rows .ordered .full a b in
+      let (e, v, _, _) = held-of (view l .k) p (placed o p a) x u in
+      rw v refl
+
+  -- .. and what was read there
+  row-seen : {a : ℕ} {f : SlotFields} → a < n → Seen l p (placed o p a) f → Same (rowOf l o p a) (entryOf f)
+  unfolding entryIn
+  row-seen {a} {f} b v = go (f .present) (sym (row-at a b) ∙ v .slot)
+    where
+      go : (x : Bool) → some (rowOf l o p a) ≡ cond x (some (entryOf f)) none → Same (rowOf l o p a) (entryOf f)
+      go true u = same (some-inj u)
+      go false u = not-none none refl (sym u)
+
+  -- each entry of p stands somewhere
+  row-every : (j : ℕ) (e : Entry) → view l .k .slot p j ≡ some e → (a : ℕ) × (a < n) × (rowOf l o p a ≡ e)
+  unfolding entryOr
+  row-every j e u =
+      let (a, b, z) = h .rows .ordered .every j _ (slot-bounds l p j e u .1) (lines-of (view l .k) p j e u) in
+      (a, b, ap (λ (j : ℕ). entryOr (view l .k .slot p j)) z ∙ ap entryOr u)
+
+  row-line : (a : ℕ) → a < n → rowOf l o p a .start < rowOf l o p a .stop
+  row-line a b = h .lines (placed o p a) _ (row-at a b)
+
+  row-ends : (a b : ℕ) → a < b → b < n → rowOf l o p a .stop ≤ rowOf l o p b .start
+  unfolding linesOf lowOf highOf
+  row-ends a b c d =
+      let x = ap (λ (e : Opt Entry). highOf (linesOf e)) (row-at a (omega arith)) in
+      let y = ap (λ (e : Opt Entry). lowOf (linesOf e)) (row-at b d) in
+      omega (arith, x, y, h .rows .apart .ends a b c d)
+
+-- ── the walk along one range, as the code reads the entries ──
+pub tiled-one : {l o : List ℕ} {p n i lo hi : ℕ} {r : Rights} {x y : ℕ} → InOrder l o p n → Tiled (rowOf l o p) n i lo hi r x → Tiled (rowOf l o p) n i lo hi r y → x ≡ y
+tiled-one h = row-one (row-line h) (row-ends h)
+
+module _ {l o : List ℕ} {p n i k lo hi at : ℕ} {r : Rights} (h : InOrder l o p n) (inv : Tiling (rowOf l o p) i k lo hi at r) where
+  no-place : at < hi → (Fits (rowOf l o p) n k hi at r → ⊥) → Tiled (rowOf l o p) n i lo hi r 33
+  no-place c no-fit = stuck k at (omega (arith, h .rows .ordered .few)) refl c inv no-fit
+
+  pub tile-none : at < hi → n ≤ k → Tiled (rowOf l o p) n i lo hi r 33
+  tile-none c b = no-place c (λ u. omega (arith, u .there))
+
+  module _ {f : SlotFields} (c : at < hi) (b : k < n) (v : Seen l p (placed o p k) f) where
+    pub tile-elsewhere : (f .start .0 ≡ at → ⊥) → Tiled (rowOf l o p) n i lo hi r 33
+    tile-elsewhere no-start = no-place c (λ u. no-start (sym (row-seen h b v .start) ∙ u .start))
+
+    pub tile-over : hi < f .end .0 → Tiled (rowOf l o p) n i lo hi r 33
+    tile-over d = no-place c (λ u. omega (arith, u .to, row-seen h b v .stop))
+
+    pub tile-beyond : within (f .rights) r ≡ false → Tiled (rowOf l o p) n i lo hi r 33
+    tile-beyond q = no-place c (λ u. false≢true (sym q ∙ rw (row-seen h b v .rights) at (u .rights)))
+
+    pub tile-next : f .start .0 ≡ at → f .end .0 ≤ hi → within (f .rights) r ≡ true → Tiling (rowOf l o p) i (k + 1) lo hi (f .end .0) r
+    tile-next start to rights =
+        let s = row-seen h b v in
+        rw (← s .stop) (tile-on inv (row-line h k b) (record { there = b; start = s .start ∙ start; to = omega (arith, s .stop); rights = rw (s .rights) rights }))
+
+-- ── a child's entries and its parent's ──
+module _ {l o : List ℕ} {p q n m : ℕ} (h : ChildOf l o p q n m) where
+  -- a slot of the parent, and one of q
+  to-q : (j : ℕ) (f : Entry) → view l .k .slot (view l .k .parent p) j ≡ some f → view l .k .slot q j ≡ some f
+  to-q j f u = subst (λ (q : ℕ). view l .k .slot q j ≡ some f) (h .up) u
+
+  of-q : (j : ℕ) (f : Entry) → view l .k .slot q j ≡ some f → view l .k .slot (view l .k .parent p) j ≡ some f
+  of-q j f u = subst (λ (q : ℕ). view l .k .slot q j ≡ some f) (sym (h .up)) u
+
+  child-exact : exactly (view l .k) p && s11 (view l .k) p ≡ true → Exact (rowOf l o p) n (rowOf l o q) m p
+  unfolding exactly
+  child-exact w =
+      let (x, s) = and-says (exactly (view l .k) p) (s11 (view l .k) p) w in
+      let y : s7Inside (view l .k) p && s7Cover (view l .k) p ≡ true = rw (ne-eqb p 0 (h .other)) at x in
+      let (lies, covers) = and-says (s7Inside (view l .k) p) (s7Cover (view l .k) p) y in
+      record {
+        inside = λ a b.
+            let (j, f, g) = inside-means (view l .k) (slots32 l) p .0 lies _ _ (row-at (h .own) a b) in
+            let (c, d, z) = row-every (h .above) j f (to-q j f (g .at)) in
+            (c, d, subst (λ (f : Entry). f .given ≡ p) (sym z) (g .given), subst (Around (rowOf l o p a)) (sym z) (g .around));
+        cover = λ b c g i v.
+            let t = cover-means (view l .k) (slots32 l) p .0 covers _ _ (of-q _ _ (row-at (h .above) b c)) g i v in
+            let (a, d, z) = row-every (h .own) (t .i) (t .e) (t .at) in
+            (a, d, subst (In i) (sym z) (t .holds));
+        rights = λ a b c d g v.
+            within-means (rowOf l o p a .rights) (rowOf l o q b .rights) .1
+            (s11-means l p (h .own .inP) .0 s .child (h .other) _ _ _ _ (row-at (h .own) a c) (record { at = of-q _ _ (row-at (h .above) b d); given = g; around = v }));
+      }
+
+  exact-child : Exact (rowOf l o p) n (rowOf l o q) m p → exactly (view l .k) p && s11 (view l .k) p ≡ true
+  unfolding exactly
+  exact-child ex =
+      and-true (exactly (view l .k) p) _
+      (rw (ne-eqb p 0 (h .other))
+      (and-true _ _
+      (inside-means (view l .k) (slots32 l) p .1 (λ i e u.
+      let (a, c, z) = row-every (h .own) i e u in
+      let (b, d, g, v) = ex .inside a c in
+      (placed o q b, rowOf l o q b, record { at = of-q _ _ (row-at (h .above) b d); given = g; around = subst (λ (e : Entry). Around e (rowOf l o q b)) z v })))
+      (cover-means (view l .k) (slots32 l) p .1 (λ j f u g i v.
+      let (b, d, z) = row-every (h .above) j f (to-q j f u) in
+      let (a, c, t) = ex .cover b d (subst (λ (f : Entry). f .given ≡ p) (sym z) g) i (subst (In i) (sym z) v) in
+      record { i = placed o p a; e = rowOf l o p a; at = row-at (h .own) a c; holds = t }))))
+      (s11-means l p (h .own .inP) .1 (record {
+        root = λ z. absurd (h .other z);
+        child = λ _ i j e f u g.
+            let (a, c, z) = row-every (h .own) i e u in
+            let (b, d, y) = row-every (h .above) j f (to-q j f (g .at)) in
+            let v : Around (rowOf l o p a) (rowOf l o q b) = subst (λ (e : Entry). Around e (rowOf l o q b)) (sym z) (subst (Around e) (sym y) (g .around)) in
+            rw (← z, ← y) (within-means (rowOf l o p a .rights) (rowOf l o q b .rights) .0 (ex .rights a b c d (subst (λ (f : Entry). f .given ≡ p) (sym y) (g .given)) v));
+      }))
+
+  two-rows : TwoRows (rowOf l o p) n (rowOf l o q) m
+  two-rows = record { line = row-line (h .own); ends = row-ends (h .own); grants = row-ends (h .above) }
+
+  -- ── its walk, as the code reads the entries ──
+  pub walk-start : Walked l o p q n m 0 0
+  walk-start = record { few = omega arith; far = omega arith; exact = exact-start }
+
+  module _ {i j : ℕ} (inv : Walked l o p q n m i j) where
+    pub walk-end : m ≤ j → eqb i n ≡ exactly (view l .k) p && s11 (view l .k) p
+    walk-end c = go (ℕ-discrete i n)
+      where
+        go : Dec (i ≡ n) → eqb i n ≡ exactly (view l .k) p && s11 (view l .k) p
+        go (yes e) = let z : m ≡ j = omega (arith, inv .far) in eq-eqb i n e ∙ sym (exact-child (rw (← e, z) (inv .exact)))
+        go (no e) = ne-eqb i n e ∙ never _ (λ w. exact-short two-rows (inv .exact) (inv .few) c (omega (arith, inv .few)) (child-exact w))
+
+    module _ {f : SlotFields} (next : j < m) (v : Seen l q (placed o q j) f) where
+      read : Same (rowOf l o q j) (entryOf f)
+      read = row-seen (h .above) next v
+
+      pub walk-skip : (f .given .0 ≡ p → ⊥) → Walked l o p q n m i (j + 1)
+      walk-skip no-grant = record { few = inv .few; far = omega arith; exact = exact-skip (inv .exact) (λ g. no-grant (sym (read .given) ∙ g)) }
+
+      module _ {x : ℕ} (given : f .given .0 ≡ p) (t : Tiled (rowOf l o p) n i (f .start .0) (f .end .0) (f .rights) x) where
+        tiled : Tiled (rowOf l o p) n i (rowOf l o q j .start) (rowOf l o q j .stop) (rowOf l o q j .rights) x
+        tiled = rw (read .start, read .stop, read .rights) t
+
+        pub walk-on : x ≤ n → Walked l o p q n m x (j + 1)
+        walk-on few = record { few = few; far = omega arith; exact = exact-on two-rows (inv .exact) (inv .few) next (read .given ∙ given) few tiled }
+
+        pub walk-stuck : n < x → false ≡ exactly (view l .k) p && s11 (view l .k) p
+        walk-stuck beyond = never _ (λ w. exact-stuck two-rows (inv .exact) (inv .few) next (read .given ∙ given) beyond tiled (child-exact w))
+
+-- ── the root's entries, and base to end as one that it was given ──
+abbrev whole : List ℕ → ℕ → ℕ → Entry
+whole l p b = record { start = view l .k .base; stop = view l .k .stop; given = p; rights = allRights }
+
+module _ {l o : List ℕ} {p n : ℕ} (h : InOrder l o p n) (root : p ≡ 0) where
+  root-exact : exactly (view l .k) p ≡ true → Exact (rowOf l o p) n (whole l p) 1 p
+  unfolding exactly
+  root-exact w =
+      let x : s7Root (view l .k) p ≡ true = rw (eq-eqb p 0 root) at w in
+      let q = root-means (view l .k) (slots32 l) p (h .lines) .0 x in
+      record {
+        inside = λ a b.
+            let c = row-line h a b in
+            let y = q (rowOf l o p a .start) .0 (record { i = _; e = _; at = row-at h a b; holds = record { from = omega arith; to = omega arith } }) in
+            let z = q (rowOf l o p a .stop - 1) .0 (record { i = _; e = _; at = row-at h a b; holds = record { from = omega arith; to = omega arith } }) in
+            (0, omega arith, refl, record { from = y .0; to = omega (arith, z .1) });
+        cover = λ b c g i v.
+            let t = q i .1 (v .from, v .to) in
+            let (a, d, z) = row-every h (t .i) (t .e) (t .at) in
+            (a, d, subst (In i) (sym z) (t .holds));
+        rights = λ a b c d g v. within-means (rowOf l o p a .rights) allRights .1 (record { read = λ _. refl; write = λ _. refl; execute = λ _. refl });
+      }
+
+  exact-root : Exact (rowOf l o p) n (whole l p) 1 p → exactly (view l .k) p ≡ true
+  unfolding exactly
+  exact-root ex =
+      rw (eq-eqb p 0 root)
+      (root-means (view l .k) (slots32 l) p (h .lines) .1 (λ i. (
+        λ t.
+            let (a, c, z) = row-every h (t .i) (t .e) (t .at) in
+            let (b, d, g, v) = ex .inside a c in
+            let x : In i (rowOf l o p a) = subst (In i) (sym z) (t .holds) in
+            (omega (arith, v .from, x .from), omega (arith, v .to, x .to)),
+        λ t.
+            let (a, c, v) = ex .cover 0 (omega arith) refl i (record { from = t .0; to = t .1 }) in
+            record { i = placed o p a; e = rowOf l o p a; at = row-at h a c; holds = v },
+      )))
+
+  one-row : TwoRows (rowOf l o p) n (whole l p) 1
+  one-row = record { line = row-line h; ends = row-ends h; grants = λ a b c d. absurd (omega arith) }
+
+  -- ── the exits of its test ──
+  pub root-lacks : all 32 (fullSlot (view l .k) p) ≡ false → false ≡ exactly (view l .k) p && s11 (view l .k) p
+  root-lacks w = never _ (λ q. false≢true (sym w ∙ sym (rights-root (view l .k) p root) ∙ and-says (exactly (view l .k) p) (s11 (view l .k) p) q .1))
+
+  pub root-end : {x : ℕ} → all 32 (fullSlot (view l .k) p) ≡ true → Tiled (rowOf l o p) n 0 (view l .k .base) (view l .k .stop) allRights x
+      → eqb x n ≡ exactly (view l .k) p && s11 (view l .k) p
+  root-end {x} w t = go (ℕ-discrete x n) (decLt n x)
+    where
+      start : Exact (rowOf l o p) 0 (whole l p) 0 p
+      start = exact-start
+
+      on : x ≤ n → Exact (rowOf l o p) x (whole l p) 1 p
+      on few = exact-on one-row start (omega arith) (omega arith) refl few t
+
+      says : exactly (view l .k) p && s11 (view l .k) p ≡ true → Exact (rowOf l o p) n (whole l p) 1 p
+      says q = root-exact (and-says (exactly (view l .k) p) (s11 (view l .k) p) q .0)
+
+      go : Dec (x ≡ n) → Dec (n < x) → eqb x n ≡ exactly (view l .k) p && s11 (view l .k) p
+      go (yes e) _ = eq-eqb x n e ∙ sym (and-true _ _ (exact-root (subst (λ (x : ℕ). Exact (rowOf l o p) x (whole l p) 1 p) e (on (omega arith)))) (rights-root (view l .k) p root ∙ w))
+      go (no e) (yes c) = ne-eqb x n e ∙ never _ (λ q. exact-stuck one-row start (omega arith) (omega arith) refl c t (says q))
+      go (no e) (no c) = ne-eqb x n e ∙ never _ (λ q. exact-short one-row (on (omega arith)) (omega arith) (omega arith) (omega arith) (says q))
+
+-- ── what the walks need, from what is known of the table ──
+module _ {l o c : List ℕ} (shaped : Shaped l) (orders : Orders (view l .k) o c) where
+  pub in-order : {p : ℕ} → p < 16 → present (view l .k) p ≡ true → InOrder l o p (getD c p 0)
+  in-order {p} b there = record { inP = b; lines = solid l p b (shaped-record shaped p b); rows = orders .rows p b there }
+
+  -- the parent of a partition that is present is so too, as S2 says
+  pub child-of : {p q : ℕ} → p < 16 → present (view l .k) p ≡ true → (p ≡ 0 → ⊥) → q < 16 → view l .k .parent p ≡ q → ChildOf l o p q (getD c p 0) (getD c q 0)
+  child-of {p} {q} b there other d up =
+      let s = s2-means l p b .0 (shaped-s2 shaped p b) in
+      let t : present (view l .k) q ≡ true = rw (← up) (present-means (view l .k) (view l .k .parent p) .1 (s .parent other (present-means (view l .k) p .0 there))) in
+      record { other = other; up = up; own = in-order b there; above = in-order d t }

@@ -1,0 +1,61 @@
+-- S7 and S11 by one walk: the entries of a partition by rising start, along those that its parent gave it.
+use mathlib.Core.Path.{_≡_}
+use mathlib.Core.Bool.{true}
+use mathlib.Core.List.{List}
+use Prim.Native.Nat.{ℕ, _≤_, _<_}
+use Rattle.words.specs.declared.Rights.{Rights}
+use Rattle.tables.specs.State.{Opt, none, some, Entry}
+use Rattle.tables.specs.View.{view}
+use Rattle.tables.specs.Lines.{In}
+use Rattle.sound.specs.Sound.{allRights}
+use Rattle.sound.specs.Clauses.{within}
+use Rattle.decide.specs.Entries.{Solid}
+use Rattle.decide.specs.Order.{placed, Rows}
+
+-- ── one range lo to hi with rights r ──
+-- e lies inside it, ends by line at, and has no right beyond r
+pub record Piece (e : Entry) (lo hi at : ℕ) (r : Rights) : Type 0 where
+  pub from : lo ≤ e .start
+  pub to : e .stop ≤ hi
+  pub before : e .stop ≤ at
+  pub rights : within (e .rights) r ≡ true
+
+-- so do E i to E (k - 1), and they cover it up to line at
+pub record Tiling (E : ℕ → Entry) (i k lo hi at : ℕ) (r : Rights) : Type 0 where
+  pub up : i ≤ k
+  pub on : lo ≤ at
+  pub piece : (a : ℕ) → i ≤ a → a < k → Piece (E a) lo hi at r
+  pub cover : (l : ℕ) → lo ≤ l → l < at → (a : ℕ) × (i ≤ a) × (a < k) × In l (E a)
+
+-- E k goes on from there
+pub record Fits (E : ℕ → Entry) (n k hi at : ℕ) (r : Rights) : Type 0 where
+  pub there : k < n
+  pub start : E k .start ≡ at
+  pub to : E k .stop ≤ hi
+  pub rights : within (E k .rights) r ≡ true
+
+-- x is the place after those that tile it; where they do not, 33, which is beyond all places
+pub data Tiled (E : ℕ → Entry) (n i lo hi : ℕ) (r : Rights) (x : ℕ) : Type 0 where
+  fitted : (at : ℕ) → x ≤ n → hi ≤ at → Tiling E i x lo hi at r → Tiled E n i lo hi r x
+  stuck : (k at : ℕ) → n < 33 → x ≡ 33 → at < hi → Tiling E i k lo hi at r → (Fits E n k hi at r → ⊥) → Tiled E n i lo hi r x
+
+-- ── the entries of a partition by place ──
+unfoldable pub entryOr : Opt Entry → Entry
+entryOr none = record { start = 0; stop = 0; given = 0; rights = allRights }
+entryOr (some e) = e
+
+abbrev pub rowOf : List ℕ → List ℕ → ℕ → ℕ → Entry
+rowOf l o p a = entryOr (view l .k .slot p (placed o p a))
+
+-- the n entries of p, where each has a line, stand in o
+pub record InOrder (l o : List ℕ) (p n : ℕ) : Type 0 where
+  pub inP : p < 16
+  pub lines : Solid (view l .k) p
+  pub rows : Rows (view l .k) p n o
+
+-- .. of p, which is not the root, and of its parent q
+pub record ChildOf (l o : List ℕ) (p q n m : ℕ) : Type 0 where
+  pub other : p ≡ 0 → ⊥
+  pub up : view l .k .parent p ≡ q
+  pub own : InOrder l o p n
+  pub above : InOrder l o q m

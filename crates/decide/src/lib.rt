@@ -1,0 +1,155 @@
+ghost use mathlib.Core.Path.{_≡_};
+ghost use mathlib.Core.Bool.{true, _&&_};
+ghost use Prim.Native.Nat.{_<_};
+ghost use lib.ListN.{length};
+ghost use Rattle.loops.specs.Every.{all};
+ghost use Rattle.tables.specs.View.{view};
+ghost use Rattle.tables.specs.Top.{Top};
+ghost use Rattle.tables.specs.Search.{present};
+ghost use Rattle.sound.specs.Clauses.{s2, sound};
+ghost use Rattle.shape.specs.AtOnce.{restAt, shapeAt};
+ghost use Rattle.decide.specs.Decide.{CanDecide, Decided};
+
+// Whether a table is sound, decided along its entries and areas in order.
+pub mod arrange;
+pub mod backing;
+pub mod entries;
+pub mod opening;
+pub mod order;
+pub mod tiles;
+pub mod used;
+
+use words::Partition;
+
+// S2 to S5 at p: an absent partition costs only the test that it is zero
+fn shape_sound(t: &[u64; 641], p: Partition) -> bool
+    requires { ⌜ p .0 < 16 ⌝ }
+    ensures { λ r. ⌜ r ≡ shapeAt (now (t .entry)) (p .0) ⌝ }
+{
+    if !shape::records::family_sound(t, p) {
+        return false;
+    }
+    if !tables::search::is_present(t, p) {
+        return true;
+    }
+    shape::records::record_sound(t, p)
+}
+
+// .. at all of them: most tables that are not sound fail here, before the dear clauses
+fn shapes_sound(t: &[u64; 641], top: u32) -> bool
+    requires { ⌜ Top (now t) top × (0 < top) ⌝ }
+    ensures { λ r. ⌜ r ≡ all 16 (shapeAt (now (t .entry))) ⌝ }
+{
+    let mut p = 0u32;
+    while p < top {
+        if !shape_sound(t, Partition(p)) {
+            return false;
+        }
+        p += 1;
+    }
+    true
+}
+
+// The clauses from S7 on at a present partition, but for areas that share a line.
+fn present_sound(
+    t: &[u64; 641],
+    p: Partition,
+    order: &[u8; 512],
+    counts: &[u32; 16],
+    n: usize,
+    s: &[u32; 80],
+    e: &[u32; 80],
+) -> bool
+    requires { ⌜ (p .0 < 16) × (present (view (now t) .k) (p .0) ≡ true) × CanDecide (now t) (now order) (now counts) n (now s) (now e) ⌝ }
+    ensures { λ r. ⌜ r ≡ restAt (now (t .entry)) (p .0) ⌝ }
+{
+    if !entries::given_each(t, p) {
+        return false;
+    }
+    if !tiles::covers(t, p, order, counts) {
+        return false;
+    }
+    if !backing::areas_backed(t, p) {
+        return false;
+    }
+    let c = counts[p.0 as usize];
+    if !opening::opens_right(t, p, order, c, n, s, e) {
+        return false;
+    }
+    opening::regions_right(t, p)
+}
+
+// where p is present
+fn partition_sound(
+    t: &[u64; 641],
+    p: Partition,
+    order: &[u8; 512],
+    counts: &[u32; 16],
+    n: usize,
+    s: &[u32; 80],
+    e: &[u32; 80],
+) -> bool
+    requires { ⌜ (p .0 < 16) × CanDecide (now t) (now order) (now counts) n (now s) (now e) ⌝ }
+    ensures { λ r. ⌜ r ≡ s2 (now (t .entry)) (view (now (t .entry)) .k) (p .0) && restAt (now (t .entry)) (p .0) ⌝ }
+{
+    if !tables::search::is_present(t, p) {
+        return true;
+    }
+    present_sound(t, p, order, counts, n, s, e)
+}
+
+fn partitions_sound(
+    t: &[u64; 641],
+    top: u32,
+    order: &[u8; 512],
+    counts: &[u32; 16],
+    n: usize,
+    s: &[u32; 80],
+    e: &[u32; 80],
+) -> bool
+    requires { ⌜ Top (now t) top × CanDecide (now t) (now order) (now counts) n (now s) (now e) ⌝ }
+    ensures { λ r. ⌜ r ≡ all 16 (λ p. s2 (now (t .entry)) (view (now (t .entry)) .k) p && restAt (now (t .entry)) p) ⌝ }
+{
+    let mut p = 0u32;
+    while p < top {
+        if !partition_sound(t, Partition(p), order, counts, n, s, e) {
+            return false;
+        }
+        p += 1;
+    }
+    true
+}
+
+// Exactly the sound tables pass. Of such a table the entries are left in order, for who lists its runs.
+pub fn is_ordered(t: &[u64; 641], top: u32, order: &mut [u8; 512], counts: &mut [u32; 16]) -> bool
+    requires { ⌜ Top (now t) top × (length (now order) ≡ 512) × (length (now counts) ≡ 16) ⌝ }
+    ensures { λ r. ⌜ Decided (now (t .entry)) r (now (order .exit)) (now (counts .exit)) ⌝ }
+{
+    tables::sized(t);
+    if !shape::records::first_sound(t) {
+        return false;
+    }
+    if !shapes_sound(t, top) {
+        return false;
+    }
+    let mut s = [0u32; 80];
+    let mut e = [0u32; 80];
+    let n = settling::areas::gather_areas(t, top, &mut s, &mut e);
+    if !backing::areas_apart(n, &s, &e) {
+        return false;
+    }
+    if !arrange::arrange(t, top, order, counts) {
+        return false;
+    }
+    partitions_sound(t, top, order, counts, n, &s, &e)
+}
+
+// Exactly the sound tables pass.
+pub fn is_sound(t: &[u64; 641], top: u32) -> bool
+    requires { ⌜ Top (now t) top ⌝ }
+    ensures { λ r. ⌜ r ≡ sound (now (t .entry)) ⌝ }
+{
+    let mut order = [0u8; 512];
+    let mut counts = [0u32; 16];
+    is_ordered(t, top, &mut order, &mut counts)
+}

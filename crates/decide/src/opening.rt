@@ -1,0 +1,152 @@
+ghost use mathlib.Core.Path.{_≡_};
+ghost use Prim.Native.Nat.{_≤_, _<_};
+ghost use Rattle.tables.specs.View.{view};
+ghost use Rattle.tables.specs.Seen.{SeenRegions};
+ghost use Rattle.sound.specs.Clauses.{s9, s10};
+ghost use Rattle.decide.specs.Opening.{Skipped, noneBefore, CanOpen, someLoaded, isOpen, other, others, regionRight};
+use crate::order::entry_at;
+use tables::read;
+use tables::regions;
+use words::Line;
+use words::Partition;
+use words::Slot;
+use words::regions_word::Region;
+use words::regions_word::RegionsFields;
+
+// The first area from number a on that ends after the line. Those before it are done with: the entries come by rising start.
+fn skip_areas(n: usize, e: &[u32; 80], a: usize, line: Line) -> usize
+    requires { ⌜ (n ≤ 80) × (a ≤ n) ⌝ }
+    ensures { λ r. ⌜ Skipped n (now (e .entry)) a (line .0) r ⌝ }
+{
+    let mut b = a;
+    while b < n {
+        if e[b] > line.0 {
+            return b;
+        }
+        b += 1;
+    }
+    b
+}
+
+// no area from number a on starts before the line
+fn none_before(n: usize, s: &[u32; 80], a: usize, line: Line) -> bool
+    requires { ⌜ n ≤ 80 ⌝ }
+    ensures { λ r. ⌜ r ≡ noneBefore n (now (s .entry)) a (line .0) ⌝ }
+{
+    if a < n {
+        return s[a] >= line.0;
+    }
+    true
+}
+
+// S9 of p, which has c entries: they and the areas are walked side by side, both by rising start.
+pub fn opens_right(
+    t: &[u64; 641],
+    p: Partition,
+    order: &[u8; 512],
+    c: u32,
+    n: usize,
+    s: &[u32; 80],
+    e: &[u32; 80],
+) -> bool
+    requires { ⌜ CanOpen (now t) (p .0) (now order) c n (now s) (now e) ⌝ }
+    ensures { λ r. ⌜ r ≡ s9 (view (now (t .entry))) (p .0) ⌝ }
+{
+    let mut a = 0usize;
+    let mut k = 0u32;
+    while k < c {
+        let f = entry_at(t, p, order, k);
+        a = skip_areas(n, e, a, f.start);
+        if f.opened != none_before(n, s, a, f.end) {
+            return false;
+        }
+        k += 1;
+    }
+    true
+}
+
+// one of the eight is loaded, told without a branch: mostly none is
+fn some_loaded(f: RegionsFields) -> bool
+    ensures { λ r. ⌜ r ≡ someLoaded f ⌝ }
+{
+    f.region0.loaded
+        | f.region1.loaded
+        | f.region2.loaded
+        | f.region3.loaded
+        | f.region4.loaded
+        | f.region5.loaded
+        | f.region6.loaded
+        | f.region7.loaded
+}
+
+// slot i of p holds an entry that is open
+fn is_open(t: &[u64; 641], p: Partition, i: Slot) -> bool
+    requires { ⌜ (p .0 < 16) × (i .0 < 32) ⌝ }
+    ensures { λ r. ⌜ r ≡ isOpen (view (now (t .entry))) (p .0) (i .0) ⌝ }
+{
+    let f = read::entry(t, p, i);
+    if f.present {
+        return f.opened;
+    }
+    false
+}
+
+// a region that is loaded names another slot than i
+fn names_other(x: Region, i: Slot) -> bool
+    ensures { λ r. ⌜ r ≡ other (i .0) x ⌝ }
+{
+    if x.loaded {
+        return i.0 != x.slot.0;
+    }
+    true
+}
+
+// so do the regions before r
+fn others_apart(f: RegionsFields, r: u32, i: Slot) -> bool
+    requires { ⌜ r < 8 ⌝ }
+    ensures { λ b. ⌜ b ≡ others f r (i .0) ⌝ }
+{
+    let mut q = 0u32;
+    while q < r {
+        let x = regions::nth(f, q);
+        if !names_other(x, i) {
+            return false;
+        }
+        q += 1;
+    }
+    true
+}
+
+// region r of p, if it is loaded, names an open entry, and no region before it names the same
+fn region_right(t: &[u64; 641], p: Partition, f: RegionsFields, r: u32) -> bool
+    requires { ⌜ (p .0 < 16) × (r < 8) × SeenRegions (now t) (p .0) f ⌝ }
+    ensures { λ b. ⌜ b ≡ regionRight (view (now (t .entry))) (p .0) r ⌝ }
+{
+    let x = regions::nth(f, r);
+    if !x.loaded {
+        return true;
+    }
+    if !is_open(t, p, x.slot) {
+        return false;
+    }
+    others_apart(f, r, x.slot)
+}
+
+// S10 of p
+pub fn regions_right(t: &[u64; 641], p: Partition) -> bool
+    requires { ⌜ p .0 < 16 ⌝ }
+    ensures { λ r. ⌜ r ≡ s10 (view (now (t .entry))) (p .0) ⌝ }
+{
+    let f = read::regions(t, p);
+    if !some_loaded(f) {
+        return true;
+    }
+    let mut r = 0u32;
+    while r < 8 {
+        if !region_right(t, p, f, r) {
+            return false;
+        }
+        r += 1;
+    }
+    true
+}

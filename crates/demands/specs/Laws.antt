@@ -1,0 +1,7 @@
+pub mod Lowest
+pub mod Rising
+pub mod Results
+pub mod Listings
+pub mod Calls
+pub mod Written
+pub mod BranchProof

@@ -1,0 +1,18 @@
+use Rattle.sound.specs.Laws.Holders.{writes-from}
+use borrow.Author.Needs.{needs}
+use Rattle.holders.proofs.write_holders.Statement.{statement}
+use Rattle.holders.proofs.write_holders.Tie as tie
+
+pub write-holders-spec : {M : Type 1} → statement M
+write-holders-spec =
+    tie.close
+    (tie.spec
+    (λ c κs. search needs)
+    (λ c κs. search needs)
+    (λ c κs. search needs)
+    (λ c. search needs)
+    (λ c.
+    let d = c .before .before in
+    let e = d .before .before in
+    let p = e .before .before .deepest-holder .ensures in
+    writes-from _ (p .0) (p .1) (e .climb .ensures .names) (d .write-way .ensures)))

@@ -1,0 +1,233 @@
+-- Merge keeps a table sound, and each partition holds the lines that it held; its answer is that of its conditions.
+use mathlib.Core.Path.{_≡_, refl, sym, _∙_, ap}
+use mathlib.Core.Logic.{_⊎_, inl, inr, _↔_, ⊎-elim}
+use mathlib.Core.Bool.{Bool, true, _&&_, _||_}
+use Prim.Native.Nat.{ℕ, _<_}
+use native.Mathlib.Decide.{decLt}
+use native.Mathlib.Omega.{arith}
+use lib.Dec.{eqb}
+use borrow.Author.Tests.{eqb-true, eq-eqb}
+use Rattle.words.specs.declared.Rights.{Rights}
+use Rattle.tables.specs.State.{Opt, none, some, Entry, K, Same, Table}
+use Rattle.tables.specs.Laws.State.{same, some-inj, not-none}
+use Rattle.tables.specs.Update.{both?}
+use Rattle.tables.specs.Lines.{In, Holds}
+use Rattle.tables.specs.Settle.{settle}
+use Rattle.sound.specs.Sound.{Granted}
+use Rattle.sound.specs.Core.{Inside, Core}
+use Rattle.sound.specs.Whole.{Right}
+use Rattle.sound.specs.Clauses.{grants}
+use Rattle.sound.specs.Laws.Tests.{and-says, and-true, some-says, some-true}
+use Rattle.sound.specs.Laws.Means.{eq-means, and-means}
+use Rattle.sound.specs.Laws.MeansEntries.{else-says, else-true, grants-means}
+use Rattle.sound.specs.Laws.MeansRegions.{beq-means}
+use Rattle.rules.specs.Rules.{endingAt, mergeK, done, merge, oneGrant, sameRights}
+use Rattle.isolation.specs.Laws.Two.{From, old, first, second, same-place, two-from, two-first, two-old, two-other}
+use Rattle.isolation.specs.Laws.Checks.{FreeEntry}
+use Rattle.isolation.specs.Laws.Keep.{same-clear, still, itself, inside-at}
+use Rattle.isolation.specs.Laws.Slots.{Fine, Stays, slots-core, around-stays, old-fine}
+use Rattle.isolation.specs.Laws.Settled.{right-loads, settle-right}
+use Rattle.isolation.specs.Ladder.{Answers, finished, Ends}
+use Rattle.isolation.specs.Laws.Ladder.{ends, check-answers, need-answers}
+use Rattle.isolation.specs.Laws.Fits.{right-fit}
+use Rattle.isolation.specs.Merge.{OneGrant, mergeLadder}
+
+-- what checks 4, 5, 6 (first, second), 11 (meet), 12 (grant) and 13 (rights) say
+pub record MergeOk (k : K) (s t : ℕ) (e f : Entry) : Type 0 where
+  pub first : FreeEntry k s e
+  pub second : FreeEntry k t f
+  pub meet : e .stop ≡ f .start
+  pub grant : OneGrant k e f
+  pub rights : e .rights ≡ f .rights
+
+module _ {k : K} {s t : ℕ} {e f : Entry} (h : Core k) (ok : MergeOk k s t e f) where
+  abbrev new : ℕ → ℕ → Opt Entry
+  new = mergeK k s t e f .slot
+
+  -- the whole
+  abbrev both : Entry
+  both = endingAt e (f .stop)
+
+  abbrev Fr : ℕ → ℕ → Entry → Type 0
+  Fr = From (k .slot) (k .current) s (some both) (k .current) t none
+
+  inv : (p i : ℕ) (a : Entry) → new p i ≡ some a → Fr p i a
+  inv = two-from (k .slot) (k .current) s _ (k .current) t _
+
+  e-range : e .start < e .stop
+  e-range = h .s5-range (k .current) s e (ok .first .at)
+
+  f-range : f .start < f .stop
+  f-range = h .s5-range (k .current) t f (ok .second .at)
+
+  at-s : new (k .current) s ≡ some both
+  at-s = two-first (k .slot) (k .current) s _ (k .current) t _ (λ q.
+      let w = same-place (k .slot) (ok .second .at) (ok .first .at) q in
+      omega (arith, e-range, f-range))
+
+  stays : (p i : ℕ) (a : Entry) → k .slot p i ≡ some a → ((p ≡ k .current) × (i ≡ s) → ⊥) → ((p ≡ k .current) × (i ≡ t) → ⊥) → new p i ≡ some a
+  stays p i a u y z = two-old (k .slot) (k .current) s _ (k .current) t _ p i y z ∙ u
+
+  other-stays : (p i : ℕ) (a : Entry) → k .slot p i ≡ some a → (Same a e → ⊥) → (Same a f → ⊥) → new p i ≡ some a
+  other-stays = two-other (k .slot) (k .current) s _ (k .current) t _ (ok .first .at) (ok .second .at)
+
+  around : (p : ℕ) (a : Entry) → Stays k new p a
+  around = around-stays k (λ p i a u n. other-stays p i a u (λ w. n (w .given ∙ ok .first .free)) (λ w. n (w .given ∙ ok .second .free)))
+
+  -- a line of the whole is a line of e or of f
+  halves : (l : ℕ) → In l both → In l e ⊎ In l f
+  halves l x = go (decLt l (e .stop))
+    where
+      go : Dec (l < e .stop) → In l e ⊎ In l f
+      go (yes z) = inl (omega arith)
+      go (no z) = inr (omega arith)
+
+  new-holds : (p l : ℕ) → Holds new p l → Holds (k .slot) p l
+  new-holds p l u = go (inv p (u .i) (u .e) (u .at))
+    where
+      half : p ≡ k .current → In l e ⊎ In l f → Holds (k .slot) p l
+      half z (inl x) = record { i = s; e = e; at = rw z (ok .first .at); holds = x }
+      half z (inr x) = record { i = t; e = f; at = rw z (ok .second .at); holds = x }
+
+      go : Fr p (u .i) (u .e) → Holds (k .slot) p l
+      go (old v _ _) = still u v
+      go (first z _ v) = let w = same (some-inj v) in half z (halves l (omega arith))
+      go (second _ _ v) = not-none none refl v
+
+  holds-new : (p l : ℕ) → Holds (k .slot) p l → Holds new p l
+  holds-new p l u = go (both? (k .current) s p (u .i)) (both? (k .current) t p (u .i))
+    where
+      go : Dec ((p ≡ k .current) × (u .i ≡ s)) → Dec ((p ≡ k .current) × (u .i ≡ t)) → Holds new p l
+      go (no y) (no z) = still u (stays p (u .i) (u .e) (u .at) y z)
+      go (yes z) _ =
+          let w = same-place (k .slot) (ok .first .at) (u .at) z in
+          record { i = s; e = both; at = rw (z .0) at-s; holds = omega (arith, f-range) }
+      go (no _) (yes z) =
+          let w = same-place (k .slot) (ok .second .at) (u .at) z in
+          record { i = s; e = both; at = rw (z .0) at-s; holds = omega (arith, e-range) }
+
+  -- what is around e is around both: only one entry of the parent has e's first line
+  whole : (k .current ≡ 0 → ⊥) → Inside (k .slot) (k .parent) (k .current) both
+  whole n =
+      let (j, g, a, b) = ok .grant n in
+      let o = h .s7-in (k .current) s e (ok .first .at) n in
+      let r = e-range in
+      let i : o .i ≡ j = h .s6 (k .parent (k .current)) (o .i) j (o .f) g (e .start) (o .at) (a .at) (omega arith) (omega arith) in
+      let w = same-place (k .slot) (a .at) (o .at) (refl, i) in
+      record { i = o .i; f = o .f; at = o .at; given = o .given; from = o .from; to = omega arith; sub = o .sub }
+
+  fine : (p i : ℕ) (a : Entry) → new p i ≡ some a → Fine k new p i a
+  fine p i a u = go (inv p i a u)
+    where
+      joined : p ≡ k .current → i ≡ s → Fine k new p i both
+      joined z y = record {
+        structure = rw (z, y) (h .s5 (k .current) s e (ok .first .at));
+        range = omega (arith, e-range, f-range);
+        lent = λ n. absurd (n (ok .first .free));
+        inside = λ n. let o = whole (λ y. n (z ∙ y)) in rw z (inside-at refl (itself both) o (around (k .current) both (λ y. n (z ∙ y)) o));
+        root = λ x. h .s11 s e (rw (sym z ∙ x) at (ok .first .at));
+      }
+
+      go : Fr p i a → Fine k new p i a
+      go (old v _ _) = old-fine h v (λ _ l _. holds-new (a .given) l) (around p a)
+      go (first z y v) = rw (← (some-inj v)) (joined z y)
+      go (second _ _ v) = not-none none refl v
+
+  apart : (p i j : ℕ) (a b : Entry) (l : ℕ) → new p i ≡ some a → new p j ≡ some b → In l a → In l b → i ≡ j
+  apart p i j a b l u v x y = go (inv p i a u) (inv p j b v)
+    where
+      -- an old entry with a line of the whole is slot s or t
+      clash : (i : ℕ) (a : Entry) → p ≡ k .current → k .slot p i ≡ some a → ((p ≡ k .current) × (i ≡ s) → ⊥) → ((p ≡ k .current) × (i ≡ t) → ⊥)
+          → In l a → In l both → ⊥
+      clash i a z u m n x y = ⊎-elim
+          (λ w. m (z, h .s6 p i s a e l u (rw z (ok .first .at)) x w))
+          (λ w. n (z, h .s6 p i t a f l u (rw z (ok .second .at)) x w))
+          (halves l y)
+
+      go : Fr p i a → Fr p j b → i ≡ j
+      go (old u _ _) (old v _ _) = h .s6 p i j a b l u v x y
+      go (old u m n) (first q _ v) = let w = same (some-inj v) in absurd (clash i a q u m n x (omega arith))
+      go (first q _ u) (old v m n) = let w = same (some-inj u) in absurd (clash j b q v m n y (omega arith))
+      go (first _ r _) (first _ r′ _) = r ∙ sym r′
+      go (second _ _ u) _ = not-none none refl u
+      go (old _ _ _) (second _ _ v) = not-none none refl v
+      go (first _ _ _) (second _ _ v) = not-none none refl v
+
+  -- the ledger's line: each partition holds the lines that it held
+  pub merge-holds : (p l : ℕ) → Holds (mergeK k s t e f .slot) p l ↔ Holds (k .slot) p l
+  merge-holds p l = (new-holds p l, holds-new p l)
+
+  pub merge-core : Core (mergeK k s t e f)
+  merge-core = slots-core h (record {
+    fine = fine;
+    apart = apart;
+    root = merge-holds 0;
+    closed = λ p i a u _ z. other-stays p i a u
+        (λ w. z (same-clear w (ok .first .clear)))
+        (λ w. z (same-clear w (ok .second .clear)));
+  })
+
+-- ── the service ──
+abbrev pub MergeDone : Table → ℕ → ℕ → ℕ → ℕ → Table → Type 0
+MergeDone t s u v w t′ = (e f : Entry) × MergeOk (t .k) s u e f × (t′ ≡ settle (mergeK (t .k) s u e f) (t .region))
+
+rights-mean : (a b : Rights) → (sameRights a b ≡ true) ↔ (a ≡ b)
+unfolding sameRights
+rights-mean a b =
+    let m = and-means (and-means (beq-means (a .read) (b .read)) (beq-means (a .write) (b .write))) (beq-means (a .execute) (b .execute)) in (
+      λ q. let ((x, y), z) = m .0 q in λ i. record { read = x i; write = y i; execute = z i },
+      λ e. m .1 ((ap (λ (r : Rights). r .read) e, ap (λ (r : Rights). r .write) e), ap (λ (r : Rights). r .execute) e),
+    )
+
+module _ {t : Table} (h : Right t) (s u : ℕ) where
+  grant-means : (e f : Entry) → (eqb (t .k .current) 0 || oneGrant (t .k) e f ≡ true) ↔ OneGrant (t .k) e f
+  unfolding oneGrant
+  grant-means e f = (
+    λ q n.
+        let (i, g, _, v, z) = some-says 32 both around (else-says _ _ q (λ z. n (eqb-true _ 0 z))) in
+        let (x, y) = and-says _ _ z in
+        (i, g, granted e i g v x, granted f i g v y),
+    λ c. else-true _ _ (λ z.
+        let (i, g, x, y) = c (λ q. z (eq-eqb _ 0 q)) in
+        some-true 32 both around i g (right-fit h .slot (t .k .parent (t .k .current)) i g (x .at) .1) (x .at) (and-true _ _
+        (grants-means (t .k .current) e g .1 (x .given, x .around)) (grants-means (t .k .current) f g .1 (y .given, y .around)))),
+  )
+    where
+      both : ℕ → Entry → Bool
+      both i g = grants (t .k .current) e g && grants (t .k .current) f g
+
+      around : ℕ → Opt Entry
+      around = t .k .slot (t .k .parent (t .k .current))
+
+      granted : (e : Entry) (i : ℕ) (g : Entry) → around i ≡ some g → grants (t .k .current) e g ≡ true → Granted (t .k) (t .k .current) e i g
+      granted e i g v z = let (x, y) = grants-means (t .k .current) e g .0 z in record { at = v; given = x; around = y }
+
+  pub merge-exact : Answers (mergeLadder t s u) (merge t s u)
+  unfolding merge
+  merge-exact =
+      need-answers λ e x.
+      need-answers λ f y.
+      check-answers (and-means (h .s9 (t .k .current) s e x) (h .s9 (t .k .current) u f y)) λ _.
+      check-answers (and-means (eq-means (e .given) 0) (eq-means (f .given) 0)) λ _.
+      check-answers (eq-means (e .stop) (f .start)) λ _.
+      check-answers (grant-means e f) λ _.
+      check-answers (rights-mean (e .rights) (f .rights)) λ _.
+      finished
+
+  pub merge-done : {v w : ℕ} {t′ : Table} → merge t s u ≡ done v w t′ → MergeDone t s u v w t′
+  unfolding Ends
+  merge-done = ends (MergeDone t s u) merge-exact (λ e x f y o z m g r. (
+    e,
+    f,
+    record {
+      first = record { at = x; clear = o .0; free = z .0 };
+      second = record { at = y; clear = o .1; free = z .1 };
+      meet = m;
+      grant = g;
+      rights = r;
+    },
+    refl,
+  ))
+
+  pub merge-right : {v w : ℕ} {t′ : Table} → merge t s u ≡ done v w t′ → Right t′
+  merge-right x = let (e, f, ok, z) = merge-done x in rw z (settle-right (merge-core (h .core) ok) (h .stop) (right-loads h))

@@ -1,0 +1,86 @@
+-- Soundness after a change of slots alone.
+use mathlib.Core.Path.{_≡_, refl}
+use mathlib.Core.Logic.{_↔_}
+use Prim.Native.Nat.{ℕ, _+_, _/_, _<_}
+use native.Mathlib.Omega.{arith}
+use Rattle.tables.specs.State.{Opt, some, Entry, Area, K}
+use Rattle.tables.specs.Write.{withSlot}
+use Rattle.tables.specs.Lines.{In, Holds, Clear}
+use Rattle.sound.specs.Sound.{allRights}
+use Rattle.sound.specs.Core.{Inside, Core}
+use Rattle.sound.specs.Properties.{Child}
+use Rattle.isolation.specs.Laws.Keep.{given-child, Part, itself, inside-at, backed-at}
+
+-- what soundness says of the given entry a of p: it is given to a child, which holds its lines
+pub record Lent (k : K) (new : ℕ → ℕ → Opt Entry) (p : ℕ) (a : Entry) : Type 0 where
+  pub child : Child k p (a .given)
+  pub cover : (l : ℕ) → In l a → Holds new (a .given) l
+
+-- .. of the entry a in slot i of p
+pub record Fine (k : K) (new : ℕ → ℕ → Opt Entry) (p i : ℕ) (a : Entry) : Type 0 where
+  pub structure : (b : Area) × (k .area p (1 + i / 8) ≡ some b)
+  pub range : a .start < a .stop
+  pub lent : (a .given ≡ 0 → ⊥) → Lent k new p a
+  pub inside : (p ≡ 0 → ⊥) → Inside new (k .parent) p a
+  pub root : p ≡ 0 → a .rights ≡ allRights
+
+-- .. and of all slots: no two entries share a line, the root holds what it held, and an entry that is an area stays
+pub record Kept (k : K) (new : ℕ → ℕ → Opt Entry) : Type 0 where
+  pub fine : (p i : ℕ) (a : Entry) → new p i ≡ some a → Fine k new p i a
+  pub apart : (p i j : ℕ) (a b : Entry) (l : ℕ) → new p i ≡ some a → new p j ≡ some b → In l a → In l b → i ≡ j
+  pub root : (l : ℕ) → Holds new 0 l ↔ Holds (k .slot) 0 l
+  pub closed : (q i : ℕ) (e : Entry) → k .slot q i ≡ some e → e .given ≡ 0 → (Clear (k .area) e → ⊥) → new q i ≡ some e
+
+-- what is around the entry e of p stays
+abbrev pub Stays : K → (ℕ → ℕ → Opt Entry) → ℕ → Entry → Type 0
+Stays k new p e = (p ≡ 0 → ⊥) → (o : Inside (k .slot) (k .parent) p e) → new (k .parent p) (o .i) ≡ some (o .f)
+
+-- where all that is given stays, it does
+pub around-stays : (k : K) {new : ℕ → ℕ → Opt Entry} → ((p i : ℕ) (f : Entry) → k .slot p i ≡ some f → (f .given ≡ 0 → ⊥) → new p i ≡ some f)
+    → (p : ℕ) (e : Entry) → Stays k new p e
+around-stays k s p e n o = s (k .parent p) (o .i) (o .f) (o .at) (λ z. n (omega arith))
+
+module _ {k : K} (h : Core k) {new : ℕ → ℕ → Opt Entry} where
+  pub slots-core : Kept k new → Core (withSlot k new)
+  slots-core c = record {
+    s1 = h .s1;
+    s1-current = h .s1-current;
+    s2-root = h .s2-root;
+    s2-range = h .s2-range;
+    s2-absent = h .s2-absent;
+    s2-parent = h .s2-parent;
+    s2-up = h .s2-up;
+    s2-climb = h .s2-climb;
+    s4 = h .s4;
+    s5 = λ p i a u. c .fine p i a u .structure;
+    s5-range = λ p i a u. c .fine p i a u .range;
+    s6 = c .apart;
+    s7-root = λ l. (λ u. h .s7-root l .0 (c .root l .0 u), λ u. c .root l .1 (h .s7-root l .1 u));
+    s7-given = λ p i a u n. let g = c .fine p i a u .lent n in (g .child .present, g .child .parent);
+    s7-in = λ p i a u. c .fine p i a u .inside;
+    s7-cover = λ p i a l u n. c .fine p i a u .lent n .cover l;
+    s8 = λ p j a u n.
+        let b = h .s8 p j a u n in
+        let r = h .s4 p j a u n in
+        backed-at refl b (c .closed (b .q) (b .i) (b .e) (b .at) (b .free) (λ z. z p j a (a .lo) u (omega arith) (omega arith)));
+    s8-apart = h .s8-apart;
+    s11 = λ i a u. c .fine 0 i a u .root refl;
+  }
+
+  -- a part of an old entry is fine ..
+  pub part-fine : {p i j : ℕ} {a e : Entry} → k .slot p j ≡ some e → Part a e → (b : Area) × (k .area p (1 + i / 8) ≡ some b) → a .start < a .stop
+      → ((a .given ≡ 0 → ⊥) → Lent k new p a) → Stays k new p e → Fine k new p i a
+  part-fine {p} {j = j} {e = e} u w b r g s = record {
+    structure = b;
+    range = r;
+    lent = g;
+    inside = λ n. let o = h .s7-in p j e u n in inside-at refl w o (s n o);
+    root = λ z. rw (w .rights) (h .s11 j e (rw z at u));
+  }
+
+  -- .. and so is an old entry
+  pub old-fine : {p i : ℕ} {a : Entry} → k .slot p i ≡ some a
+      → ((a .given ≡ 0 → ⊥) → (l : ℕ) → In l a → Holds (k .slot) (a .given) l → Holds new (a .given) l)
+      → Stays k new p a → Fine k new p i a
+  old-fine {p} {i} {a} u c s = part-fine u (itself a) (h .s5 p i a u) (h .s5-range p i a u)
+      (λ n. record { child = given-child h p i a u n; cover = λ l x. c n l x (h .s7-cover p i a l u n x) }) s

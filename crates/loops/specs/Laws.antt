@@ -1,0 +1,10 @@
+pub mod Bit
+pub mod Scan
+pub mod Every
+pub mod Carry
+pub mod Count
+pub mod Oring
+pub mod Map
+pub mod Rewrite
+pub mod Climb
+pub mod Pigeon

@@ -1,0 +1,20 @@
+use mathlib.Core.Path.{_∙_}
+use Rattle.memory.specs.Laws.Quads.{put-halves}
+use native.Mathlib.Omega.{arith}
+use borrow.Author.Needs.{needs}
+use Rattle.memory.proofs.put.Statement.{statement}
+use Rattle.memory.proofs.put.Tie as tie
+
+pub put-spec : {M : Type 1} → statement M
+put-spec =
+    tie.close
+    (tie.spec
+    (λ c. search needs)
+    (λ c κs. search needs)
+    (λ c κs. search needs)
+    (λ c. search needs)
+    (λ c. search needs)
+    (λ c κs. search needs)
+    (λ c κs. search needs)
+    (λ c. search needs)
+    (λ c. c .before .before .put-quad2 .ensures ∙ rw (c .before .before .before .before .before .before .before .put-quad .ensures) (put-halves _ _ _ (omega arith) (c .before .before .before .before .before .before .before .before .turned .ensures) (c .before .before .before .turned2 .ensures))))

@@ -1,0 +1,3 @@
+pub mod Quads
+pub mod ByteTrips
+pub mod ByteRecords

@@ -1,0 +1,4 @@
+pub mod Bytes
+pub mod Quads
+pub mod ByteRecords
+pub mod Laws

@@ -1,0 +1,19 @@
+-- What a call answers, and the words after it.
+use mathlib.Core.Path.{_≡_}
+use mathlib.Core.Bool.{cond}
+use mathlib.Core.List.{List}
+use Prim.Native.Nat.{ℕ}
+use Rattle.tables.specs.View.{view}
+use Rattle.sound.specs.Clauses.{sound}
+use Rattle.rules.specs.declared.Answer.{Answer}
+use Rattle.rules.specs.Rules.{callOn}
+use Rattle.rules.specs.Ran.{Ran}
+
+-- the caller's number before the call; 0 where refusal 1 is given
+unfoldable pub callerOf : List ℕ → ℕ
+callerOf l = cond (sound l) (view l .k .current) 0
+
+-- the answer: the caller beside the outcome of the rule; and every word afterwards
+pub record Answers (before : List ℕ) (w : ℕ) (r : Answer) (after : List ℕ) : Type 0 where
+  pub caller : r .caller .0 ≡ callerOf before
+  pub ran : Ran (callOn before w) before (r .outcome) after

@@ -1,0 +1,132 @@
+-- A call is a check of the table, a check of the word, and the service: the exits of each; and two results are equal.
+use mathlib.Core.Path.{_≡_, refl, ap, sym, subst, _∙_}
+use mathlib.Core.Bool.{Bool, true, false, cond, _||_, false≢true}
+use mathlib.Core.List.{List, [], _∷_}
+use mathlib.Core.Logic.{⊎-elim}
+use Prim.Native.Nat.{ℕ, _<_}
+use native.Mathlib.Omega.{arith}
+use borrow.Author.Tests.{eqb-true, ne-eqb}
+use lib.Dec.{eqb}
+use Rattle.words.specs.Kind.{fieldsIn, zeroed, reading}
+use Rattle.words.specs.Words.{call}
+use Rattle.words.specs.Fields.{SmallCall}
+use Rattle.words.specs.Laws.Fields.{call-small, call-reading}
+use Rattle.words.specs.declared.Partition.{Partition}
+use Rattle.words.specs.declared.call_word.CallFields.{CallFields}
+use Rattle.words.specs.declared.call_word.CallRead.{CallRead}
+use Rattle.words.specs.declared.call_word.CallRead.the-variants.{Fields, Refused as Unread}
+use Rattle.tables.specs.State.{Table}
+use Rattle.tables.specs.View.{view}
+use Rattle.tables.specs.Laws.Seen.{see-first}
+use Rattle.tables.specs.declared.Outcome.{Outcome}
+use Rattle.tables.specs.declared.Outcome.the-variants.{Done, Refused}
+use Rattle.sound.specs.Clauses.{sound, has}
+use Rattle.sound.specs.Laws.Tests.{or-says}
+use Rattle.rules.specs.declared.Answer.{Answer}
+use Rattle.rules.specs.Rules.{refused, check, uses, known, perform, serve, serveRead, callOn}
+use Rattle.rules.specs.Ran.{Ran}
+use Rattle.rules.specs.Laws.Ran.{ran-one, ran-refused, ran-as, ran-copied, ran-kept, pass, fail}
+use Rattle.rules.specs.Calls.{callerOf, Answers}
+
+pub caller-small : (l : List ℕ) → callerOf l < 16
+unfolding callerOf
+caller-small l = go (sound l)
+  where
+    go : (b : Bool) → cond b (view l .k .current) 0 < 16
+    go true = let f = see-first l _ refl in omega (arith, f .current, f .current-small)
+    go false = omega arith
+
+-- two results are equal: the answer, and every word
+pub answers-one : {before : List ℕ} {w : ℕ} {r s : Answer} {a b : List ℕ} → Answers before w r a → Answers before w s b → (r ≡ s) × (a ≡ b)
+answers-one x y =
+    let (o, l) = ran-one (x .ran) (y .ran) in
+    (same (x .caller ∙ sym (y .caller)) o, l)
+  where
+    same : {c d : ℕ} {o q : Outcome} → c ≡ d → o ≡ q → _≡_ {A = Answer} (record { caller = record { 0 = c }; outcome = o }) (record { caller = record { 0 = d }; outcome = q })
+    same e f = cc
+
+-- ── a number that is no service's ──
+-- the services' numbers, the last first
+abbrev pub numbers : List ℕ
+numbers = 14 ∷ 13 ∷ 12 ∷ 11 ∷ 9 ∷ 8 ∷ 7 ∷ 6 ∷ 5 ∷ 4 ∷ 3 ∷ 2 ∷ 1 ∷ []
+
+-- n is none of these, as a `match` on it says
+abbrev pub NoneOf : ℕ → List ℕ → Type 0
+NoneOf n [] = Unit {0}
+NoneOf n (k ∷ ks) = NoneOf n ks × (n ≡ k → ⊥)
+
+abbrev listed : ℕ → List ℕ → Bool
+listed k [] = false
+listed k (m ∷ ms) = eqb k m || listed k ms
+
+none-of-at : (n k : ℕ) (ks : List ℕ) → NoneOf n ks → listed k ks ≡ true → eqb n k ≡ false
+none-of-at n k [] h z = absurd (false≢true z)
+none-of-at n k (m ∷ ms) h z = ⊎-elim (λ q. ne-eqb n k (λ e. h .1 (e ∙ eqb-true k m q))) (none-of-at n k ms (h .0)) (or-says (eqb k m) (listed k ms) z)
+
+pub known-not : (f : CallFields) → NoneOf (f .service) numbers → false ≡ known f
+unfolding known uses has
+known-not f h = rw (no 1 refl, no 2 refl, no 3 refl, no 4 refl, no 5 refl, no 6 refl, no 7 refl, no 8 refl, no 9 refl, no 11 refl, no 12 refl, no 13 refl, no 14 refl) refl
+  where
+    no : (k : ℕ) → listed k numbers ≡ true → eqb (f .service) k ≡ false
+    no k = none-of-at (f .service) k numbers h
+
+module _ (t : Table) (f : CallFields) where
+  pub serve-unknown : known f ≡ false → serve t f ≡ refused 2
+  unfolding serve
+  serve-unknown h = fail 2 (perform t f) h
+
+  pub serve-known : known f ≡ true → serve t f ≡ perform t f
+  unfolding serve
+  serve-known h = pass 2 h refl
+
+-- ── fields that were read ──
+-- the fields of an answer; of a refusal, d
+abbrev fieldsElse : CallFields → CallRead → CallFields
+fieldsElse d (Fields f) = f
+fieldsElse d (Unread n) = d
+
+pub read-small : (w : ℕ) {f : CallFields} → reading call w ≡ Fields f → SmallCall f
+read-small w q = subst SmallCall (sym (same (zeroed call w)) ∙ ap (fieldsElse (fieldsIn call w)) (sym (call-reading w) ∙ q)) (call-small w)
+  where
+    same : (b : Bool) → fieldsElse (fieldsIn call w) (cond b (Fields (fieldsIn call w)) (Unread 2)) ≡ fieldsIn call w
+    same true = refl
+    same false = refl
+
+module _ (t : Table) (w : ℕ) where
+  pub read-serves : {f : CallFields} → reading call w ≡ Fields f → serveRead t (reading call w) ≡ serve t f
+  unfolding serveRead
+  read-serves q = rw q refl
+
+  pub read-refuses : {n : ℕ} → reading call w ≡ Unread n → serveRead t (reading call w) ≡ refused n
+  unfolding serveRead
+  read-refuses q = rw q refl
+
+-- ── a call is a check of the table, a check of the word, and the service ──
+module _ (l : List ℕ) (w : ℕ) where
+  pub call-as : callOn l w ≡ check 1 (sound l) (check 2 (zeroed call w) (serve (view l) (fieldsIn call w)))
+  unfolding callOn serveRead check
+  call-as = rw (call-reading w) (go (sound l) (zeroed call w))
+    where
+      go : (a b : Bool) → cond a (serveRead (view l) (cond b (Fields (fieldsIn call w)) (Unread 2))) (refused 1) ≡ check 1 a (check 2 b (serve (view l) (fieldsIn call w)))
+      go true true = refl
+      go true false = refl
+      go false b = refl
+
+-- ── the exits ──
+module _ (l : List ℕ) (w : ℕ) where
+  pub answers-unsound : sound l ≡ false → Answers l w (record { caller = record { 0 = 0 }; outcome = Refused 1 }) l
+  unfolding callerOf callOn
+  answers-unsound h = record { caller = rw h refl; ran = ran-refused (rw h refl) }
+
+  pub answers-sound : {c : Partition} {r : Outcome} {m : List ℕ} → sound l ≡ true → view l .k .current ≡ c .0
+      → Ran (serveRead (view l) (reading call w)) l r m → Answers l w (record { caller = c; outcome = r }) m
+  unfolding callerOf callOn
+  answers-sound h q ran = record { caller = rw h (sym q); ran = ran-as (rw h refl) ran }
+
+-- ── on a copy: done, its words are copied back; refused, the words stay ──
+module _ {l a : List ℕ} {w : ℕ} {r : Answer} {m : List ℕ} (copy : a ≡ l) (h : Answers a w r m) where
+  pub answers-done : {v x : ℕ} {n : List ℕ} → r .outcome ≡ Done v x → n ≡ m → Answers l w r n
+  answers-done q e = rw (← copy) (record { caller = h .caller; ran = ran-copied (h .ran) q e })
+
+  pub answers-refused : {n : ℕ} → r .outcome ≡ Refused n → Answers l w r l
+  answers-refused q = rw (← copy) (record { caller = h .caller; ran = ran-kept (h .ran) q })

@@ -1,0 +1,9 @@
+// The rules of the services, one row each, as 01 says them.
+use tables::Outcome;
+use words::Partition;
+
+// What a call answers: its outcome, beside the number that the caller had before it (0 where the table is refused).
+pub struct Answer {
+    pub caller: Partition,
+    pub outcome: Outcome,
+}

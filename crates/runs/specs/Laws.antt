@@ -1,0 +1,11 @@
+pub mod Runs
+pub mod RunLaws
+pub mod OneList
+pub mod Pieces
+pub mod Bound
+pub mod Places
+pub mod Ways
+pub mod Stored
+pub mod Marks
+pub mod Listing
+pub mod Meaning

@@ -1,0 +1,25 @@
+use Rattle.tables.specs.View.{nth}
+use Rattle.tables.specs.Laws.Kept.{kept-regions}
+use borrow.Author.Needs.{needs}
+use Rattle.settling.proofs.kept_regions.Statement.{statement}
+use Rattle.settling.proofs.kept_regions.Tie as tie
+
+pub kept-regions-spec : {M : Type 1} → statement M
+unfolding nth
+kept-regions-spec =
+    tie.close
+    (tie.spec
+    (λ c κs. search needs)
+    (λ c κs. (c .before .pre, c .regions .ensures .small 0))
+    (λ c κs. (c .before .before .pre, c .before .regions .ensures .small 1))
+    (λ c κs. (c .before .before .before .pre, c .before .before .regions .ensures .small 2))
+    (λ c κs. (c .before .before .before .before .pre, c .before .before .before .regions .ensures .small 3))
+    (λ c κs. (c .before .before .before .before .before .pre, c .before .before .before .before .regions .ensures .small 4))
+    (λ c κs. (c .before .before .before .before .before .before .pre, c .before .before .before .before .before .regions .ensures .small 5))
+    (λ c κs. (c .before .before .before .before .before .before .before .pre, c .before .before .before .before .before .before .regions .ensures .small 6))
+    (λ c κs. (c .before .before .before .before .before .before .before .before .pre, c .before .before .before .before .before .before .before .regions .ensures .small 7))
+    (λ c.
+    let d = c .before .before .before .before in
+    kept-regions _ _ _ _ (d .before .before .before .before .regions .ensures .region)
+    (d .before .before .before .kept-region .ensures) (d .before .before .kept-region2 .ensures) (d .before .kept-region3 .ensures) (d .kept-region4 .ensures)
+    (c .before .before .before .kept-region5 .ensures) (c .before .before .kept-region6 .ensures) (c .before .kept-region7 .ensures) (c .kept-region8 .ensures)))

@@ -1,0 +1,8 @@
+pub mod Rising
+pub mod Room
+pub mod Gather
+pub mod Areas
+pub mod UpTo
+pub mod OpenBits
+pub mod Settled
+pub mod Laws

@@ -1,0 +1,49 @@
+use mathlib.Core.Path.{refl}
+use borrow.Author.Needs.{needs}
+use borrow.Author.Tests.{not-true, not-false}
+use Rattle.shape.specs.Laws.Records.{recordTest, record-is}
+use Rattle.shape.proofs.records.record_sound.Statement.{statement}
+use Rattle.shape.proofs.records.record_sound.Tie as tie
+
+pub record-sound-spec : {M : Type 1} → statement M
+unfolding recordTest
+record-sound-spec =
+    tie.close
+    (tie.spec
+    (λ c κs. search needs)
+    (λ c. let h = c .before .header-sound in rw (← record-is, ← h .ensures, not-true (h .result) (c .if1 .taken)) refl)
+    (λ c κs. search needs)
+    (λ c.
+    let s = c .before .structures-sound in
+    let d = c .before .before in
+    let h = d .before .header-sound in
+    rw (← record-is, ← h .ensures, not-false (h .result) (d .if1 .left), ← s .ensures, not-true (s .result) (c .if2 .taken)) refl)
+    (λ c κs. search needs)
+    (λ c.
+    let r = c .before .regions-sound in
+    let e = c .before .before in
+    let s = e .before .structures-sound in
+    let d = e .before .before in
+    let h = d .before .header-sound in
+    rw (← record-is, ← h .ensures, not-false (h .result) (d .if1 .left), ← s .ensures, not-false (s .result) (e .if2 .left), ← r .ensures, not-true (r .result) (c .if3 .taken)) refl)
+    (λ c κs. search needs)
+    (λ c.
+    let b = c .before .blank-words in
+    let f = c .before .before in
+    let r = f .before .regions-sound in
+    let e = f .before .before in
+    let s = e .before .structures-sound in
+    let d = e .before .before in
+    let h = d .before .header-sound in
+    rw (← record-is, ← h .ensures, not-false (h .result) (d .if1 .left), ← s .ensures, not-false (s .result) (e .if2 .left), ← r .ensures, not-false (r .result) (f .if3 .left), ← b .ensures, not-true (b .result) (c .if4 .taken)) refl)
+    (λ c κs. search needs)
+    (λ c.
+    let b = c .before .before .blank-words in
+    let f = c .before .before .before in
+    let r = f .before .regions-sound in
+    let e = f .before .before in
+    let s = e .before .structures-sound in
+    let d = e .before .before in
+    let h = d .before .header-sound in
+    rw (← record-is, ← h .ensures, not-false (h .result) (d .if1 .left), ← s .ensures, not-false (s .result) (e .if2 .left), ← r .ensures, not-false (r .result) (f .if3 .left), ← b .ensures, not-false (b .result) (c .before .if4 .left))
+    (c .slots-sound .ensures)))

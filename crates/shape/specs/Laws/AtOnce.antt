@@ -1,0 +1,139 @@
+-- The clauses in that order pass exactly where `sound` does; and what is known of a record whose shape passed.
+use mathlib.Core.Path.{_≡_}
+use mathlib.Core.Bool.{Bool, true, _&&_}
+use mathlib.Core.List.{List}
+use Prim.Native.Nat.{ℕ, _<_}
+use lib.ListN.{length}
+use lib.Dec.{eqb}
+use Rattle.loops.specs.Every.{all}
+use Rattle.loops.specs.Laws.Every.{bool-ext, all-at, all-of}
+use Rattle.tables.specs.State.{K}
+use Rattle.tables.specs.View.{view}
+use Rattle.sound.specs.Clauses.{s1, s2, s3First, s3, s4, s5, s6, s7, s8Backed, s8Apart, s8, s9, s10, s11, sound}
+use Rattle.sound.specs.Laws.Tests.{and-says, and-true}
+use Rattle.shape.specs.AtOnce.{restAt, shapeAt, Shaped}
+
+-- no two areas share a line
+unfoldable pub areasApart : K → Bool
+areasApart k = all 16 (λ p. all 5 (s8Apart k p))
+
+unfoldable pub atOnce : List ℕ → Bool
+atOnce l = eqb (length l) 641 && (s1 (view l .k) && s3First l) && all 16 (λ p. s2 l (view l .k) p && restAt l p) && areasApart (view l .k)
+
+-- what passes at p, clause by clause
+pub record Passes (l : List ℕ) (p : ℕ) : Type 0 where
+  pub s3 : s3 l p ≡ true
+  pub s4 : s4 l (view l .k) p ≡ true
+  pub s5 : s5 l (view l .k) p ≡ true
+  pub s6 : s6 (view l .k) p ≡ true
+  pub s7 : s7 (view l .k) p ≡ true
+  pub s11 : s11 (view l .k) p ≡ true
+  pub s8 : all 5 (s8Backed (view l .k) p) ≡ true
+  pub s9 : s9 (view l) p ≡ true
+  pub s10 : s10 (view l) p ≡ true
+
+pub rest-true : (l : List ℕ) (p : ℕ) → Passes l p → restAt l p ≡ true
+unfolding restAt
+rest-true l p h =
+    and-true _ _
+    (and-true _ _
+    (and-true _ _
+    (and-true _ _ (and-true _ _ (and-true _ _ (and-true _ _ (h .s3) (h .s4)) (h .s5)) (and-true _ _ (h .s6) (h .s7))) (h .s11))
+    (h .s8))
+    (h .s9))
+    (h .s10)
+
+pub rest-says : (l : List ℕ) (p : ℕ) → restAt l p ≡ true → Passes l p
+unfolding restAt
+rest-says l p q =
+    let (a, q10) = and-says _ _ q in
+    let (b, q9) = and-says _ _ a in
+    let (c, q8) = and-says _ _ b in
+    let (d, q11) = and-says _ _ c in
+    let (e, f) = and-says _ _ d in
+    let (q6, q7) = and-says _ _ f in
+    let (g, q5) = and-says _ _ e in
+    let (q3, q4) = and-says _ _ g in
+    record { s3 = q3; s4 = q4; s5 = q5; s6 = q6; s7 = q7; s11 = q11; s8 = q8; s9 = q9; s10 = q10 }
+
+module _ (l : List ℕ) where
+  to : sound l ≡ true → atOnce l ≡ true
+  unfolding sound atOnce areasApart s8
+  to q =
+      let (r11, q11) = and-says _ _ q in
+      let (r10, q10) = and-says _ _ r11 in
+      let (r9, q9) = and-says _ _ r10 in
+      let (r8, q8) = and-says _ _ r9 in
+      let (r7, q7) = and-says _ _ r8 in
+      let (r6, q6) = and-says _ _ r7 in
+      let (r5, q5) = and-says _ _ r6 in
+      let (r4, q4) = and-says _ _ r5 in
+      let (r3, q3) = and-says _ _ r4 in
+      let (r2, qf) = and-says _ (s3First l) r3 in
+      let (r1, q2) = and-says _ _ r2 in
+      let (q0, q1) = and-says (eqb (length l) 641) (s1 (view l .k)) r1 in
+      let at8 : (p : ℕ) → p < 16 → (all 5 (s8Backed (view l .k) p) ≡ true) × (all 5 (s8Apart (view l .k) p) ≡ true) = λ p b. and-says (all 5 (s8Backed (view l .k) p)) (all 5 (s8Apart (view l .k) p)) (all-at 16 (s8 (view l .k)) q8 p b) in
+      and-true _ _
+      (and-true _ _ (and-true _ _ q0 (and-true _ _ q1 qf))
+      (all-of 16 (λ p. s2 l (view l .k) p && restAt l p) (λ p b.
+      and-true _ _ (all-at 16 (s2 l (view l .k)) q2 p b)
+      (rest-true l p (record {
+        s3 = all-at 16 (s3 l) q3 p b;
+        s4 = all-at 16 (s4 l (view l .k)) q4 p b;
+        s5 = all-at 16 (s5 l (view l .k)) q5 p b;
+        s6 = all-at 16 (s6 (view l .k)) q6 p b;
+        s7 = all-at 16 (s7 (view l .k)) q7 p b;
+        s11 = all-at 16 (s11 (view l .k)) q11 p b;
+        s8 = at8 p b .0;
+        s9 = all-at 16 (s9 (view l)) q9 p b;
+        s10 = all-at 16 (s10 (view l)) q10 p b;
+      })))))
+      (all-of 16 (λ p. all 5 (s8Apart (view l .k) p)) (λ p b. at8 p b .1))
+
+  back : atOnce l ≡ true → sound l ≡ true
+  unfolding sound atOnce areasApart s8
+  back q =
+      let (r, a8) = and-says _ _ q in
+      let (z, w) = and-says _ _ r in
+      let (q0, z1) = and-says (eqb (length l) 641) (s1 (view l .k) && s3First l) z in
+      let (q1, qf) = and-says (s1 (view l .k)) (s3First l) z1 in
+      let at : (p : ℕ) → p < 16 → (s2 l (view l .k) p ≡ true) × (restAt l p ≡ true) = λ p b. and-says (s2 l (view l .k) p) (restAt l p) (all-at 16 (λ p. s2 l (view l .k) p && restAt l p) w p b) in
+      let on : (p : ℕ) → p < 16 → Passes l p = λ p b. rest-says l p (at p b .1) in
+      and-true _ _
+      (and-true _ _
+      (and-true _ _
+      (and-true _ _
+      (and-true _ _
+      (and-true _ _
+      (and-true _ _
+      (and-true _ _
+      (and-true _ _
+      (and-true _ _
+      (and-true _ _ (and-true _ _ q0 q1)
+      (all-of 16 (s2 l (view l .k)) (λ p b. at p b .0)))
+      qf)
+      (all-of 16 (s3 l) (λ p b. on p b .s3)))
+      (all-of 16 (s4 l (view l .k)) (λ p b. on p b .s4)))
+      (all-of 16 (s5 l (view l .k)) (λ p b. on p b .s5)))
+      (all-of 16 (s6 (view l .k)) (λ p b. on p b .s6)))
+      (all-of 16 (s7 (view l .k)) (λ p b. on p b .s7)))
+      (all-of 16 (s8 (view l .k)) (λ p b. and-true _ _ (on p b .s8) (all-at 16 (λ p. all 5 (s8Apart (view l .k) p)) a8 p b))))
+      (all-of 16 (s9 (view l)) (λ p b. on p b .s9)))
+      (all-of 16 (s10 (view l)) (λ p b. on p b .s10)))
+      (all-of 16 (s11 (view l .k)) (λ p b. on p b .s11))
+
+  pub sound-at-once : atOnce l ≡ sound l
+  sound-at-once = bool-ext (atOnce l) (sound l) back to
+
+-- ── what a shape says ──
+module _ {l : List ℕ} (h : Shaped l) (p : ℕ) (b : p < 16) where
+  pub shaped-s2 : s2 l (view l .k) p ≡ true
+  unfolding shapeAt
+  shaped-s2 = and-says (s2 l (view l .k) p) _ (h .at p b) .0
+
+  pub shaped-record : s3 l p && s4 l (view l .k) p && s5 l (view l .k) p ≡ true
+  unfolding shapeAt
+  shaped-record = and-says (s2 l (view l .k) p) (s3 l p && s4 l (view l .k) p && s5 l (view l .k) p) (h .at p b) .1
+
+  pub shaped-s5 : s5 l (view l .k) p ≡ true
+  shaped-s5 = and-says (s3 l p && s4 l (view l .k) p) (s5 l (view l .k) p) shaped-record .1

@@ -1,0 +1,16 @@
+pub mod Tests
+pub mod Means
+pub mod Meets
+pub mod Cover
+pub mod MeansEntries
+pub mod MeansAreas
+pub mod MeansWords
+pub mod Opens
+pub mod MeansRegions
+pub mod Canonical
+pub mod Core
+pub mod Properties
+pub mod Chain
+pub mod Whole
+pub mod Settled
+pub mod Holders

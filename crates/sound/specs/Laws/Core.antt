@@ -1,0 +1,167 @@
+-- A sound table has this core; and a core has each clause but for its words, open bits and regions.
+use mathlib.Core.Path.{_≡_, refl, sym, _∙_}
+use mathlib.Core.List.{List}
+use mathlib.Core.Logic.{_⊎_, inl, inr, ⊎-elim}
+use Prim.Native.Nat.{ℕ, zero, suc, _+_, _/_, _≤_, _<_}
+use native.Mathlib.Decide.{decLt, ℕ-discrete}
+use native.Mathlib.Omega.{arith}
+use Rattle.loops.specs.Climb.{Reaches}
+use Rattle.tables.specs.State.{Opt, none, some, Entry, Area, nowhere, K}
+use Rattle.tables.specs.Laws.State.{not-none, same-at}
+use Rattle.tables.specs.View.{view}
+use Rattle.tables.specs.Laws.View.{slot-bounds, area-bounds}
+use Rattle.tables.specs.Laws.Spelling.{zero-areas}
+use Rattle.tables.specs.Laws.ZeroWord.{no-area, no-parent}
+use Rattle.tables.specs.Lines.{In, InA, Holds}
+use Rattle.sound.specs.Sound.{Present, Rooted, Equals, S1, S2, S6, S7, S8, S11, Sound}
+use Rattle.sound.specs.Core.{Inside, Backed, Core}
+
+-- ── from a sound table ──
+module _ (l : List ℕ) (h : Sound l) where
+  -- the words of an absent partition are zero: it has no area ..
+  absent : (p j : ℕ) (a : Area) → view l .k .area p j ≡ some a → Present (view l .k) p
+  absent p j a u = go (view l .k .area p 0) refl
+    where
+      go : (o : Opt Area) → view l .k .area p 0 ≡ o → Present (view l .k) p
+      go none q = not-none (view l .k .area p j) (no-area l p j (λ b. zero-areas l p (h .s2 p b .absent q) j)) u
+      go (some b) q = (b, q)
+
+  -- .. and its parent is 0
+  orphan : (p : ℕ) → view l .k .area p 0 ≡ none → view l .k .parent p ≡ 0
+  orphan p q = no-parent l p (λ b. zero-areas l p (h .s2 p b .absent q) 0 (omega arith))
+
+  -- the root's parent is the root
+  up : (p : ℕ) → Present (view l .k) p → Present (view l .k) (view l .k .parent p)
+  up p a = go (ℕ-discrete p 0) (h .s2 p (area-bounds l p 0 (a .0) (a .1) .0))
+    where
+      go : Dec (p ≡ 0) → S2 l (view l .k) p → Present (view l .k) (view l .k .parent p)
+      go (yes z) s = rw (s .root z .1 ∙ sym z) a
+      go (no z) s = s .parent z a
+
+  inside : (c i : ℕ) (e : Entry) → view l .k .slot c i ≡ some e → (c ≡ 0 → ⊥) → Inside (view l .k .slot) (view l .k .parent) c e
+  inside c i e u n =
+      let hc = slot-bounds l c i e u .0 in
+      let (j, f, g) = h .s7 c hc .inside n i e u in
+      record { i = j; f = f; at = g .at; given = g .given; from = g .around .from; to = g .around .to; sub = h .s11 c hc .child n i j e f u g }
+
+  -- S7 says it of the child, here it is said of the giver
+  cover : (p i : ℕ) (f : Entry) (n : ℕ) → view l .k .slot p i ≡ some f → (f .given ≡ 0 → ⊥) → In n f → Holds (view l .k .slot) (f .given) n
+  cover p i f n u z x =
+      let (a, e) = h .s7 p (slot-bounds l p i f u .0) .given i f u z in
+      h .s7 (f .given) (area-bounds l (f .given) 0 (a .0) (a .1) .0) .cover z a i f (rw e u) refl n x
+
+  backed : (p j : ℕ) (a : Area) → view l .k .area p j ≡ some a → (Rooted p j → ⊥) → Backed (view l .k .slot) (view l .k .parent) p j a
+  backed p j a u n = go j u n
+    where
+      by : {j : ℕ} (q : ℕ) → (q ≡ view l .k .parent p) ⊎ ((q ≡ p) × (0 < j)) → Equals (view l .k) q a → Backed (view l .k .slot) (view l .k .parent) p j a
+      by q w b = record { q = q; who = w; i = b .i; e = b .e; at = b .at; free = b .free; lo = b .lo; hi = b .hi }
+
+      go : (j : ℕ) → view l .k .area p j ≡ some a → (Rooted p j → ⊥) → Backed (view l .k .slot) (view l .k .parent) p j a
+      go zero u n = by (view l .k .parent p) (inl refl) (h .s8 p (area-bounds l p 0 a u .0) .header (λ z. n (z, omega arith)) a u)
+      go (suc j) u n =
+          let e : 1 + j ≡ suc j = omega arith in
+          let s = h .s8 p (area-bounds l p (suc j) a u .0) .structure j a (rw e u) (λ r. n (r .0, omega arith)) in
+          ⊎-elim (by p (inr (refl, omega arith))) (by (view l .k .parent p) (inl refl)) s
+
+  -- S8 says it of two owners in order
+  apart : (p j q i : ℕ) (a b : Area) (n : ℕ) → view l .k .area p j ≡ some a → view l .k .area q i ≡ some b → InA n a → InA n b → (p ≡ q) × (j ≡ i)
+  apart p j q i a b n u v x y = go (decLt q p)
+    where
+      go : Dec (q < p) → (p ≡ q) × (j ≡ i)
+      go (yes z) = let (s, t) = h .s8 q (area-bounds l q i b v .0) .apart i p j b a n (omega arith) v u y x in (sym s, sym t)
+      go (no z) = h .s8 p (area-bounds l p j a u .0) .apart j q i a b n (omega arith) u v x y
+
+  pub sound-core : Core (view l .k)
+  sound-core =
+      let root = h .s2 0 (omega arith) .root refl in
+      record {
+        s1 = h .s1 .range;
+        s1-current = h .s1 .current;
+        s2-root = (root .0, h .s4 0 (omega arith) .root refl, root .1);
+        s2-range = area-bounds l;
+        s2-absent = absent;
+        s2-parent = orphan;
+        s2-up = up;
+        s2-climb = λ p a. h .s2 p (area-bounds l p 0 (a .0) (a .1) .0) .walk a;
+        s4 = λ p j a u n. h .s4 p (area-bounds l p j a u .0) .long j a u n;
+        s5 = λ p i e u. h .s5 p (slot-bounds l p i e u .0) .structure i e u;
+        s5-range = λ p i e u. h .s5 p (slot-bounds l p i e u .0) .range i e u;
+        s6 = λ p i j e f n u. h .s6 p (slot-bounds l p i e u .0) i j e f n u;
+        s7-root = h .s7 0 (omega arith) .root refl;
+        s7-given = λ p i e u. h .s7 p (slot-bounds l p i e u .0) .given i e u;
+        s7-in = inside;
+        s7-cover = cover;
+        s8 = backed;
+        s8-apart = apart;
+        s11 = h .s11 0 (omega arith) .root refl;
+      }
+
+-- ── and back ──
+-- What a core says of the clauses: all but zero words and zero bits (S2 absent, S3, S4 absent, S5 other), open bits (S9) and regions (S10).
+pub record Parts (k : K) : Type 0 where
+  pub s1 : S1 k
+  pub s2-root : (p : ℕ) → p ≡ 0 → (k .area p 0 ≡ some nowhere) × (k .parent p ≡ 0)
+  pub s2-parent : (p : ℕ) → (p ≡ 0 → ⊥) → Present k p → Present k (k .parent p)
+  pub s2-area : (p : ℕ) → (p ≡ 0 → ⊥) → k .area p 0 ≡ some nowhere → ⊥
+  pub s2-walk : (p : ℕ) → Present k p → Reaches (k .parent) 15 p
+  pub s4-root : (p : ℕ) → p ≡ 0 → k .area p 1 ≡ some nowhere
+  pub s4-long : (p j : ℕ) (a : Area) → k .area p j ≡ some a → (Rooted p j → ⊥) → a .lo + 16 ≤ a .hi
+  pub s5-structure : (p i : ℕ) (e : Entry) → k .slot p i ≡ some e → (a : Area) × (k .area p (1 + i / 8) ≡ some a)
+  pub s5-range : (p i : ℕ) (e : Entry) → k .slot p i ≡ some e → e .start < e .stop
+  pub s6 : (p : ℕ) → S6 k p
+  pub s7 : (p : ℕ) → S7 k p
+  pub s8 : (p : ℕ) → S8 k p
+  pub s11 : (p : ℕ) → S11 k p
+
+module _ {k : K} (h : Core k) where
+  core-s7 : (p : ℕ) → S7 k p
+  core-s7 p = record {
+    root = λ z l. rw z (h .s7-root l);
+    given = h .s7-given p;
+    inside = λ n i e u.
+        let o = h .s7-in p i e u n in
+        (o .i, o .f, record { at = o .at; given = o .given; around = record { from = o .from; to = o .to } });
+    cover = λ n a i f u g l x. rw g at (h .s7-cover (k .parent p) i f l u (λ z. n (sym g ∙ z)) x);
+  }
+
+  core-s8 : (p : ℕ) → S8 k p
+  core-s8 p = record {
+    header = λ n a u. ⊎-elim (λ o. absurd (omega (arith, o .0))) (λ e. e) (whose (h .s8 p 0 a u (λ r. n (r .0))));
+    structure = λ j a u n. ⊎-elim (λ o. inl (o .1)) inr (whose (h .s8 p (1 + j) a u n));
+    apart = λ j q i a b l _. h .s8-apart p j q i a b l;
+  }
+    where
+      whose : {j : ℕ} {a : Area} → Backed (k .slot) (k .parent) p j a → ((0 < j) × Equals k p a) ⊎ Equals k (k .parent p) a
+      whose {j} {a} b = go (b .who) (record { i = b .i; e = b .e; at = b .at; free = b .free; lo = b .lo; hi = b .hi })
+        where
+          go : (b .q ≡ k .parent p) ⊎ ((b .q ≡ p) × (0 < j)) → Equals k (b .q) a → ((0 < j) × Equals k p a) ⊎ Equals k (k .parent p) a
+          go (inl z) e = inr (rw z at e)
+          go (inr z) e = inl (z .1, rw (z .0) at e)
+
+  -- only one entry of the parent holds an entry's first line
+  core-s11 : (p : ℕ) → S11 k p
+  core-s11 p = record {
+    root = λ z i e u. h .s11 i e (rw z at u);
+    child = λ n i j e f u g.
+        let o = h .s7-in p i e u n in
+        let r = h .s5-range p i e u in
+        let s : o .i ≡ j = h .s6 (k .parent p) (o .i) j (o .f) f (e .start) (o .at) (g .at) (omega arith) (omega arith) in
+        rw (same-at (k .slot (k .parent p) j) (rw s at (o .at)) (g .at) .rights) at (o .sub);
+  }
+
+  pub core-sound : Parts k
+  core-sound = record {
+    s1 = record { range = h .s1; current = h .s1-current };
+    s2-root = λ p z. rw z (h .s2-root .0, h .s2-root .2);
+    s2-parent = λ p _. h .s2-up p;
+    s2-area = λ p n u. let w = h .s4 p 0 nowhere u (λ r. n (r .0)) in omega arith;
+    s2-walk = h .s2-climb;
+    s4-root = λ p z. rw z (h .s2-root .1);
+    s4-long = h .s4;
+    s5-structure = h .s5;
+    s5-range = h .s5-range;
+    s6 = h .s6;
+    s7 = core-s7;
+    s8 = core-s8;
+    s11 = core-s11;
+  }

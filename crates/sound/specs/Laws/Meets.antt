@@ -1,0 +1,44 @@
+-- What `meets` and `apart` say: whether two ranges share a line.
+use mathlib.Core.Path.{_≡_, refl}
+use mathlib.Core.Bool.{true, false, not, _&&_, true≢false}
+use mathlib.Core.Logic.{_↔_}
+use Prim.Native.Nat.{ℕ, _≤_, _<_, max}
+use native.Mathlib.Omega.{arith}
+use lib.Dec.{ltb}
+use borrow.Author.Tests.{ltb-true, lt-ltb, not-true}
+use Rattle.tables.specs.State.{Opt, none, some, Area}
+use Rattle.tables.specs.Laws.State.{not-none, some-inj, sameA}
+use Rattle.tables.specs.Lines.{InA}
+use Rattle.tables.specs.Settle.{meets, apart}
+use Rattle.sound.specs.Laws.Tests.{and-says, not-of}
+
+-- ── of a to b and c to d ──
+module _ (a b c d : ℕ) where
+  pub meets-no : (l : ℕ) → meets a b c d ≡ false → a ≤ l → l < b → c ≤ l → l < d → ⊥
+  unfolding meets
+  meets-no l q s t u v =
+      true≢false (rw (lt-ltb a b (omega arith), lt-ltb c d (omega arith), lt-ltb a d (omega arith), lt-ltb c b (omega arith)) at q)
+
+  pub meets-yes : meets a b c d ≡ true → (l : ℕ) × (a ≤ l) × (l < b) × (c ≤ l) × (l < d)
+  unfolding meets
+  meets-yes q =
+      let x = and-says (ltb a b && ltb c d && ltb a d) (ltb c b) q in
+      let y = and-says (ltb a b && ltb c d) (ltb a d) (x .0) in
+      let z = and-says (ltb a b) (ltb c d) (y .0) in
+      (max a c, omega arith, omega (arith, ltb-true), omega arith, omega (arith, ltb-true))
+
+  -- they share no line
+  pub meets-not : (not (meets a b c d) ≡ true) ↔ ((l : ℕ) → a ≤ l → l < b → c ≤ l → l < d → ⊥)
+  meets-not = (
+    λ q l. meets-no l (not-true (meets a b c d) q),
+    λ h. not-of (meets a b c d) (λ q. let m = meets-yes q in h (m .0) (m .1) (m .2) (m .3) (m .4)),
+  )
+
+-- an area, or none, shares no line with a to b
+pub apart-means : (o : Opt Area) (a b : ℕ) → (apart o a b ≡ true) ↔ ((x : Area) (l : ℕ) → o ≡ some x → InA l x → a ≤ l → l < b → ⊥)
+unfolding apart
+apart-means none a b = (λ q x l u. not-none none refl u, λ h. refl)
+apart-means (some y) a b = (
+  λ q x l u i s t. let e = sameA (some-inj u) in meets-not (y .lo) (y .hi) a b .0 q l (omega arith) (omega arith) s t,
+  λ h. meets-not (y .lo) (y .hi) a b .1 (λ l u v. h y l refl (record { from = u; to = v })),
+)

@@ -1,0 +1,4 @@
+pub mod Frame
+pub mod Served
+pub mod Theorem
+pub mod TwoLists

@@ -1,0 +1,15 @@
+-- Of each kind of word: which fields are in range, and that it is lawful, so that both round trips of Kind hold of it.
+use Prim.Native.Nat.{ℕ}
+use Rattle.words.specs.Kind.{fieldsIn, wordOf}
+use Rattle.words.specs.Words.{mark}
+
+-- ── marks ──
+-- the line and the holder in a mark, and the mark of the two
+abbrev pub lineIn : ℕ → ℕ
+lineIn m = fieldsIn mark m .line .0
+
+abbrev pub holderIn : ℕ → ℕ
+holderIn m = fieldsIn mark m .holder .0
+
+abbrev pub markFor : ℕ → ℕ → ℕ
+markFor l p = wordOf mark (record { line = record { 0 = l }; holder = record { 0 = p } })

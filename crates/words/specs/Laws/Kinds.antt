@@ -1,0 +1,107 @@
+-- Which fields of each kind are in range; each kind is lawful; and a mark fits 32 bits.
+use mathlib.Core.Path.{_≡_, refl, ap}
+use Prim.Native.Nat.{ℕ, _+_, _/_, _^_, _<_}
+use native.Mathlib.Omega.{arith}
+use Rattle.loops.specs.Laws.Bit.{flag-bit, bit-mod, bit-lt}
+use Rattle.words.specs.Kind.{fieldsIn, wordOf, InRange, Lawful}
+use Rattle.words.specs.Laws.Kind.{fields-back}
+use Rattle.words.specs.Words.{first, header, structure, regions, slot, call, boot, mark}
+use Rattle.words.specs.declared.boot_word.BootFields.{BootFields}
+use Rattle.words.specs.declared.call_word.CallFields.{CallFields}
+use Rattle.words.specs.declared.first_word.FirstFields.{FirstFields}
+use Rattle.words.specs.declared.header_word.HeaderFields.{HeaderFields}
+use Rattle.words.specs.declared.mark_word.MarkFields.{MarkFields}
+use Rattle.words.specs.declared.regions_word.RegionsFields.{RegionsFields}
+use Rattle.words.specs.declared.slot_word.SlotFields.{SlotFields}
+use Rattle.words.specs.declared.structure_word.StructureFields.{StructureFields}
+use Rattle.words.specs.Kinds.{lineIn, holderIn, markFor}
+
+-- ── in range: no field is too wide (a flag never is) ──
+pub first-range : (f : FirstFields) → f .base .0 < 2 ^ 27 → f .end .0 < 2 ^ 27 → f .current .0 < 16 → InRange first f
+unfolding first
+first-range f a b c = (a, (b, (c, tt)))
+
+pub header-range : (f : HeaderFields) → f .parent .0 < 16 → f .start .0 < 2 ^ 27 → f .end .0 < 2 ^ 27 → InRange header f
+unfolding header
+header-range f a b c = search bit-lt
+
+pub structure-range : (f : StructureFields) → f .start .0 < 2 ^ 27 → f .end .0 < 2 ^ 27 → InRange structure f
+unfolding structure
+structure-range f a b = search bit-lt
+
+pub regions-range : (f : RegionsFields) → f .region0 .slot .0 < 32 → f .region1 .slot .0 < 32 → f .region2 .slot .0 < 32 → f .region3 .slot .0 < 32
+    → f .region4 .slot .0 < 32 → f .region5 .slot .0 < 32 → f .region6 .slot .0 < 32 → f .region7 .slot .0 < 32 → InRange regions f
+unfolding regions
+regions-range f a b c d e g h i =
+    (bit-lt (f .region0 .loaded), (a, (bit-lt (f .region1 .loaded), (b, (bit-lt (f .region2 .loaded), (c, (bit-lt (f .region3 .loaded), (d, (bit-lt (f .region4 .loaded), (e, (bit-lt (f .region5 .loaded), (g, (bit-lt (f .region6 .loaded), (h, (bit-lt (f .region7 .loaded), (i, tt))))))))))))))))
+
+-- none of eight slots leaves a quotient
+pub eight-slots : (a b c d e g h i : ℕ) → a / 32 + (b / 32 + (c / 32 + (d / 32 + (e / 32 + (g / 32 + (h / 32 + i / 32)))))) ≡ 0
+    → (a < 32) × (b < 32) × (c < 32) × (d < 32) × (e < 32) × (g < 32) × (h < 32) × (i < 32)
+eight-slots a b c d e g h i q =
+    (omega arith, omega arith, omega arith, omega arith, omega arith, omega arith, omega arith, omega arith)
+
+pub slot-range : (f : SlotFields) → f .given .0 < 16 → f .start .0 < 2 ^ 27 → f .end .0 < 2 ^ 27 → InRange slot f
+unfolding slot
+slot-range f a b c = search bit-lt
+
+pub call-range : (f : CallFields) → f .service < 16 → f .partition .0 < 16 → f .slot .0 < 32 → f .other < 32 → f .line .0 < 2 ^ 27 → InRange call f
+unfolding call
+call-range f a b c d e = search bit-lt
+
+pub boot-range : (f : BootFields) → f .base .0 < 2 ^ 27 → f .end .0 < 2 ^ 27 → InRange boot f
+unfolding boot
+boot-range f a b = (a, (b, tt))
+
+pub mark-range : (f : MarkFields) → f .line .0 < 2 ^ 27 → f .holder .0 < 16 → InRange mark f
+unfolding mark
+mark-range f a b = (a, (b, tt))
+
+-- ── lawful ──
+pub first-lawful : Lawful first
+unfolding first
+first-lawful = record { whole = refl; of-list = λ f. refl; list-of = λ w. refl }
+
+pub header-lawful : Lawful header
+unfolding header
+header-lawful = record { whole = refl; of-list = λ f. simp flag-bit; list-of = λ w. simp bit-mod }
+
+pub structure-lawful : Lawful structure
+unfolding structure
+structure-lawful = record { whole = refl; of-list = λ f. simp flag-bit; list-of = λ w. simp bit-mod }
+
+pub regions-lawful : Lawful regions
+unfolding regions
+regions-lawful = record { whole = refl; of-list = λ f. simp flag-bit; list-of = λ w. simp bit-mod }
+
+pub slot-lawful : Lawful slot
+unfolding slot
+slot-lawful = record { whole = refl; of-list = λ f. simp flag-bit; list-of = λ w. simp bit-mod }
+
+pub call-lawful : Lawful call
+unfolding call
+call-lawful = record { whole = refl; of-list = λ f. simp flag-bit; list-of = λ w. simp bit-mod }
+
+pub boot-lawful : Lawful boot
+unfolding boot
+boot-lawful = record { whole = refl; of-list = λ f. refl; list-of = λ w. refl }
+
+pub mark-lawful : Lawful mark
+unfolding mark
+mark-lawful = record { whole = refl; of-list = λ f. refl; list-of = λ w. refl }
+
+-- ── marks ──
+-- a mark fits 32 bits
+pub mark-small : (f : MarkFields) → f .line .0 < 2 ^ 27 → f .holder .0 < 16 → wordOf mark f < 2 ^ 32
+unfolding mark
+mark-small f a b = omega arith
+
+module _ (l p : ℕ) (a : l < 2 ^ 27) (b : p < 16) where
+  mark-back : fieldsIn mark (markFor l p) ≡ record { line = record { 0 = l }; holder = record { 0 = p } }
+  mark-back = fields-back mark-lawful _ (mark-range _ a b)
+
+  pub line-in : lineIn (markFor l p) ≡ l
+  line-in = ap (λ (f : MarkFields). f .line .0) mark-back
+
+  pub holder-in : holderIn (markFor l p) ≡ p
+  holder-in = ap (λ (f : MarkFields). f .holder .0) mark-back

@@ -1,0 +1,17 @@
+use Rattle.writing.specs.Laws.Stored.{region-cleared}
+use borrow.Author.Needs.{needs}
+use Rattle.writing.proofs.clear_region.Statement.{statement}
+use Rattle.writing.proofs.clear_region.Tie as tie
+
+pub clear-region-spec : {M : Type 1} → statement M
+clear-region-spec =
+    tie.close
+    (tie.spec
+    (λ c. search needs)
+    (λ c. search needs)
+    (λ c. search needs)
+    (λ c κs. search needs)
+    (λ c κs. search needs)
+    (λ c κs. search needs)
+    (λ c κs. search needs)
+    (λ c. rw (c .store .ensures, c .before .write .ensures, c .before .before .before .with-region .ensures) (region-cleared (c .before .before .before .before .before .before .before .pre) (c .before .before .before .before .regions .ensures))))

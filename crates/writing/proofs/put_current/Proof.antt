@@ -1,0 +1,13 @@
+use Rattle.writing.specs.Laws.Stored.{current-stored}
+use borrow.Author.Needs.{needs}
+use Rattle.writing.proofs.put_current.Statement.{statement}
+use Rattle.writing.proofs.put_current.Tie as tie
+
+pub put-current-spec : {M : Type 1} → statement M
+put-current-spec =
+    tie.close
+    (tie.spec
+    (λ c κs. search needs)
+    (λ c κs. search needs)
+    (λ c κs. search needs)
+    (λ c. rw (c .store .ensures, c .before .write .ensures) (current-stored (c .before .before .before .before .before .pre) (c .before .before .before .first .ensures))))

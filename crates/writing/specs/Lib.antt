@@ -1,0 +1,3 @@
+pub mod CanWrite
+pub mod Stored
+pub mod Laws
