@@ -16,7 +16,8 @@ use Rattle.sound.specs.Laws.Canonical.{sound-canon}
 use Rattle.sound.specs.Properties.{Isolated}
 use Rattle.sound.specs.Laws.Properties.{sound-isolated}
 use Rattle.sound.specs.Whole.{Right}
-use Rattle.sound.specs.Laws.Whole.{sound-means, sound-right}
+use Rattle.sound.specs.Laws.List.{sound-means}
+use Rattle.sound.specs.Laws.Whole.{sound-right}
 use Rattle.rules.specs.Rules.{Result, done, refused, serve, callOn, bootOn, wordsAfter}
 use Rattle.rules.specs.Laws.Ran.{check-done}
 use Rattle.rules.specs.Laws.Calls.{call-as}

@@ -17,7 +17,7 @@ use Rattle.tables.specs.declared.Outcome.the-variants.{Done, Refused}
 use Rattle.sound.specs.Sound.{Sound}
 use Rattle.sound.specs.Laws.Core.{sound-core}
 use Rattle.sound.specs.Laws.Properties.{holder-present, held-range}
-use Rattle.sound.specs.Laws.Whole.{sound-means}
+use Rattle.sound.specs.Laws.List.{sound-means}
 use Rattle.sound.specs.Holders.{holdersOf, inMemory, Listed}
 use Rattle.sound.specs.Laws.Holders.{below-base, from-end, in-memory, listed-one, listed-outside, listed-done}
 use Rattle.rules.specs.Rules.{done, bootOn}

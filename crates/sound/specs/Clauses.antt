@@ -167,18 +167,20 @@ s11 k p =
     (all 32 (λ i. when (λ e. all 32 (λ j. when (λ f. not (grants p e f) || within (e .rights) (f .rights)) (k .slot (k .parent p) j))) (k .slot p i)))
 
 -- ── all clauses at all partitions ──
+-- the test of clause n of the eleven at partition p; S1, and S3 of word 0, are looked at with partition 0
+unfoldable pub clauseAt : List ℕ → ℕ → ℕ → Bool
+clauseAt l n p =
+    cond (eqb n 1) (not (eqb p 0) || s1 (view l .k))
+    (cond (eqb n 2) (s2 l (view l .k) p)
+    (cond (eqb n 3) ((not (eqb p 0) || s3First l) && s3 l p)
+    (cond (eqb n 4) (s4 l (view l .k) p)
+    (cond (eqb n 5) (s5 l (view l .k) p)
+    (cond (eqb n 6) (s6 (view l .k) p)
+    (cond (eqb n 7) (s7 (view l .k) p)
+    (cond (eqb n 8) (s8 (view l .k) p)
+    (cond (eqb n 9) (s9 (view l) p)
+    (cond (eqb n 10) (s10 (view l) p)
+    (s11 (view l .k) p))))))))))
+
 unfoldable pub sound : List ℕ → Bool
-sound l =
-    eqb (length l) 641
-    && s1 (view l .k)
-    && all 16 (s2 l (view l .k))
-    && s3First l
-    && all 16 (s3 l)
-    && all 16 (s4 l (view l .k))
-    && all 16 (s5 l (view l .k))
-    && all 16 (s6 (view l .k))
-    && all 16 (s7 (view l .k))
-    && all 16 (s8 (view l .k))
-    && all 16 (s9 (view l))
-    && all 16 (s10 (view l))
-    && all 16 (s11 (view l .k))
+sound l = eqb (length l) 641 && all 11 (λ m. all 16 (clauseAt l (1 + m)))

@@ -1,3 +1,4 @@
+pub mod Sound
 pub mod Tests
 pub mod Means
 pub mod Meets
@@ -7,6 +8,7 @@ pub mod MeansAreas
 pub mod MeansWords
 pub mod Opens
 pub mod MeansRegions
+pub mod List
 pub mod Canonical
 pub mod Core
 pub mod Properties

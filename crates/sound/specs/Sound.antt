@@ -1,10 +1,11 @@
 -- A sound table: 01's clauses S1 to S11, as propositions. Each is said of one partition p, so that a failing one can be named.
 use mathlib.Core.Path.{_≡_}
-use mathlib.Core.Bool.{true, false}
+use mathlib.Core.Bool.{true, false, cond}
 use mathlib.Core.List.{List}
 use mathlib.Core.Logic.{_⊎_, _↔_}
 use Prim.Native.Nat.{ℕ, _+_, _/_, _≤_, _<_}
 use lib.ListN.{length}
+use lib.Dec.{eqb}
 use Rattle.loops.specs.Climb.{Reaches}
 use Rattle.words.specs.Kind.{Zeroed}
 use Rattle.words.specs.Words.{first, header, structure, regions, slot}
@@ -120,17 +121,26 @@ pub record S11 (k : K) (p : ℕ) : Type 0 where
   pub root : p ≡ 0 → (i : ℕ) (e : Entry) → k .slot p i ≡ some e → e .rights ≡ allRights
   pub child : (p ≡ 0 → ⊥) → (i j : ℕ) (e f : Entry) → k .slot p i ≡ some e → Granted k p e j f → Sub (e .rights) (f .rights)
 
+-- Clause n of the eleven at partition p. S1, and S3 of word 0, are looked at with partition 0.
+abbrev pub Clause : List ℕ → ℕ → ℕ → Type 0
+Clause l n p =
+    cond (eqb n 1) (p ≡ 0 → S1 (view l .k))
+    (cond (eqb n 2) (S2 l (view l .k) p)
+    (cond (eqb n 3) ((p ≡ 0 → Zeroed first (firstWord l)) × S3 l p)
+    (cond (eqb n 4) (S4 l (view l .k) p)
+    (cond (eqb n 5) (S5 l (view l .k) p)
+    (cond (eqb n 6) (S6 (view l .k) p)
+    (cond (eqb n 7) (S7 (view l .k) p)
+    (cond (eqb n 8) (S8 (view l .k) p)
+    (cond (eqb n 9) (S9 (view l) p)
+    (cond (eqb n 10) (S10 (view l) p)
+    (S11 (view l .k) p))))))))))
+
+-- the clauses below n hold at every partition
+abbrev pub Lower : List ℕ → ℕ → Type 0
+Lower l n = (m : ℕ) → 1 ≤ m → m < n → (p : ℕ) → p < 16 → Clause l m p
+
+-- 641 words, and S1 to S11 at every partition
 pub record Sound (l : List ℕ) : Type 0 where
   pub size : length l ≡ 641
-  pub s1 : S1 (view l .k)
-  pub s2 : (p : ℕ) → p < 16 → S2 l (view l .k) p
-  pub s3-first : Zeroed first (firstWord l)
-  pub s3 : (p : ℕ) → p < 16 → S3 l p
-  pub s4 : (p : ℕ) → p < 16 → S4 l (view l .k) p
-  pub s5 : (p : ℕ) → p < 16 → S5 l (view l .k) p
-  pub s6 : (p : ℕ) → p < 16 → S6 (view l .k) p
-  pub s7 : (p : ℕ) → p < 16 → S7 (view l .k) p
-  pub s8 : (p : ℕ) → p < 16 → S8 (view l .k) p
-  pub s9 : (p : ℕ) → p < 16 → S9 (view l) p
-  pub s10 : (p : ℕ) → p < 16 → S10 (view l) p
-  pub s11 : (p : ℕ) → p < 16 → S11 (view l .k) p
+  pub clauses : Lower l 12

@@ -1,13 +1,12 @@
--- Exactly the sound tables pass; and canonical words are sound exactly where their table is right.
+-- What the theory of the services keeps of a sound table.
 use mathlib.Core.Path.{_≡_}
 use mathlib.Core.Bool.{false}
 use Prim.Native.Nat.{ℕ, _^_, _<_}
 use Rattle.tables.specs.State.{none, some, Table}
 use Rattle.sound.specs.Sound.{S9, S10}
-use Rattle.sound.specs.Clauses.{s9, s10}
 use Rattle.sound.specs.Core.{Core}
 
--- what the theory keeps of a table, apart from its words: its end is a line, what is empty is closed, and it has eight regions
+-- all but its words: its end is a line, what is empty is closed, and it has eight regions
 pub record Right (t : Table) : Type 0 where
   pub core : Core (t .k)
   pub stop : t .k .stop < 2 ^ 27

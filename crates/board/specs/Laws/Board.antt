@@ -21,7 +21,7 @@ use Rattle.tables.specs.declared.Outcome.{Outcome}
 use Rattle.tables.specs.declared.Outcome.the-variants.{Done, Refused}
 use Rattle.sound.specs.Sound.{Sound}
 use Rattle.sound.specs.Clauses.{sound}
-use Rattle.sound.specs.Laws.Whole.{sound-means}
+use Rattle.sound.specs.Laws.List.{sound-means}
 use Rattle.shape.specs.Laws.Absent.{header-tells}
 use Rattle.sound.specs.Laws.Holders.{wrong-length, holders-few, listed-unsound, listed-copy}
 use Rattle.sound.specs.Holders.{inMemory, holdersOf, holdersOutcome, Listed}

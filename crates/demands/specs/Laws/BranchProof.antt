@@ -12,7 +12,7 @@ use Rattle.memory.specs.Bytes.{byteAt, bytesOf, recordByte}
 use Rattle.memory.specs.Laws.ByteTrips.{bytes-words, record-byte}
 use Rattle.sound.specs.Sound.{Present, Sound}
 use Rattle.sound.specs.Whole.{Right}
-use Rattle.sound.specs.Laws.Whole.{sound-means}
+use Rattle.sound.specs.Laws.List.{sound-means}
 use Rattle.rules.specs.Rules.{Result, done, refused, callOn, wordsAfter}
 use Rattle.rules.specs.Ran.{outcomeOf}
 use Rattle.rules.specs.Calls.{callerOf}

@@ -21,7 +21,7 @@ use Rattle.sound.specs.Clauses.{sound}
 use Rattle.sound.specs.Properties.{Isolated}
 use Rattle.sound.specs.Laws.Properties.{sound-isolated}
 use Rattle.sound.specs.Whole.{Right}
-use Rattle.sound.specs.Laws.Whole.{sound-means}
+use Rattle.sound.specs.Laws.List.{sound-means}
 use Rattle.rules.specs.Rules.{Result, done, refused, callOn, wordsAfter}
 use Rattle.rules.specs.Ran.{outcomeOf}
 use Rattle.rules.specs.Calls.{callerOf}

@@ -17,7 +17,7 @@ use Rattle.sound.specs.Sound.{Sound}
 use Rattle.sound.specs.Laws.Core.{sound-core}
 use Rattle.sound.specs.Clauses.{sound}
 use Rattle.sound.specs.Laws.Means.{le-means, lt-means, and-means}
-use Rattle.sound.specs.Laws.Whole.{sound-means}
+use Rattle.sound.specs.Laws.List.{sound-means}
 use Rattle.sound.specs.Holders.{holdersOf, inMemory, holdersOutcome, holdersBytes}
 use Rattle.rules.specs.Rules.{Result, done, refused, check}
 use Rattle.rules.specs.Ran.{outcomeOf}

@@ -14,7 +14,8 @@ use Rattle.tables.specs.Fitting.{Words}
 use Rattle.sound.specs.Laws.Canonical.{sound-canon}
 use Rattle.sound.specs.Laws.Means.{eq-means, and-means, has-means}
 use Rattle.sound.specs.Whole.{Right}
-use Rattle.sound.specs.Laws.Whole.{sound-means, sound-right}
+use Rattle.sound.specs.Laws.List.{sound-means}
+use Rattle.sound.specs.Laws.Whole.{sound-right}
 use Rattle.rules.specs.Rules.{Result, noRights, Uses, uses, unused, regionCall, known, serve, callOn}
 use Rattle.rules.specs.Laws.Calls.{call-as}
 use Rattle.rules.specs.Laws.Each.{perform-each}

@@ -26,7 +26,7 @@ use Rattle.sound.specs.Laws.Means.{eq-means, le-means, lt-means, and-means, or-
 use Rattle.sound.specs.Laws.Tests.{and-says, and-true}
 use Rattle.sound.specs.Laws.Properties.{siblings-one}
 use Rattle.sound.specs.Whole.{Right}
-use Rattle.sound.specs.Laws.Whole.{sound-means}
+use Rattle.sound.specs.Laws.List.{sound-means}
 use Rattle.rules.specs.Rules.{Result, done, refused, zeroed, remove, branch, create, delete, give, take, clearOut, serve, callOn, bootOn, wordsAfter}
 use Rattle.rules.specs.Laws.Each.{done-each}
 use Rattle.rules.specs.Ran.{outcomeOf}

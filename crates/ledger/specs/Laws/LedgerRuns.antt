@@ -12,7 +12,7 @@ use Rattle.tables.specs.Encode.{encode}
 use Rattle.tables.specs.declared.Outcome.{Outcome}
 use Rattle.sound.specs.Sound.{Sound}
 use Rattle.sound.specs.Laws.Core.{sound-core}
-use Rattle.sound.specs.Laws.Whole.{sound-means}
+use Rattle.sound.specs.Laws.List.{sound-means}
 use Rattle.sound.specs.Holders.{trail, holdersOf}
 use Rattle.rules.specs.Rules.{done, bootOn}
 use Rattle.isolation.specs.Whole.{afterAll, from-boot-sound}

@@ -18,7 +18,8 @@ use Rattle.tables.specs.Settle.{settled}
 use Rattle.sound.specs.Laws.Tests.{or-says}
 use Rattle.sound.specs.Clauses.{sound}
 use Rattle.sound.specs.Laws.Canonical.{sound-canon}
-use Rattle.sound.specs.Laws.Whole.{sound-means, sound-right}
+use Rattle.sound.specs.Laws.List.{sound-means}
+use Rattle.sound.specs.Laws.Whole.{sound-right}
 use Rattle.sound.specs.Laws.Settled.{right-settled, settled-words}
 use Rattle.rules.specs.Rules.{Result, check, need, readRegion, find, known, perform, serve, callOn, wordsAfter}
 use Rattle.rules.specs.Laws.Each.{perform-at}

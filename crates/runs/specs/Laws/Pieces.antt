@@ -17,7 +17,7 @@ use Rattle.tables.specs.Laws.Search.{lowest-some, lowest-none}
 use Rattle.sound.specs.Clauses.{sound}
 use Rattle.sound.specs.Core.{Core}
 use Rattle.sound.specs.Laws.Core.{sound-core}
-use Rattle.sound.specs.Laws.Whole.{sound-means}
+use Rattle.sound.specs.Laws.List.{sound-means}
 use Rattle.sound.specs.Laws.MeansEntries.{holds-means}
 use Rattle.sound.specs.Holders.{givenTo, givenBy, heir, deepest}
 use Rattle.sound.specs.Laws.Holders.{deepest-here, deepest-last, deepest-down}

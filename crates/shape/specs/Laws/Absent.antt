@@ -21,13 +21,14 @@ use Rattle.tables.specs.Search.{present}
 use Rattle.tables.specs.Settle.{openBit, openAt}
 use Rattle.memory.specs.ByteRecords.{HeaderTells}
 use Rattle.sound.specs.Sound.{Sound}
+use Rattle.sound.specs.Laws.Sound.{s2-of}
 use Rattle.sound.specs.Clauses.{when, s3, rooted, s4Area, s4Absent, s4, s5Slot, s5, apartE, s6, s7Given, s7, s8Backed, s9, s10Names, s10Once, s10, s11}
 use Rattle.sound.specs.Laws.Tests.{and-true}
 use Rattle.sound.specs.Laws.MeansWords.{s3-means}
 
 -- in a sound table the header's word alone tells that a partition is absent
 pub header-tells : {l : List ℕ} → Sound l → HeaderTells l
-header-tells {l} s = record { zero = λ p b q. s .s2 p b .absent (no-area l p 0 (λ _ _. q)) }
+header-tells {l} s = record { zero = λ p b q. s2-of s p b .absent (no-area l p 0 (λ _ _. q)) }
 
 -- ── a zero record ──
 module _ (l : List ℕ) (p : ℕ) (z : zeroRecord l p ≡ true) where

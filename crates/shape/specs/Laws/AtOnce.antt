@@ -1,16 +1,19 @@
 -- The clauses in that order pass exactly where `sound` does; and what is known of a record whose shape passed.
 use mathlib.Core.Path.{_≡_}
-use mathlib.Core.Bool.{Bool, true, _&&_}
+use mathlib.Core.Bool.{Bool, true, not, _&&_, _||_}
 use mathlib.Core.List.{List}
-use Prim.Native.Nat.{ℕ, _<_}
+use Prim.Native.Nat.{ℕ, _≤_, _<_}
+use native.Mathlib.Omega.{arith}
 use lib.ListN.{length}
 use lib.Dec.{eqb}
+use borrow.Author.Tests.{eqb-true, eq-eqb}
 use Rattle.loops.specs.Every.{all}
 use Rattle.loops.specs.Laws.Every.{bool-ext, all-at, all-of}
 use Rattle.tables.specs.State.{K}
 use Rattle.tables.specs.View.{view}
-use Rattle.sound.specs.Clauses.{s1, s2, s3First, s3, s4, s5, s6, s7, s8Backed, s8Apart, s8, s9, s10, s11, sound}
-use Rattle.sound.specs.Laws.Tests.{and-says, and-true}
+use Rattle.sound.specs.Clauses.{s1, s2, s3First, s3, s4, s5, s6, s7, s8Backed, s8Apart, s8, s9, s10, s11, clauseAt, sound}
+use Rattle.sound.specs.Laws.Tests.{and-says, and-true, or-right}
+use Rattle.sound.specs.Laws.List.{each-clause, sound-passed, passed-sound}
 use Rattle.shape.specs.AtOnce.{restAt, shapeAt, Shaped}
 
 -- no two areas share a line
@@ -58,40 +61,31 @@ rest-says l p q =
 
 module _ (l : List ℕ) where
   to : sound l ≡ true → atOnce l ≡ true
-  unfolding sound atOnce areasApart s8
+  unfolding atOnce areasApart clauseAt s8
   to q =
-      let (r11, q11) = and-says _ _ q in
-      let (r10, q10) = and-says _ _ r11 in
-      let (r9, q9) = and-says _ _ r10 in
-      let (r8, q8) = and-says _ _ r9 in
-      let (r7, q7) = and-says _ _ r8 in
-      let (r6, q6) = and-says _ _ r7 in
-      let (r5, q5) = and-says _ _ r6 in
-      let (r4, q4) = and-says _ _ r5 in
-      let (r3, q3) = and-says _ _ r4 in
-      let (r2, qf) = and-says _ (s3First l) r3 in
-      let (r1, q2) = and-says _ _ r2 in
-      let (q0, q1) = and-says (eqb (length l) 641) (s1 (view l .k)) r1 in
-      let at8 : (p : ℕ) → p < 16 → (all 5 (s8Backed (view l .k) p) ≡ true) × (all 5 (s8Apart (view l .k) p) ≡ true) = λ p b. and-says (all 5 (s8Backed (view l .k) p)) (all 5 (s8Apart (view l .k) p)) (all-at 16 (s8 (view l .k)) q8 p b) in
+      let (size, t) = sound-passed l q in
+      let at : (n : ℕ) → 1 ≤ n → n < 12 → (p : ℕ) → p < 16 → clauseAt l n p ≡ true = t in
+      let at3 : (p : ℕ) → p < 16 → (not (eqb p 0) || s3First l ≡ true) × (s3 l p ≡ true) = λ p b. and-says (not (eqb p 0) || s3First l) (s3 l p) (at 3 (omega arith) (omega arith) p b) in
+      let at8 : (p : ℕ) → p < 16 → (all 5 (s8Backed (view l .k) p) ≡ true) × (all 5 (s8Apart (view l .k) p) ≡ true) = λ p b. and-says (all 5 (s8Backed (view l .k) p)) (all 5 (s8Apart (view l .k) p)) (at 8 (omega arith) (omega arith) p b) in
       and-true _ _
-      (and-true _ _ (and-true _ _ q0 (and-true _ _ q1 qf))
+      (and-true _ _ (and-true _ _ (eq-eqb (length l) 641 size) (and-true _ _ (at 1 (omega arith) (omega arith) 0 (omega arith)) (at3 0 (omega arith) .0)))
       (all-of 16 (λ p. s2 l (view l .k) p && restAt l p) (λ p b.
-      and-true _ _ (all-at 16 (s2 l (view l .k)) q2 p b)
+      and-true _ _ (at 2 (omega arith) (omega arith) p b)
       (rest-true l p (record {
-        s3 = all-at 16 (s3 l) q3 p b;
-        s4 = all-at 16 (s4 l (view l .k)) q4 p b;
-        s5 = all-at 16 (s5 l (view l .k)) q5 p b;
-        s6 = all-at 16 (s6 (view l .k)) q6 p b;
-        s7 = all-at 16 (s7 (view l .k)) q7 p b;
-        s11 = all-at 16 (s11 (view l .k)) q11 p b;
+        s3 = at3 p b .1;
+        s4 = at 4 (omega arith) (omega arith) p b;
+        s5 = at 5 (omega arith) (omega arith) p b;
+        s6 = at 6 (omega arith) (omega arith) p b;
+        s7 = at 7 (omega arith) (omega arith) p b;
+        s11 = at 11 (omega arith) (omega arith) p b;
         s8 = at8 p b .0;
-        s9 = all-at 16 (s9 (view l)) q9 p b;
-        s10 = all-at 16 (s10 (view l)) q10 p b;
+        s9 = at 9 (omega arith) (omega arith) p b;
+        s10 = at 10 (omega arith) (omega arith) p b;
       })))))
       (all-of 16 (λ p. all 5 (s8Apart (view l .k) p)) (λ p b. at8 p b .1))
 
   back : atOnce l ≡ true → sound l ≡ true
-  unfolding sound atOnce areasApart s8
+  unfolding atOnce areasApart clauseAt s8
   back q =
       let (r, a8) = and-says _ _ q in
       let (z, w) = and-says _ _ r in
@@ -99,28 +93,19 @@ module _ (l : List ℕ) where
       let (q1, qf) = and-says (s1 (view l .k)) (s3First l) z1 in
       let at : (p : ℕ) → p < 16 → (s2 l (view l .k) p ≡ true) × (restAt l p ≡ true) = λ p b. and-says (s2 l (view l .k) p) (restAt l p) (all-at 16 (λ p. s2 l (view l .k) p && restAt l p) w p b) in
       let on : (p : ℕ) → p < 16 → Passes l p = λ p b. rest-says l p (at p b .1) in
-      and-true _ _
-      (and-true _ _
-      (and-true _ _
-      (and-true _ _
-      (and-true _ _
-      (and-true _ _
-      (and-true _ _
-      (and-true _ _
-      (and-true _ _
-      (and-true _ _
-      (and-true _ _ (and-true _ _ q0 q1)
-      (all-of 16 (s2 l (view l .k)) (λ p b. at p b .0)))
-      qf)
-      (all-of 16 (s3 l) (λ p b. on p b .s3)))
-      (all-of 16 (s4 l (view l .k)) (λ p b. on p b .s4)))
-      (all-of 16 (s5 l (view l .k)) (λ p b. on p b .s5)))
-      (all-of 16 (s6 (view l .k)) (λ p b. on p b .s6)))
-      (all-of 16 (s7 (view l .k)) (λ p b. on p b .s7)))
-      (all-of 16 (s8 (view l .k)) (λ p b. and-true _ _ (on p b .s8) (all-at 16 (λ p. all 5 (s8Apart (view l .k) p)) a8 p b))))
-      (all-of 16 (s9 (view l)) (λ p b. on p b .s9)))
-      (all-of 16 (s10 (view l)) (λ p b. on p b .s10)))
-      (all-of 16 (s11 (view l .k)) (λ p b. on p b .s11))
+      passed-sound l (eqb-true (length l) 641 q0)
+      (each-clause (λ n. (p : ℕ) → p < 16 → clauseAt l n p ≡ true)
+      (λ p b. or-right (not (eqb p 0)) (s1 (view l .k)) q1)
+      (λ p b. at p b .0)
+      (λ p b. and-true (not (eqb p 0) || s3First l) (s3 l p) (or-right (not (eqb p 0)) (s3First l) qf) (on p b .s3))
+      (λ p b. on p b .s4)
+      (λ p b. on p b .s5)
+      (λ p b. on p b .s6)
+      (λ p b. on p b .s7)
+      (λ p b. and-true _ _ (on p b .s8) (all-at 16 (λ p. all 5 (s8Apart (view l .k) p)) a8 p b))
+      (λ p b. on p b .s9)
+      (λ p b. on p b .s10)
+      (λ p b. on p b .s11))
 
   pub sound-at-once : atOnce l ≡ sound l
   sound-at-once = bool-ext (atOnce l) (sound l) back to

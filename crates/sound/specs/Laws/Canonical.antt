@@ -9,24 +9,25 @@ use Rattle.tables.specs.Fitting.{Words}
 use Rattle.tables.specs.Laws.Spelling.{SpellsAt, spells-canon, zero-areas}
 use Rattle.tables.specs.Laws.Canonical.{first-kept, header-kept, structure-kept, slot-kept, regions-kept, header-clean, structure-clean, slot-clean, regions-clean, unloaded-blank, blank-clean}
 use Rattle.sound.specs.Sound.{Sound, S3}
+use Rattle.sound.specs.Laws.Sound.{s2-of, s3-first-of, s3-of, s4-of, s5-of}
 
 module _ {l : List ℕ} (fits : Words l) (s : Sound l) where
   record-kept : (p : ℕ) → p < 16 → SpellsAt l (view l) p
   record-kept p b =
-      let z = s .s3 p b in
+      let z = s3-of s p b in
       record {
-        header = header-kept fits p b (z .header-bits) (λ n. zero-areas l p (s .s2 p b .absent n) 0 (omega arith));
+        header = header-kept fits p b (z .header-bits) (λ n. zero-areas l p (s2-of s p b .absent n) 0 (omega arith));
         structure = λ j x y. structures (j - 1) j (omega arith) y;
         regions = regions-kept fits p b (z .region-bits) (z .unloaded);
         blank = z .blank;
-        slot = λ i x. slot-kept fits p b i x (z .slot-bits i x) (s .s5 p b .other i x);
+        slot = λ i x. slot-kept fits p b i x (z .slot-bits i x) (s5-of s p b .other i x);
       }
     where
       structures : (i j : ℕ) → 1 + i ≡ j → j < 5 → areaWordAt l p j ≡ structureWord (view l .k .area p j)
-      structures i j e y = rw (← e) (structure-kept fits p b i (omega arith) (s .s3 p b .structure-bits i (omega arith)) (s .s4 p b .absent i (omega arith)))
+      structures i j e y = rw (← e) (structure-kept fits p b i (omega arith) (s3-of s p b .structure-bits i (omega arith)) (s4-of s p b .absent i (omega arith)))
 
   pub sound-canon : Canon l
-  sound-canon = spells-canon (s .size) (record { first = first-kept fits (s .s3-first); at = record-kept })
+  sound-canon = spells-canon (s .size) (record { first = first-kept fits (s3-first-of s); at = record-kept })
 
 pub canon-s3 : {l : List ℕ} → Canon l → (p : ℕ) → p < 16 → S3 l p
 canon-s3 c p b = record {

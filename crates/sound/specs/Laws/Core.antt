@@ -15,6 +15,7 @@ use Rattle.tables.specs.Laws.ZeroWord.{no-area, no-parent}
 use Rattle.tables.specs.Lines.{In, InA, Holds}
 use Rattle.sound.specs.Sound.{Present, Rooted, Equals, S1, S2, S6, S7, S8, S11, Sound}
 use Rattle.sound.specs.Core.{Inside, Backed, Core}
+use Rattle.sound.specs.Laws.Sound.{s1-of, s2-of, s4-of, s5-of, s6-of, s7-of, s8-of, s11-of}
 
 -- ── from a sound table ──
 module _ (l : List ℕ) (h : Sound l) where
@@ -23,16 +24,16 @@ module _ (l : List ℕ) (h : Sound l) where
   absent p j a u = go (view l .k .area p 0) refl
     where
       go : (o : Opt Area) → view l .k .area p 0 ≡ o → Present (view l .k) p
-      go none q = not-none (view l .k .area p j) (no-area l p j (λ b. zero-areas l p (h .s2 p b .absent q) j)) u
+      go none q = not-none (view l .k .area p j) (no-area l p j (λ b. zero-areas l p (s2-of h p b .absent q) j)) u
       go (some b) q = (b, q)
 
   -- .. and its parent is 0
   orphan : (p : ℕ) → view l .k .area p 0 ≡ none → view l .k .parent p ≡ 0
-  orphan p q = no-parent l p (λ b. zero-areas l p (h .s2 p b .absent q) 0 (omega arith))
+  orphan p q = no-parent l p (λ b. zero-areas l p (s2-of h p b .absent q) 0 (omega arith))
 
   -- the root's parent is the root
   up : (p : ℕ) → Present (view l .k) p → Present (view l .k) (view l .k .parent p)
-  up p a = go (ℕ-discrete p 0) (h .s2 p (area-bounds l p 0 (a .0) (a .1) .0))
+  up p a = go (ℕ-discrete p 0) (s2-of h p (area-bounds l p 0 (a .0) (a .1) .0))
     where
       go : Dec (p ≡ 0) → S2 l (view l .k) p → Present (view l .k) (view l .k .parent p)
       go (yes z) s = rw (s .root z .1 ∙ sym z) a
@@ -41,14 +42,14 @@ module _ (l : List ℕ) (h : Sound l) where
   inside : (c i : ℕ) (e : Entry) → view l .k .slot c i ≡ some e → (c ≡ 0 → ⊥) → Inside (view l .k .slot) (view l .k .parent) c e
   inside c i e u n =
       let hc = slot-bounds l c i e u .0 in
-      let (j, f, g) = h .s7 c hc .inside n i e u in
-      record { i = j; f = f; at = g .at; given = g .given; from = g .around .from; to = g .around .to; sub = h .s11 c hc .child n i j e f u g }
+      let (j, f, g) = s7-of h c hc .inside n i e u in
+      record { i = j; f = f; at = g .at; given = g .given; from = g .around .from; to = g .around .to; sub = s11-of h c hc .child n i j e f u g }
 
   -- S7 says it of the child, here it is said of the giver
   cover : (p i : ℕ) (f : Entry) (n : ℕ) → view l .k .slot p i ≡ some f → (f .given ≡ 0 → ⊥) → In n f → Holds (view l .k .slot) (f .given) n
   cover p i f n u z x =
-      let (a, e) = h .s7 p (slot-bounds l p i f u .0) .given i f u z in
-      h .s7 (f .given) (area-bounds l (f .given) 0 (a .0) (a .1) .0) .cover z a i f (rw e u) refl n x
+      let (a, e) = s7-of h p (slot-bounds l p i f u .0) .given i f u z in
+      s7-of h (f .given) (area-bounds l (f .given) 0 (a .0) (a .1) .0) .cover z a i f (rw e u) refl n x
 
   backed : (p j : ℕ) (a : Area) → view l .k .area p j ≡ some a → (Rooted p j → ⊥) → Backed (view l .k .slot) (view l .k .parent) p j a
   backed p j a u n = go j u n
@@ -57,10 +58,10 @@ module _ (l : List ℕ) (h : Sound l) where
       by q w b = record { q = q; who = w; i = b .i; e = b .e; at = b .at; free = b .free; lo = b .lo; hi = b .hi }
 
       go : (j : ℕ) → view l .k .area p j ≡ some a → (Rooted p j → ⊥) → Backed (view l .k .slot) (view l .k .parent) p j a
-      go zero u n = by (view l .k .parent p) (inl refl) (h .s8 p (area-bounds l p 0 a u .0) .header (λ z. n (z, omega arith)) a u)
+      go zero u n = by (view l .k .parent p) (inl refl) (s8-of h p (area-bounds l p 0 a u .0) .header (λ z. n (z, omega arith)) a u)
       go (suc j) u n =
           let e : 1 + j ≡ suc j = omega arith in
-          let s = h .s8 p (area-bounds l p (suc j) a u .0) .structure j a (rw e u) (λ r. n (r .0, omega arith)) in
+          let s = s8-of h p (area-bounds l p (suc j) a u .0) .structure j a (rw e u) (λ r. n (r .0, omega arith)) in
           ⊎-elim (by p (inr (refl, omega arith))) (by (view l .k .parent p) (inl refl)) s
 
   -- S8 says it of two owners in order
@@ -68,32 +69,32 @@ module _ (l : List ℕ) (h : Sound l) where
   apart p j q i a b n u v x y = go (decLt q p)
     where
       go : Dec (q < p) → (p ≡ q) × (j ≡ i)
-      go (yes z) = let (s, t) = h .s8 q (area-bounds l q i b v .0) .apart i p j b a n (omega arith) v u y x in (sym s, sym t)
-      go (no z) = h .s8 p (area-bounds l p j a u .0) .apart j q i a b n (omega arith) u v x y
+      go (yes z) = let (s, t) = s8-of h q (area-bounds l q i b v .0) .apart i p j b a n (omega arith) v u y x in (sym s, sym t)
+      go (no z) = s8-of h p (area-bounds l p j a u .0) .apart j q i a b n (omega arith) u v x y
 
   pub sound-core : Core (view l .k)
   sound-core =
-      let root = h .s2 0 (omega arith) .root refl in
+      let root = s2-of h 0 (omega arith) .root refl in
       record {
-        s1 = h .s1 .range;
-        s1-current = h .s1 .current;
-        s2-root = (root .0, h .s4 0 (omega arith) .root refl, root .1);
+        s1 = s1-of h .range;
+        s1-current = s1-of h .current;
+        s2-root = (root .0, s4-of h 0 (omega arith) .root refl, root .1);
         s2-range = area-bounds l;
         s2-absent = absent;
         s2-parent = orphan;
         s2-up = up;
-        s2-climb = λ p a. h .s2 p (area-bounds l p 0 (a .0) (a .1) .0) .walk a;
-        s4 = λ p j a u n. h .s4 p (area-bounds l p j a u .0) .long j a u n;
-        s5 = λ p i e u. h .s5 p (slot-bounds l p i e u .0) .structure i e u;
-        s5-range = λ p i e u. h .s5 p (slot-bounds l p i e u .0) .range i e u;
-        s6 = λ p i j e f n u. h .s6 p (slot-bounds l p i e u .0) i j e f n u;
-        s7-root = h .s7 0 (omega arith) .root refl;
-        s7-given = λ p i e u. h .s7 p (slot-bounds l p i e u .0) .given i e u;
+        s2-climb = λ p a. s2-of h p (area-bounds l p 0 (a .0) (a .1) .0) .walk a;
+        s4 = λ p j a u n. s4-of h p (area-bounds l p j a u .0) .long j a u n;
+        s5 = λ p i e u. s5-of h p (slot-bounds l p i e u .0) .structure i e u;
+        s5-range = λ p i e u. s5-of h p (slot-bounds l p i e u .0) .range i e u;
+        s6 = λ p i j e f n u. s6-of h p (slot-bounds l p i e u .0) i j e f n u;
+        s7-root = s7-of h 0 (omega arith) .root refl;
+        s7-given = λ p i e u. s7-of h p (slot-bounds l p i e u .0) .given i e u;
         s7-in = inside;
         s7-cover = cover;
         s8 = backed;
         s8-apart = apart;
-        s11 = h .s11 0 (omega arith) .root refl;
+        s11 = s11-of h 0 (omega arith) .root refl;
       }
 
 -- ── and back ──

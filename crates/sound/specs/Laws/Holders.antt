@@ -15,7 +15,7 @@ use Rattle.tables.specs.Laws.WayUp.{way-few, way-told}
 use Rattle.tables.specs.declared.Outcome.{Outcome}
 use Rattle.tables.specs.declared.Outcome.the-variants.{Done, Refused}
 use Rattle.sound.specs.Clauses.{sound}
-use Rattle.sound.specs.Laws.Whole.{sound-means}
+use Rattle.sound.specs.Laws.List.{sound-means}
 use Rattle.sound.specs.Holders.{givenTo, givenBy, heir, deepest, trail, holdersOf, inMemory, holdersOutcome, holdersBytes, Writes, Listed}
 
 -- ── the exits of the descent ──

@@ -11,6 +11,7 @@ use Rattle.tables.specs.View.{view}
 use Rattle.tables.specs.Laws.View.{slot-bounds, region-bounds}
 use Rattle.tables.specs.Lines.{In, Holds}
 use Rattle.sound.specs.Sound.{Present, Sound}
+use Rattle.sound.specs.Laws.Sound.{s9-of, s10-of}
 use Rattle.sound.specs.Core.{Core}
 use Rattle.sound.specs.Laws.Core.{sound-core}
 use Rattle.sound.specs.Properties.{Accessible, Isolated, Above, itself, higher}
@@ -69,8 +70,8 @@ sound-isolated l h =
       horizontal = λ p d f n s t m u v. m (siblings-one c (s .other) (t .other) (s .parent ∙ sym (t .parent)) u v);
       kernel = λ p q n u v.
           let o = u .entry in
-          h .s9 p (slot-bounds l p (u .i) (u .e) (o .at) .0) (u .i) (u .e) (o .at) .0 (o .opened) q (v .j) (v .a) n (v .at) (v .holds) (u .holds);
+          s9-of h p (slot-bounds l p (u .i) (u .e) (o .at) .0) (u .i) (u .e) (o .at) .0 (o .opened) q (v .j) (v .a) n (v .at) (v .holds) (u .holds);
       regions = λ p r i u.
-          let ((e, a), o) = h .s10 p (region-bounds l p r i u .0) .names r i u in
+          let ((e, a), o) = s10-of h p (region-bounds l p r i u .0) .names r i u in
           (e, record { at = a; opened = o });
     }

@@ -20,7 +20,8 @@ use Rattle.sound.specs.Sound.{Present}
 use Rattle.sound.specs.Clauses.{sound}
 use Rattle.sound.specs.Laws.Canonical.{sound-canon}
 use Rattle.sound.specs.Whole.{Right}
-use Rattle.sound.specs.Laws.Whole.{sound-means, sound-right}
+use Rattle.sound.specs.Laws.List.{sound-means}
+use Rattle.sound.specs.Laws.Whole.{sound-right}
 use Rattle.rules.specs.Rules.{Result, check, need, ownOrChild, regionWord, readRegion, find, known, perform, serve, callOn}
 use Rattle.rules.specs.Ran.{outcomeOf}
 use Rattle.rules.specs.Calls.{callerOf}

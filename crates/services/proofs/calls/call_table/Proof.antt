@@ -1,6 +1,7 @@
 use mathlib.Core.Path.{sym, _∙_}
 use borrow.Author.Tests.{not-true, not-false}
-use Rattle.sound.specs.Laws.Whole.{sound-means, sound-right}
+use Rattle.sound.specs.Laws.List.{sound-means}
+use Rattle.sound.specs.Laws.Whole.{sound-right}
 use Rattle.sound.specs.Laws.Canonical.{sound-canon}
 use Rattle.rules.specs.Laws.Calls.{answers-unsound, answers-sound}
 use borrow.Author.Needs.{needs}
