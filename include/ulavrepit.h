@@ -66,7 +66,7 @@ enum {
     ULAVREPIT_REFUSED_RIGHTS = 10,        /* R has a right that the entry lacks */
     ULAVREPIT_REFUSED_APART = 11,         /* S doesn't end where T starts */
     ULAVREPIT_REFUSED_TWO_GRANTS = 12,    /* no one entry that the parent gave contains both */
-    ULAVREPIT_REFUSED_RIGHTS_DIFFER = 13, /* rights of S and T differ */
+    /* 13 is withdrawn and not used again */
     ULAVREPIT_REFUSED_IN_PIECES = 14,     /* the child has no open, not-given entry of exactly that range */
     ULAVREPIT_REFUSED_IN_USE = 15,        /* P has a child; the structure has an entry, or is the root's first */
     ULAVREPIT_REFUSED_REGION = 16,        /* T above 7; S already in another region */

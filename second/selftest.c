@@ -604,13 +604,15 @@ static void test_give_take_cut_merge(void)
     check(goes(CUT, 0, 0, 0, 0, 300) && is_refused(MERGE, 0, 2, 1, 0, 0, 12) &&
               is_done(MERGE, 0, 0, 2, 0, 0, 0, 0),
           "merging pieces of one grant: done");
-    /* Rights of neighbours differ: only where a table says so, e.g. one was changed within S11. */
+    /* 13 is withdrawn: two pieces of one grant whose rights differ stand in no sound table. */
     good = goes(CUT, 0, 0, 0, 0, 300);
     set(table, slot_at(1, 2), E_RIGHTS, 4);
-    check(good && second_unsound(table, SECOND_BYTES) == 0 && is_refused(MERGE, 0, 0, 2, 0, 0, 13),
-          "merge with different rights: 13");
-    set(table, slot_at(1, 1), E_RIGHTS, 4);
-    check(is_refused(MERGE, 0, 2, 1, 0, 0, 12), "merge: 12 before 13");
+    check(good && second_unsound(table, SECOND_BYTES) == 11 && is_refused(MERGE, 0, 0, 2, 0, 0, 1),
+          "merge with different rights: the table is refused 1");
+    set(table, slot_at(1, 0), E_RIGHTS, 4);
+    check(is_refused(MERGE, 0, 2, 1, 0, 0, 12) && is_done(MERGE, 0, 0, 2, 0, 0, 0, 0) &&
+              get(table, slot_at(1, 0), E_RIGHTS) == 4 && get(table, slot_at(1, 1), E_RIGHTS) == 6,
+          "pieces of two grants may differ: 12; those of one have equal rights, and so has the whole");
 }
 
 /* Service 9 takes both: R = 0 loads, R = 1 with S = 0 unloads. */
@@ -926,7 +928,9 @@ static void test_clauses(void)
     clause_word(10, regions_at(1), UINT64_C(0x8300830000000000), "S10: a slot twice");
     clause_word(0, regions_at(1), UINT64_C(0x0000000000000082), "a given entry may be loaded");
     clause(11, slot_at(0, 1), E_RIGHTS, 6, "S11: a root entry without all rights");
-    clause(0, slot_at(1, 3), E_RIGHTS, 7, "sound with all rights of the root's entry");
+    clause(11, slot_at(1, 3), E_RIGHTS, 7, "S11: more rights than the others inside the grant have");
+    clause(11, slot_at(1, 1), E_RIGHTS, 2, "S11: fewer rights than the others inside the grant have, in a closed entry");
+    clause(11, slot_at(1, 2), E_RIGHTS, 4, "S11: fewer rights than the others inside the grant have, in a given entry");
     clause(11, slot_at(2, 0), E_RIGHTS, 3, "S11: a right that the parent's entry around it lacks");
     clause(0, slot_at(2, 0), E_RIGHTS, 6, "sound with all rights of the parent's entry");
 
@@ -1191,6 +1195,10 @@ static int m_unsound(const uint8_t *t)
                 if ((m_rights(t, p, s) | m_rights(t, m_parent(t, p), around)) !=
                     m_rights(t, m_parent(t, p), around))
                     return 11;
+                for (unsigned u = 0; u < s; u++)
+                    if (m_entry(t, p, u) && m_rights(t, p, u) != m_rights(t, p, s) &&
+                        m_around(t, p, m_start(t, p, u), m_end(t, p, u)) == around)
+                        return 11;
             }
         }
     return 0;
@@ -1219,7 +1227,7 @@ static fields called(uint64_t w)
 /* The checks of each, ended by 0. */
 static const unsigned char checks[SERVICES + 1][8] = {
     {0}, {4, 5, 6, 8, 9}, {3, 15}, {3, 4, 5, 6, 8, 9}, {3, 4, 15}, {3, 4, 5, 6, 8, 10}, {4, 6, 14},
-    {4, 5, 6, 7, 8}, {4, 5, 6, 11, 12, 13}, {3, 4, 5, 16}, {3, 16}, {3, 16}, {3, 7}, {3}, {3}};
+    {4, 5, 6, 7, 8}, {4, 5, 6, 11, 12}, {3, 4, 5, 16}, {3, 16}, {3, 16}, {3, 7}, {3}, {3}};
 
 static unsigned m_free(const uint8_t *t, unsigned p)
 {
@@ -1288,8 +1296,6 @@ static bool m_applies(const uint8_t *t, fields f, unsigned number)
         return m_end(t, c, f.s) != m_start(t, c, f.t);
     case 12:
         return c != 0 && m_around(t, c, m_start(t, c, f.s), m_end(t, c, f.t)) == 32;
-    case 13:
-        return m_rights(t, c, f.s) != m_rights(t, c, f.t);
     case 14:
         return m_taken(t, c, f.s) == 32;
     case 15:
@@ -1461,7 +1467,7 @@ static result m_call(uint8_t *t, uint64_t word)
 
 /* ---- what is generated ---- */
 
-static uint64_t seed = UINT64_C(0x9e3779b97f4a7c15);
+static uint64_t seed = UINT64_C(0x9e3779b97f4a7c13);
 
 static uint64_t random_word(void)
 {
@@ -1705,11 +1711,14 @@ static void damage(uint8_t *t)
                 break;
             }
         break;
-    case 23: /* fewer rights than the parent's entry has */
+    case 23: /* fewer rights in all of some grants */
         for (q = 1; q < 16; q++)
-            for (s = 0; s < 32; s++)
-                if (m_entry(t, q, s) && chance(30))
-                    set(t, slot_at(q, s), E_RIGHTS, m_rights(t, q, s) & below(8));
+            for (u = 0; u < 32; u++) {
+                unsigned left = chance(30) ? below(8) : 7;
+                for (s = 0; s < 32; s++)
+                    if (m_entry(t, q, s) && m_around(t, q, m_start(t, q, s), m_end(t, q, s)) == u)
+                        set(t, slot_at(q, s), E_RIGHTS, m_rights(t, q, s) & left);
+            }
         break;
     }
 }

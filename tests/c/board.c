@@ -235,7 +235,7 @@ static void test_runs(void)
     check(runs_refused(RUNS, 1) && runs_refused(0, 1), "runs of a table not sound: 1 before 17");
 }
 
-/* One refusal of each number that a booted board can meet; 8, 12 and 13 need longer sessions. */
+/* One refusal of each number that a booted board can meet; 8 and 12 need longer sessions. */
 static void test_refusals(void)
 {
     check(make_x() && refused(0, 2) && refused(UINT64_C(15) << 60, 2) && refused(UINT64_MAX, 2) &&
@@ -274,6 +274,8 @@ static void test_rights(void)
           "refused 10: a right that the entry lacks; done with fewer");
     check(holders_are(400, 16, "\0\1\2", 3), "a line given twice over: held by 0, 1, 2");
     check(done(ulavrepit_find(1, 400), 2, UINT64_C(0xf100001400000400)), "the middle one's entry, given to 2");
+    now.table[8 * (1 + 40 + 8)] ^= 0x10; /* slot 0 of partition 1: its write right */
+    check(refused(ulavrepit_find(1, 400), 1), "refused 1: entries inside one grant whose rights differ");
 }
 
 static void test_caller(void)

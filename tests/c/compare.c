@@ -29,6 +29,7 @@ static unsigned long cells[LAST_SERVICE + 1][18]; /* by service, or unload, and 
 static unsigned long missed[REGION_MISSES];       /* refused with 2, by what was wrong */
 static unsigned long cleared[SECOND_PARTITIONS];  /* clear outs, by the number of partitions removed */
 static unsigned long alone[CLAUSES + 1];
+static unsigned long unlike[SECOND_PARTITIONS]; /* S11 failed alone, by who has unlike rights inside one grant */
 static unsigned long unsound_sessions, unsound_odd;
 static unsigned deepest;
 
@@ -214,7 +215,9 @@ static void take_damaged_table(mood m)
     if (!made)
         change_anything(table);
     damaged += second_unsound(table, sizeof table) != 0;
-    alone[only_failing(table)]++;
+    uint8_t failing = only_failing(table);
+    alone[failing]++;
+    unlike[failing == 11 ? unlike_in(table) : 0]++;
     hand_over(table);
     call_both(next_word(theirs.table, &state, m, &chance));
     list_both(state.base);
@@ -288,6 +291,9 @@ static void print_cells(void)
     printf("\n# tables in which one clause failed alone:");
     for (unsigned clause = 1; clause <= CLAUSES; clause++)
         printf(" S%u %lu%s", clause, alone[clause], clause < CLAUSES ? "," : "\n");
+    printf("# .. S11 by unlike rights inside one grant, by partition:");
+    for (unsigned p = 1; p < SECOND_PARTITIONS; p++)
+        printf(" %u: %lu%s", p, unlike[p], p < SECOND_PARTITIONS - 1 ? "," : "\n");
     printf("# the longest chain: %u levels below the root; the most runs: %lu; lists too short: %lu\n", deepest, most_runs,
            short_lists);
     printf("# %lu boots, %lu calls in sessions, %lu of them accepted, %lu listings, %lu odd tables, %lu damaged tables\n",
@@ -336,6 +342,15 @@ static bool every_clause_failed_alone(unsigned long least)
     return true;
 }
 
+/* At the first child, at the last, and at each between. */
+static bool every_child_unlike(void)
+{
+    for (unsigned p = 1; p < SECOND_PARTITIONS; p++)
+        if (unlike[p] == 0)
+            return false;
+    return true;
+}
+
 int main(int count, char **words)
 {
     unsigned long last = count == 3 ? strtoul(words[2], NULL, 10) : 0;
@@ -355,6 +370,7 @@ int main(int count, char **words)
     check(every_cell_met(), "every service was done, and refused with each of its numbers, 1 and 2, and with no other");
     check(every_region_missed(last / 1000), "service 10, and 9 with R or S that is neither load nor unload, were met");
     check(every_clause_failed_alone(last / 200), "each of S1 to S11 failed alone in many tables");
+    check(every_child_unlike(), "S11 failed alone by unlike rights inside one grant, at each of the partitions 1 to 15");
     check(every_branch_cleared(), "branches of 1 to 15 partitions were cleared out");
     check(deepest == SECOND_PARTITIONS - 1, "chains of 15 levels below the root were met");
     check(most_runs == MOST_RUNS && short_lists >= last / 100, "324 runs, and lists too short, were met");

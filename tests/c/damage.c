@@ -623,6 +623,54 @@ static bool child_exceeds_its_parent(second_table *t, dice *d)
     return true;
 }
 
+/* The slot of another entry of p inside the same grant; SECOND_SLOTS if there is none. */
+static uint8_t beside_in_grant(const second_table *t, uint8_t p, uint8_t s)
+{
+    const second_slot *slots = t->partitions[p].slots;
+    uint8_t around = entry_around(t, p, slots[s].start, slots[s].end), u = 0;
+    while (u < SECOND_SLOTS &&
+           !(u != s && slots[u].present && entry_around(t, p, slots[u].start, slots[u].end) == around))
+        u++;
+    return u;
+}
+
+/* The entry may have other rights, within the grant's and without harm to a grandchild, than one beside it. */
+static bool could_be_unlike(const second_table *t, uint8_t p, uint8_t s)
+{
+    const second_slot *e = &t->partitions[p].slots[s];
+    if (p == 0 || !e->present || e->given != 0 || beside_in_grant(t, p, s) == SECOND_SLOTS)
+        return false;
+    return t->partitions[t->partitions[p].parent].slots[entry_around(t, p, e->start, e->end)].rights != 0;
+}
+
+static bool unlike_in_one_grant(second_table *t, dice *d)
+{
+    uint8_t p, s;
+    if (!pick_slot(t, could_be_unlike, &p, &s, d))
+        return false;
+    second_slot *e = slot_in(t, p, s);
+    uint8_t around = entry_around(t, p, e->start, e->end), rights = slot_in(t, t->partitions[p].parent, around)->rights;
+    uint8_t other;
+    do
+        other = rights & (uint8_t)below(d, 8);
+    while (other == e->rights);
+    e->rights = other;
+    return true;
+}
+
+uint8_t unlike_in(const uint8_t *table)
+{
+    static second_table t;
+    second_read(table, &t);
+    for (uint8_t p = 1; p < SECOND_PARTITIONS; p++)
+        for (uint8_t s = 0; s < SECOND_SLOTS; s++) {
+            uint8_t u = is_entry(&t, p, s) ? beside_in_grant(&t, p, s) : SECOND_SLOTS;
+            if (u < SECOND_SLOTS && t.partitions[p].slots[u].rights != t.partitions[p].slots[s].rights)
+                return p;
+        }
+    return 0;
+}
+
 /* ---- all of them ---- */
 
 /* A way to damage a table: in the structs, with or without settling afterwards, or in the bytes. */
@@ -649,7 +697,8 @@ static const way ways[] = {
     {8, true, area_in_given_entry, NULL}, {8, true, area_in_strange_entry, NULL},
     {9, false, open_bit_turned, NULL},
     {10, false, region_of_no_open_entry, NULL}, {10, false, regions_of_one_slot, NULL},
-    {11, false, root_lacks_a_right, NULL}, {11, false, child_exceeds_its_parent, NULL}};
+    {11, false, root_lacks_a_right, NULL}, {11, false, child_exceeds_its_parent, NULL},
+    {11, false, unlike_in_one_grant, NULL}};
 
 /* Each clause has the same chance, however many ways it has. */
 static const way *some_way(dice *d)
@@ -736,20 +785,20 @@ static void clear_first_structure(second_table *t, dice *d)
     }
 }
 
-/* Pieces of one grant have different rights. What was given on has no more than what it lies in. */
+/* All pieces of a grant have fewer rights. What was given on has no more than what it lies in. */
 static void lessen_rights(second_table *t, dice *d)
 {
     for (unsigned depth = 1; depth < SECOND_PARTITIONS; depth++)
         for (uint8_t p = 1; p < SECOND_PARTITIONS; p++) {
             if (!is_present(t, p) || depth_in(t, p) != depth)
                 continue;
+            uint8_t left[SECOND_SLOTS];
+            for (uint8_t g = 0; g < SECOND_SLOTS; g++)
+                left[g] = slot_in(t, t->partitions[p].parent, g)->rights & (percent(d, 30) ? (uint8_t)below(d, 8) : 7);
             for (uint8_t s = 0; s < SECOND_SLOTS; s++) {
                 second_slot *e = slot_in(t, p, s);
-                if (!e->present)
-                    continue;
-                if (percent(d, 30))
-                    e->rights &= below(d, 8);
-                e->rights &= slot_in(t, t->partitions[p].parent, entry_around(t, p, e->start, e->end))->rights;
+                if (e->present)
+                    e->rights &= left[entry_around(t, p, e->start, e->end)];
             }
         }
 }

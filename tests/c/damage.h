@@ -23,6 +23,9 @@ uint8_t damage(const second_table *sound, uint8_t *table, dice *d);
  */
 uint8_t only_failing(const uint8_t *table);
 
+/* The lowest child with two entries inside one grant whose rights differ; 0 if none has. */
+uint8_t unlike_in(const uint8_t *table);
+
 /* Sets the open bits by S9, and empties regions that name no open entry. */
 void settle_table(second_table *t);
 

@@ -6,7 +6,7 @@
 
 const uint8_t service_checks[LAST_SERVICE + 1][8] = {
     {0}, {4, 5, 6, 8, 9}, {3, 15}, {3, 4, 5, 6, 8, 9}, {3, 4, 15}, {3, 4, 5, 6, 8, 10}, {4, 6, 14},
-    {4, 5, 6, 7, 8}, {4, 5, 6, 11, 12, 13}, {3, 4, 5, 16}, {3, 16}, {3, 16}, {3, 7}, {3}, {3}};
+    {4, 5, 6, 7, 8}, {4, 5, 6, 11, 12}, {3, 4, 5, 16}, {3, 16}, {3, 16}, {3, 7}, {3}, {3}};
 
 /* How often each service is tried, by mood. */
 static const uint8_t weights[MOODS][LAST_SERVICE + 1] = {
@@ -337,7 +337,7 @@ static bool merge_leads_to(const second_table *t, uint8_t refusal, uint8_t s, ui
         return refusal == 11;
     if (t->current != 0 && entry_around(t, t->current, a->start, b->end) == SECOND_SLOTS)
         return refusal == 12;
-    return refusal == (a->rights == b->rights ? 0 : 13);
+    return refusal == 0;
 }
 
 static uint64_t merge(const second_table *t, uint8_t refusal, dice *d)
@@ -567,7 +567,7 @@ static uint8_t tried(const uint8_t *table, uint64_t word)
 /* Service and refusal that take a table of their kind, which is seldom met: so they are tried often. */
 static const uint8_t seldom[][2] = {
     {ULAVREPIT_CREATE, 8}, {ULAVREPIT_DELETE, 15}, {ULAVREPIT_PREPARE, 8}, {ULAVREPIT_GIVE, 10}, {ULAVREPIT_TAKE, 14},
-    {ULAVREPIT_CUT, 8}, {ULAVREPIT_MERGE, 6}, {ULAVREPIT_MERGE, 11}, {ULAVREPIT_MERGE, 12}, {ULAVREPIT_MERGE, 13}};
+    {ULAVREPIT_CUT, 8}, {ULAVREPIT_MERGE, 6}, {ULAVREPIT_MERGE, 11}, {ULAVREPIT_MERGE, 12}};
 
 /* A good word of any service with one bit turned: often in a field that the service doesn't use, or a zero bit. */
 static uint64_t bit_turned(const second_table *t, dice *d)

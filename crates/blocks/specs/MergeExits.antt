@@ -1,27 +1,22 @@
 -- The exits of merge.
 use mathlib.Core.Path.{_≡_}
-use mathlib.Core.Bool.{Bool, true, false, _&&_, _||_}
+use mathlib.Core.Bool.{Bool, true, false, _||_}
 use mathlib.Core.List.{List}
 use Prim.Native.Nat.{ℕ, _<_}
 use lib.Dec.{eqb}
-use Rattle.loops.specs.Every.{any}
 use Rattle.words.specs.declared.slot_word.SlotFields.{SlotFields}
-use Rattle.tables.specs.State.{Opt, none, some, Entry, K, Table}
+use Rattle.tables.specs.State.{none, some, Entry, K, Table}
 use Rattle.tables.specs.View.{view, entryOf}
 use Rattle.tables.specs.Encode.{Canon}
 use Rattle.tables.specs.Write.{putSlot}
 use Rattle.tables.specs.Seen.{Seen}
-use Rattle.sound.specs.Clauses.{has, grants}
+use Rattle.sound.specs.Clauses.{oneGrant}
 use Rattle.sound.specs.Whole.{Right}
 use Rattle.rules.specs.Rules.{endingAt}
 
--- an entry given to c that contains both
-unfoldable pub containsBoth : ℕ → Entry → Entry → Opt Entry → Bool
-containsBoth c e f = has (λ g. grants c e g && grants c f g)
-
 -- check 12
 unfoldable pub mayJoin : K → ℕ → Entry → Entry → Bool
-mayJoin k c e f = eqb c 0 || any 32 (λ i. containsBoth c e f (k .slot (k .parent c) i))
+mayJoin k c e f = eqb c 0 || oneGrant k c e f
 
 -- slot s of c ends where f ended, and slot u of c is free
 abbrev pub joinedAt : Table → ℕ → ℕ → ℕ → SlotFields → SlotFields → Table

@@ -1,42 +1,18 @@
 ghost use mathlib.Core.Path.{_≡_};
-ghost use mathlib.Core.Bool.{Bool·beq};
 ghost use Prim.Native.Nat.{_<_, _^_};
 ghost use Rattle.loops.specs.Every.{any};
 ghost use Rattle.tables.specs.View.{view, entryOf, entryIn};
 ghost use Rattle.tables.specs.Encode.{Canon, Is};
-ghost use Rattle.sound.specs.Clauses.{grants};
+ghost use Rattle.sound.specs.Clauses.{grants, containsBoth};
 ghost use Rattle.sound.specs.Whole.{Right};
-ghost use Rattle.rules.specs.Rules.{sameRights, merge};
+ghost use Rattle.rules.specs.Rules.{merge};
 ghost use Rattle.rules.specs.Ran.{Ran};
 ghost use Rattle.blocks.specs.SlotExits.{CanPut};
-ghost use Rattle.blocks.specs.MergeExits.{containsBoth, mayJoin, CanMerge, joinedAt};
+ghost use Rattle.blocks.specs.MergeExits.{mayJoin, CanMerge, joinedAt};
 use tables::Outcome;
 use words::Partition;
-use words::Rights;
 use words::Slot;
 use words::slot_word::SlotFields;
-
-// both or neither
-fn same_right(a: bool, b: bool) -> bool
-    ensures { λ r. ⌜ r ≡ Bool·beq a b ⌝ }
-{
-    if a {
-        return b;
-    }
-    !b
-}
-
-fn same_rights(a: Rights, b: Rights) -> bool
-    ensures { λ r. ⌜ r ≡ sameRights a b ⌝ }
-{
-    if !same_right(a.read, b.read) {
-        return false;
-    }
-    if !same_right(a.write, b.write) {
-        return false;
-    }
-    same_right(a.execute, b.execute)
-}
 
 // the entry g is given to c and contains e
 fn grants(c: Partition, e: SlotFields, g: SlotFields) -> bool
@@ -133,9 +109,6 @@ fn merge_entries(
     }
     if !may_join(t, c, e, f) {
         return Outcome::Refused(12);
-    }
-    if !same_rights(e.rights, f.rights) {
-        return Outcome::Refused(13);
     }
     join(t, c, s, u, e, f);
     settling::settle_regions(t, c);

@@ -1,6 +1,6 @@
 -- S7 and S11 by one walk: the entries of a partition by rising start, along those that its parent gave it.
 use mathlib.Core.Path.{_≡_}
-use mathlib.Core.Bool.{true}
+use mathlib.Core.Bool.{Bool, true, cond}
 use mathlib.Core.List.{List}
 use Prim.Native.Nat.{ℕ, _≤_, _<_}
 use Rattle.words.specs.declared.Rights.{Rights}
@@ -8,7 +8,7 @@ use Rattle.tables.specs.State.{Opt, none, some, Entry}
 use Rattle.tables.specs.View.{view}
 use Rattle.tables.specs.Lines.{In}
 use Rattle.sound.specs.Sound.{allRights}
-use Rattle.sound.specs.Clauses.{within}
+use Rattle.sound.specs.Clauses.{within, sameRights}
 use Rattle.decide.specs.Entries.{Solid}
 use Rattle.decide.specs.Order.{placed, Rows}
 
@@ -20,24 +20,30 @@ pub record Piece (e : Entry) (lo hi at : ℕ) (r : Rights) : Type 0 where
   pub before : e .stop ≤ at
   pub rights : within (e .rights) r ≡ true
 
--- so do E i to E (k - 1), and they cover it up to line at
+-- so do E i to E (k - 1), they cover it up to line at, and all have the rights of the first
 pub record Tiling (E : ℕ → Entry) (i k lo hi at : ℕ) (r : Rights) : Type 0 where
   pub up : i ≤ k
   pub on : lo ≤ at
   pub piece : (a : ℕ) → i ≤ a → a < k → Piece (E a) lo hi at r
   pub cover : (l : ℕ) → lo ≤ l → l < at → (a : ℕ) × (i ≤ a) × (a < k) × In l (E a)
+  pub equal : (a : ℕ) → i ≤ a → a < k → E a .rights ≡ E i .rights
 
 -- E k goes on from there
-pub record Fits (E : ℕ → Entry) (n k hi at : ℕ) (r : Rights) : Type 0 where
+pub record Fits (E : ℕ → Entry) (n i k hi at : ℕ) (r : Rights) : Type 0 where
   pub there : k < n
   pub start : E k .start ≡ at
   pub to : E k .stop ≤ hi
   pub rights : within (E k .rights) r ≡ true
+  pub equal : E k .rights ≡ E i .rights
+
+-- The first of a range has no right beyond those of the range; a later one has those of the one before it.
+unfoldable pub follows : Bool → Rights → Rights → Bool
+follows first a b = cond first (within a b) (sameRights a b)
 
 -- x is the place after those that tile it; where they do not, 33, which is beyond all places
 pub data Tiled (E : ℕ → Entry) (n i lo hi : ℕ) (r : Rights) (x : ℕ) : Type 0 where
   fitted : (at : ℕ) → x ≤ n → hi ≤ at → Tiling E i x lo hi at r → Tiled E n i lo hi r x
-  stuck : (k at : ℕ) → n < 33 → x ≡ 33 → at < hi → Tiling E i k lo hi at r → (Fits E n k hi at r → ⊥) → Tiled E n i lo hi r x
+  stuck : (k at : ℕ) → n < 33 → x ≡ 33 → at < hi → Tiling E i k lo hi at r → (Fits E n i k hi at r → ⊥) → Tiled E n i lo hi r x
 
 -- ── the entries of a partition by place ──
 unfoldable pub entryOr : Opt Entry → Entry

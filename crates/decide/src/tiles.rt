@@ -1,13 +1,13 @@
 ghost use mathlib.Core.Path.{_≡_};
-ghost use mathlib.Core.Bool.{true, not, _&&_, _||_};
+ghost use mathlib.Core.Bool.{true, _&&_, Bool·beq};
 ghost use Prim.Native.Nat.{_≤_, _<_};
 ghost use Rattle.tables.specs.View.{view};
 ghost use Rattle.tables.specs.Search.{present};
-ghost use Rattle.sound.specs.Clauses.{within, s11};
+ghost use Rattle.sound.specs.Clauses.{sameRights, s11};
 ghost use Rattle.shape.specs.AtOnce.{Shaped};
 ghost use Rattle.decide.specs.Entries.{exactly};
 ghost use Rattle.decide.specs.Order.{Orders};
-ghost use Rattle.decide.specs.Tiles.{rowOf, InOrder, ChildOf, Tiled};
+ghost use Rattle.decide.specs.Tiles.{follows, rowOf, InOrder, ChildOf, Tiled};
 use crate::entries::full_each;
 use crate::order::entry_at;
 use shape::rights::rights_within;
@@ -16,7 +16,39 @@ use words::Line;
 use words::Partition;
 use words::Rights;
 
-// The entries of p from place i on tile lo to hi, each with no right beyond r: the place after them. Where they do not, 33, which is no place.
+// both or neither
+fn same_right(a: bool, b: bool) -> bool
+    ensures { λ r. ⌜ r ≡ Bool·beq a b ⌝ }
+{
+    if a {
+        return b;
+    }
+    !b
+}
+
+fn same_rights(a: Rights, b: Rights) -> bool
+    ensures { λ r. ⌜ r ≡ sameRights a b ⌝ }
+{
+    if !same_right(a.read, b.read) {
+        return false;
+    }
+    if !same_right(a.write, b.write) {
+        return false;
+    }
+    same_right(a.execute, b.execute)
+}
+
+// The rights a of the first entry of a range go not beyond those of the range, b; those of a later one are the same as those of the one before it, b.
+fn follows(first: bool, a: Rights, b: Rights) -> bool
+    ensures { λ r. ⌜ r ≡ follows first a b ⌝ }
+{
+    if first {
+        return rights_within(a, b);
+    }
+    same_rights(a, b)
+}
+
+// The entries of p from place i on tile lo to hi, with equal rights, and none beyond r: the place after them. Where they do not, 33, which is no place.
 fn tile(
     t: &[u64; 641],
     p: Partition,
@@ -32,6 +64,7 @@ fn tile(
 {
     let mut at = lo;
     let mut k = i;
+    let mut s = r;
     while at.0 < hi.0 {
         if k >= n {
             return 33;
@@ -43,9 +76,10 @@ fn tile(
         if f.end.0 > hi.0 {
             return 33;
         }
-        if !rights_within(f.rights, r) {
+        if !follows(k == i, f.rights, s) {
             return 33;
         }
+        s = f.rights;
         at = f.end;
         k += 1;
     }

@@ -4,13 +4,13 @@ use Prim.Native.Nat.{ℕ}
 use Rattle.tables.specs.State.{Entry, K, Table}
 use Rattle.tables.specs.Lines.{Clear}
 use Rattle.tables.specs.Settle.{settle}
-use Rattle.sound.specs.Sound.{Granted}
+use Rattle.sound.specs.Sound.{OneGrant}
 use Rattle.rules.specs.Rules.{mergeK}
 use Rattle.isolation.specs.Ladder.{Ladder, finish, must, there}
 
--- 12: one entry that the parent gave the caller contains both
-abbrev pub OneGrant : K → Entry → Entry → Type 0
-OneGrant k e f = (k .current ≡ 0 → ⊥) → (i : ℕ) × (g : Entry) × Granted k (k .current) e i g × Granted k (k .current) f i g
+-- 12: the caller is the root, or one entry that its parent gave it contains both
+abbrev pub MayJoin : K → Entry → Entry → Type 0
+MayJoin k e f = (k .current ≡ 0 → ⊥) → OneGrant k (k .current) e f
 
 -- ── the service ──
 abbrev pub mergeLadder : Table → ℕ → ℕ → Ladder
@@ -20,6 +20,5 @@ mergeLadder t s u =
     must 5 (Clear (t .k .area) e × Clear (t .k .area) f)
     (must 6 ((e .given ≡ 0) × (f .given ≡ 0))
     (must 11 (e .stop ≡ f .start)
-    (must 12 (OneGrant (t .k) e f)
-    (must 13 (e .rights ≡ f .rights)
-    (finish 0 0 (settle (mergeK (t .k) s u e f) (t .region)))))))
+    (must 12 (MayJoin (t .k) e f)
+    (finish 0 0 (settle (mergeK (t .k) s u e f) (t .region))))))

@@ -13,8 +13,9 @@ use Rattle.tables.specs.Fitting.{Words}
 use Rattle.sound.specs.Sound.{Sound}
 use Rattle.sound.specs.Clauses.{sound}
 use Rattle.sound.specs.Laws.Canonical.{sound-canon}
-use Rattle.sound.specs.Properties.{Isolated}
-use Rattle.sound.specs.Laws.Properties.{sound-isolated}
+use Rattle.sound.specs.Properties.{Isolated, EqualRights}
+use Rattle.sound.specs.Laws.Properties.{core-rights, sound-isolated}
+use Rattle.sound.specs.Laws.Core.{sound-core}
 use Rattle.sound.specs.Whole.{Right}
 use Rattle.sound.specs.Laws.List.{sound-means}
 use Rattle.sound.specs.Laws.Whole.{sound-right}
@@ -126,3 +127,7 @@ module _ (l ws : List ℕ) (base end : ℕ) {v x : ℕ} {t′ : Table} (z : boot
 
   pub from-boot-isolated : Isolated (view (afterAll (encode t′) ws))
   from-boot-isolated = sound-isolated (afterAll (encode t′) ws) from-boot-sound
+
+  -- so a merge whose other checks pass joins entries of equal rights
+  pub from-boot-rights : EqualRights (view (afterAll (encode t′) ws) .k)
+  from-boot-rights = core-rights (sound-core (afterAll (encode t′) ws) from-boot-sound)

@@ -1,5 +1,5 @@
 -- The rules of boot and of the thirteen services, in 01's order and words: the checks with their numbers, then the effect and the values.
-use mathlib.Core.Bool.{Bool, true, false, cond, not, _&&_, _||_, Bool·beq}
+use mathlib.Core.Bool.{Bool, true, false, cond, not, _&&_, _||_}
 use mathlib.Core.List.{List}
 use Prim.Native.Nat.{ℕ, _+_, _*_, _^_}
 use lib.ListN.{length}
@@ -21,7 +21,7 @@ use Rattle.tables.specs.Write.{withSlot, withArea, withCurrent}
 use Rattle.tables.specs.Search.{lowest, isSome, child, hasChild, absentChild, noStructure, free, holdsAt}
 use Rattle.tables.specs.Settle.{settle}
 use Rattle.sound.specs.Sound.{allRights}
-use Rattle.sound.specs.Clauses.{sound, has, within, grants}
+use Rattle.sound.specs.Clauses.{sound, has, within, oneGrant}
 
 -- done with its two values and the table after it, or refused with its number
 pub data Result : Type 0 where
@@ -183,16 +183,9 @@ cut t s l =
     (need 8 (lowest 32 (free (t .k) (t .k .current))) λ n.
     done n 0 (settle (cutK (t .k) s n l e) (t .region)))
 
--- ── 8 merge: S, T; 4 5 6 11 12 13; S ends where T ended, T zero; 0, 0 ──
+-- ── 8 merge: S, T; 4 5 6 11 12; S ends where T ended, T zero; 0, 0 ──
 abbrev pub mergeK : K → ℕ → ℕ → Entry → Entry → K
 mergeK k s u e f = setSlot (setSlot k (k .current) s (some (endingAt e (f .stop)))) (k .current) u none
-
--- one entry of the caller's parent, given to the caller, contains both
-unfoldable pub oneGrant : K → Entry → Entry → Bool
-oneGrant k e f = any 32 (λ i. has (λ g. grants (k .current) e g && grants (k .current) f g) (k .slot (k .parent (k .current)) i))
-
-unfoldable pub sameRights : Rights → Rights → Bool
-sameRights a b = Bool·beq (a .read) (b .read) && Bool·beq (a .write) (b .write) && Bool·beq (a .execute) (b .execute)
 
 unfoldable pub merge : Table → ℕ → ℕ → Result
 merge t s u =
@@ -201,9 +194,8 @@ merge t s u =
     check 5 (t .opened (t .k .current) s && t .opened (t .k .current) u)
     (check 6 (eqb (e .given) 0 && eqb (f .given) 0)
     (check 11 (eqb (e .stop) (f .start))
-    (check 12 (eqb (t .k .current) 0 || oneGrant (t .k) e f)
-    (check 13 (sameRights (e .rights) (f .rights))
-    (done 0 0 (settle (mergeK (t .k) s u e f) (t .region)))))))
+    (check 12 (eqb (t .k .current) 0 || oneGrant (t .k) (t .k .current) e f)
+    (done 0 0 (settle (mergeK (t .k) s u e f) (t .region))))))
 
 -- ── 9 with R = 0, load: P own or child, S of P, T region; 3 4 5 16; region T names S; 0, 0 ──
 -- S is already in another region

@@ -160,11 +160,27 @@ full r = r .read && r .write && r .execute
 unfoldable pub within : Rights → Rights → Bool
 within a b = (not (a .read) || b .read) && (not (a .write) || b .write) && (not (a .execute) || b .execute)
 
+-- no entry has a right that the parent's entry around it lacks
+unfoldable pub s11Within : K → ℕ → Bool
+s11Within k p = all 32 (λ i. when (λ e. all 32 (λ j. when (λ f. not (grants p e f) || within (e .rights) (f .rights)) (k .slot (k .parent p) j))) (k .slot p i))
+
+-- an entry given to p that contains e and f
+unfoldable pub containsBoth : ℕ → Entry → Entry → Opt Entry → Bool
+containsBoth p e f = has (λ g. grants p e g && grants p f g)
+
+-- .. of p's parent
+unfoldable pub oneGrant : K → ℕ → Entry → Entry → Bool
+oneGrant k p e f = any 32 (λ j. containsBoth p e f (k .slot (k .parent p) j))
+
+unfoldable pub sameRights : Rights → Rights → Bool
+sameRights a b = Bool·beq (a .read) (b .read) && Bool·beq (a .write) (b .write) && Bool·beq (a .execute) (b .execute)
+
+-- each entry and those in slots before it: inside one grant they have equal rights
+unfoldable pub s11Equal : K → ℕ → Bool
+s11Equal k p = all 32 (λ i. when (λ e. all i (λ m. when (λ f. not (oneGrant k p e f) || sameRights (e .rights) (f .rights)) (k .slot p m))) (k .slot p i))
+
 unfoldable pub s11 : K → ℕ → Bool
-s11 k p =
-    cond (eqb p 0)
-    (all 32 (λ i. when (λ e. full (e .rights)) (k .slot p i)))
-    (all 32 (λ i. when (λ e. all 32 (λ j. when (λ f. not (grants p e f) || within (e .rights) (f .rights)) (k .slot (k .parent p) j))) (k .slot p i)))
+s11 k p = cond (eqb p 0) (all 32 (λ i. when (λ e. full (e .rights)) (k .slot p i))) (s11Within k p && s11Equal k p)
 
 -- ── all clauses at all partitions ──
 -- the test of clause n of the eleven at partition p; S1, and S3 of word 0, are looked at with partition 0

@@ -48,3 +48,5 @@ pub record Core (k : K) : Type 0 where
   pub s8 : (p j : ℕ) (a : Area) → k .area p j ≡ some a → (Rooted p j → ⊥) → Backed (k .slot) (k .parent) p j a
   pub s8-apart : (p j q i : ℕ) (a b : Area) (l : ℕ) → k .area p j ≡ some a → k .area q i ≡ some b → InA l a → InA l b → (p ≡ q) × (j ≡ i)
   pub s11 : (i : ℕ) (e : Entry) → k .slot 0 i ≡ some e → e .rights ≡ allRights
+  pub s11-equal : (c i m : ℕ) (e f : Entry) → (c ≡ 0 → ⊥) → k .slot c i ≡ some e → k .slot c m ≡ some f
+      → (o : Inside (k .slot) (k .parent) c e) (q : Inside (k .slot) (k .parent) c f) → o .i ≡ q .i → e .rights ≡ f .rights

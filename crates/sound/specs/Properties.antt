@@ -4,7 +4,7 @@ use mathlib.Core.Bool.{true}
 use Prim.Native.Nat.{ℕ}
 use Rattle.tables.specs.State.{some, Entry, Area, K, Table}
 use Rattle.tables.specs.Lines.{In, InA, Holds}
-use Rattle.sound.specs.Sound.{Present}
+use Rattle.sound.specs.Sound.{Present, OneGrant}
 
 -- ── the paper's sets; AllPaddr[MappedBlocks[p]] is Holds ──
 -- children[p]: c is present, not the root, and its parent is p
@@ -54,6 +54,12 @@ pub record Isolated (t : Table) : Type 0 where
   pub horizontal : HorizontalIsolation (t .k)
   pub kernel : KernelDataIsolation t
   pub regions : RegionsAccessible t
+
+-- ── rights ──
+-- The root's entries have equal rights, and so have a child's own entries inside one grant to it: what merge joins does not differ in rights.
+pub record EqualRights (k : K) : Type 0 where
+  pub root : (i m : ℕ) (e f : Entry) → k .slot 0 i ≡ some e → k .slot 0 m ≡ some f → e .rights ≡ f .rights
+  pub child : (p i m : ℕ) (e f : Entry) → (p ≡ 0 → ⊥) → k .slot p i ≡ some e → k .slot p m ≡ some f → OneGrant k p e f → e .rights ≡ f .rights
 
 -- ── lines and the tree ──
 -- q is p or above it

@@ -34,6 +34,10 @@ pub record Granted (k : K) (p : ℕ) (e : Entry) (i : ℕ) (f : Entry) : Type 0 
   pub given : f .given ≡ p
   pub around : Around e f
 
+-- one entry that p's parent gave it contains e and f
+abbrev pub OneGrant : K → ℕ → Entry → Entry → Type 0
+OneGrant k p e f = (j : ℕ) × (g : Entry) × Granted k p e j g × Granted k p f j g
+
 -- a not-given entry of partition q equals the area
 pub record Equals (k : K) (q : ℕ) (a : Area) : Type 0 where
   pub i : ℕ
@@ -116,10 +120,12 @@ pub record S10 (t : Table) (p : ℕ) : Type 0 where
   pub names : (r i : ℕ) → t .region p r ≡ some i → ((e : Entry) × (t .k .slot p i ≡ some e)) × (t .opened p i ≡ true)
   pub once : (r q i : ℕ) → t .region p r ≡ some i → t .region p q ≡ some i → r ≡ q
 
--- S11 the root's entries have all rights; a child's have no right that the parent's entry around it lacks.
+-- S11 the root's entries have all rights; a child's have no right that the parent's entry around it lacks; a child's own entries inside one grant to it
+-- have equal rights.
 pub record S11 (k : K) (p : ℕ) : Type 0 where
   pub root : p ≡ 0 → (i : ℕ) (e : Entry) → k .slot p i ≡ some e → e .rights ≡ allRights
   pub child : (p ≡ 0 → ⊥) → (i j : ℕ) (e f : Entry) → k .slot p i ≡ some e → Granted k p e j f → Sub (e .rights) (f .rights)
+  pub equal : (p ≡ 0 → ⊥) → (i m : ℕ) (e f : Entry) → k .slot p i ≡ some e → k .slot p m ≡ some f → OneGrant k p e f → e .rights ≡ f .rights
 
 -- Clause n of the eleven at partition p. S1, and S3 of word 0, are looked at with partition 0.
 abbrev pub Clause : List ℕ → ℕ → ℕ → Type 0

@@ -1,6 +1,6 @@
 -- Merge, exit by exit: the number of each refusal, and, done, that the two open entries are one open entry and only the caller's regions are left to settle.
 use mathlib.Core.Path.{_≡_, refl, sym, subst, _∙_}
-use mathlib.Core.Bool.{Bool, true, false, _&&_, _||_, Bool·beq}
+use mathlib.Core.Bool.{Bool, true, false, _&&_, _||_}
 use mathlib.Core.List.{List}
 use Prim.Native.Nat.{ℕ}
 use lib.Dec.{eqb}
@@ -16,23 +16,20 @@ use Rattle.tables.specs.Settle.{settle, settled}
 use Rattle.tables.specs.Kept.{keepRegions}
 use Rattle.tables.specs.declared.Outcome.the-variants.{Done}
 use Rattle.sound.specs.Laws.Settled.{Settled, clear-both, entry-clear, put-settled, empty-words, right-settled}
-use Rattle.rules.specs.Rules.{Result, done, refused, check, endingAt, mergeK, oneGrant, sameRights, merge}
+use Rattle.sound.specs.Clauses.{containsBoth, oneGrant}
+use Rattle.rules.specs.Rules.{Result, done, refused, check, endingAt, mergeK, merge}
 use Rattle.rules.specs.Ran.{Ran}
 use Rattle.rules.specs.Laws.Ran.{ran-done, pass, fail, there, missing}
 use Rattle.blocks.specs.Laws.Pick.{at-caller}
 use Rattle.blocks.specs.Laws.RegionExits.{entry-none, entry-there}
-use Rattle.blocks.specs.MergeExits.{containsBoth, mayJoin, joinedAt, CanMerge}
-
-pub both-true : (b : Bool) → b ≡ Bool·beq true b
-both-true true = refl
-both-true false = refl
+use Rattle.blocks.specs.MergeExits.{mayJoin, joinedAt, CanMerge}
 
 pub joins-root : (k : K) (c : ℕ) (e f : Entry) → c ≡ 0 → true ≡ mayJoin k c e f
 unfolding mayJoin
 joins-root k c e f z = rw (eq-eqb c 0 z) refl
 
 pub joins-granted : (k : K) (c : ℕ) (e f : Entry) {q : ℕ} {b : Bool} → (c ≡ 0 → ⊥) → k .parent c ≡ q → b ≡ any 32 (λ i. containsBoth c e f (k .slot q i)) → b ≡ mayJoin k c e f
-unfolding mayJoin
+unfolding mayJoin oneGrant
 joins-granted k c e f {b = b} z w x = rw (ne-eqb c 0 z) (subst (λ (q : ℕ). b ≡ any 32 (λ i. containsBoth c e f (k .slot q i))) (sym w) x)
 
 pub merge-none : {l : List ℕ} {c s : ℕ} (u : ℕ) {e : SlotFields} → view l .k .current ≡ c → Seen l c s e → e .present ≡ false → merge (view l) s u ≡ refused 4
@@ -55,7 +52,7 @@ module _ {l : List ℕ} {c s u : ℕ} {e f : SlotFields} (h : CanMerge l c s u e
   after = done 0 0 (settle (mergeK (view l .k) s u (entryOf e) (entryOf f)) (view l .region))
 
   from-5 : {x : Result} → check 5 (view l .opened (view l .k .current) s && view l .opened (view l .k .current) u) (check 6 (eqb (e .given .0) 0 && eqb (f .given .0) 0)
-      (check 11 (eqb (e .end .0) (f .start .0)) (check 12 (eqb (view l .k .current) 0 || oneGrant (view l .k) (entryOf e) (entryOf f)) (check 13 (sameRights (e .rights) (f .rights)) after)))) ≡ x
+      (check 11 (eqb (e .end .0) (f .start .0)) (check 12 (eqb (view l .k .current) 0 || oneGrant (view l .k) (view l .k .current) (entryOf e) (entryOf f)) after))) ≡ x
       → merge (view l) s u ≡ x
   unfolding merge
   from-5 q = there 4 _ _ (entry-there e-now (h .first-there)) (there 4 _ _ (entry-there f-now (h .second-there)) q)
@@ -68,7 +65,7 @@ module _ {l : List ℕ} {c s u : ℕ} {e f : SlotFields} (h : CanMerge l c s u e
 
   module _ (a : e .opened ≡ true) (b : f .opened ≡ true) where
     from-6 : {x : Result} → check 6 (eqb (e .given .0) 0 && eqb (f .given .0) 0)
-        (check 11 (eqb (e .end .0) (f .start .0)) (check 12 (eqb (view l .k .current) 0 || oneGrant (view l .k) (entryOf e) (entryOf f)) (check 13 (sameRights (e .rights) (f .rights)) after))) ≡ x
+        (check 11 (eqb (e .end .0) (f .start .0)) (check 12 (eqb (view l .k .current) 0 || oneGrant (view l .k) (view l .k .current) (entryOf e) (entryOf f)) after)) ≡ x
         → merge (view l) s u ≡ x
     from-6 q = from-5 (pass 5 (rw (e-now .opened, a, f-now .opened) b) q)
 
@@ -80,7 +77,7 @@ module _ {l : List ℕ} {c s u : ℕ} {e f : SlotFields} (h : CanMerge l c s u e
 
     module _ (g : e .given .0 ≡ 0) (i : f .given .0 ≡ 0) where
       from-11 : {x : Result} → check 11 (eqb (e .end .0) (f .start .0))
-          (check 12 (eqb (view l .k .current) 0 || oneGrant (view l .k) (entryOf e) (entryOf f)) (check 13 (sameRights (e .rights) (f .rights)) after)) ≡ x
+          (check 12 (eqb (view l .k .current) 0 || oneGrant (view l .k) (view l .k .current) (entryOf e) (entryOf f)) after) ≡ x
           → merge (view l) s u ≡ x
       from-11 q = from-6 (pass 6 (rw (eq-eqb (e .given .0) 0 g) (eq-eqb (f .given .0) 0 i)) q)
 
@@ -88,11 +85,11 @@ module _ {l : List ℕ} {c s u : ℕ} {e f : SlotFields} (h : CanMerge l c s u e
       merge-apart z = from-11 (fail 11 _ (ne-eqb (e .end .0) (f .start .0) z))
 
       module _ (n : e .end .0 ≡ f .start .0) where
-        join-now : {b : Bool} → mayJoin (view l .k) c (entryOf e) (entryOf f) ≡ b → (eqb (view l .k .current) 0 || oneGrant (view l .k) (entryOf e) (entryOf f)) ≡ b
-        unfolding mayJoin oneGrant containsBoth
+        join-now : {b : Bool} → mayJoin (view l .k) c (entryOf e) (entryOf f) ≡ b → (eqb (view l .k .current) 0 || oneGrant (view l .k) (view l .k .current) (entryOf e) (entryOf f)) ≡ b
+        unfolding mayJoin
         join-now {b} q = subst (λ (c : ℕ). mayJoin (view l .k) c (entryOf e) (entryOf f) ≡ b) (sym (h .now)) q
 
-        from-12 : {x : Result} → check 12 (eqb (view l .k .current) 0 || oneGrant (view l .k) (entryOf e) (entryOf f)) (check 13 (sameRights (e .rights) (f .rights)) after) ≡ x
+        from-12 : {x : Result} → check 12 (eqb (view l .k .current) 0 || oneGrant (view l .k) (view l .k .current) (entryOf e) (entryOf f)) after ≡ x
             → merge (view l) s u ≡ x
         from-12 q = from-11 (pass 11 (eq-eqb (e .end .0) (f .start .0) n) q)
 
@@ -100,9 +97,6 @@ module _ {l : List ℕ} {c s u : ℕ} {e f : SlotFields} (h : CanMerge l c s u e
         merge-two-grants q = from-12 (fail 12 _ (join-now q))
 
         module _ (m : mayJoin (view l .k) c (entryOf e) (entryOf f) ≡ true) where
-          pub merge-other-rights : sameRights (e .rights) (f .rights) ≡ false → merge (view l) s u ≡ refused 13
-          merge-other-rights q = from-12 (pass 12 (join-now m) (fail 13 _ q))
-
           -- the longer entry is open, as its two parts are
           longer-settled : Settled (putSlot (view l) c s (some (endingAt (entryOf e) (f .end .0))) (e .opened))
           longer-settled =
@@ -111,7 +105,7 @@ module _ {l : List ℕ} {c s u : ℕ} {e f : SlotFields} (h : CanMerge l c s u e
               let high = entry-clear was {e = entryOf f} (entry-there (h .second) (h .second-there)) ∙ h .second .opened ∙ b in
               rw a (put-settled was c s (endingAt (entryOf e) (f .end .0)) true (clear-both (view l .k .area) (e .start .0) (e .end .0) (f .end .0) low (rw n high)) (λ _. refl))
 
-          pub merge-done : {v r : List ℕ} → sameRights (e .rights) (f .rights) ≡ true → Is v (joinedAt (view l) c s u e f) → Is r (keepRegions (view v) c) → Ran (merge (view l) s u) l (Done 0 0) r
-          merge-done {r = r} q put kept =
-              ran-done (from-12 (pass 12 (join-now m) (pass 13 q refl)))
+          pub merge-done : {v r : List ℕ} → Is v (joinedAt (view l) c s u e f) → Is r (keepRegions (view v) c) → Ran (merge (view l) s u) l (Done 0 0) r
+          merge-done {r = r} put kept =
+              ran-done (from-12 (pass 12 (join-now m) refl))
               (subst (λ (c : ℕ). r ≡ encode (settled (joinedAt (view l) c s u e f))) (sym (h .now)) (empty-words longer-settled c u put kept))

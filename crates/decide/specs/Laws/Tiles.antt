@@ -1,6 +1,6 @@
 -- The walk along a partition's entries and its parent's grants decides S7's cover and S11: where they hold it is nowhere stuck, where it ends they hold.
 use mathlib.Core.Path.{_≡_, refl, ap, sym, subst, _∙_}
-use mathlib.Core.Bool.{Bool, true, false, cond, _&&_, false≢true}
+use mathlib.Core.Bool.{Bool, true, false, cond, _&&_, Bool·beq, false≢true}
 use mathlib.Core.List.{List}
 use Prim.Native.Nat.{ℕ, _+_, _-_, _≤_, _<_}
 use native.Mathlib.Decide.{ℕ-discrete, decLt}
@@ -23,7 +23,7 @@ use Rattle.sound.specs.Sound.{Around, allRights}
 use Rattle.sound.specs.Clauses.{s7Root, s7Inside, s7Cover, within, s11}
 use Rattle.sound.specs.Laws.Tests.{and-says, and-true}
 use Rattle.sound.specs.Laws.MeansEntries.{present-means, slots32, root-means, inside-means, cover-means}
-use Rattle.sound.specs.Laws.MeansRegions.{within-means, s11-means}
+use Rattle.sound.specs.Laws.MeansRegions.{within-means, same-rights-means, s11-means}
 use Rattle.sound.specs.Laws.MeansWords.{s2-means}
 use Rattle.decide.specs.Entries.{exactly, fullSlot}
 use Rattle.decide.specs.Laws.Entries.{rights-root}
@@ -32,7 +32,7 @@ use Rattle.shape.specs.Laws.AtOnce.{shaped-s2, shaped-record}
 use Rattle.decide.specs.Laws.Decide.{never, solid}
 use Rattle.decide.specs.Order.{linesOf, placed, Orders}
 use Rattle.decide.specs.Laws.Order.{held-of, lines-of}
-use Rattle.decide.specs.Tiles.{Piece, Tiling, Fits, Tiled, fitted, stuck, entryOr, rowOf, InOrder, ChildOf}
+use Rattle.decide.specs.Tiles.{Piece, Tiling, Fits, follows, Tiled, fitted, stuck, entryOr, rowOf, InOrder, ChildOf}
 
 -- ── two rows: n entries E, and m entries F, some of them given to p ──
 -- each of E has a line; in both, each ends by the start of those after it
@@ -41,11 +41,12 @@ record TwoRows (E : ℕ → Entry) (n : ℕ) (F : ℕ → Entry) (m : ℕ) : Typ
   pub ends : (a b : ℕ) → a < b → b < n → E a .stop ≤ E b .start
   pub grants : (a b : ℕ) → a < b → b < m → F a .stop ≤ F b .start
 
--- each of E lies inside one of F that is given to p, with no right that it lacks; and they cover those
+-- each of E lies inside one of F that is given to p, with no right that it lacks and with the rights of all that lie inside it; and they cover those
 pub record Exact (E : ℕ → Entry) (n : ℕ) (F : ℕ → Entry) (m p : ℕ) : Type 0 where
   pub inside : (a : ℕ) → a < n → (b : ℕ) × (b < m) × (F b .given ≡ p) × Around (E a) (F b)
   pub cover : (b : ℕ) → b < m → F b .given ≡ p → (l : ℕ) → In l (F b) → (a : ℕ) × (a < n) × In l (E a)
   pub rights : (a b : ℕ) → a < n → b < m → F b .given ≡ p → Around (E a) (F b) → within (E a .rights) (F b .rights) ≡ true
+  pub equal : (a c b : ℕ) → a < n → c < n → b < m → F b .given ≡ p → Around (E a) (F b) → Around (E c) (F b) → E a .rights ≡ E c .rights
 
 -- ── one range lo to hi with rights r ──
 -- two results are equal, in a row where each has a line and ends by the start of those after it
@@ -58,7 +59,7 @@ module _ {E : ℕ → Entry} {n i lo hi : ℕ} {r : Rights} (line : (a : ℕ) �
       omega (arith, v .to, ends a x b (omega arith))
 
   -- where they tile the range, the walk is not stuck
-  no-stop : {x k at at′ : ℕ} → x ≤ n → hi ≤ at → Tiling E i x lo hi at r → at′ < hi → Tiling E i k lo hi at′ r → Fits E n k hi at′ r
+  no-stop : {x k at at′ : ℕ} → x ≤ n → hi ≤ at → Tiling E i x lo hi at r → at′ < hi → Tiling E i k lo hi at′ r → Fits E n i k hi at′ r
   no-stop {x} {k} {at} {at′} few far t c u =
       let (a, from, b, v) = t .cover at′ (u .on) (omega arith) in
       go a b v (reached a from v (decLt a k))
@@ -75,18 +76,48 @@ module _ {E : ℕ → Entry} {n i lo hi : ℕ} {r : Rights} (line : (a : ℕ) �
       at-least b from (yes h) = let (a, _, d, v) = u .cover (E k .start) from h in absurd (omega (arith, v .to, ends a k d b))
       at-least b from (no h) = omega arith
 
-      go : (a : ℕ) → a < x → In at′ (E a) → k ≤ a → Fits E n k hi at′ r
+      go : (a : ℕ) → a < x → In at′ (E a) → k ≤ a → Fits E n i k hi at′ r
       go a b v h =
           let e = t .piece k (u .up) (omega arith) in
           let low = starts a h (omega arith) v (ℕ-discrete k a) in
           let high = at-least (omega arith) (e .from) (decLt (E k .start) at′) in
-          record { there = omega arith; start = omega arith; to = e .to; rights = e .rights }
+          record { there = omega arith; start = omega arith; to = e .to; rights = e .rights; equal = t .equal k (u .up) (omega arith) }
 
   row-one : {x y : ℕ} → Tiled E n i lo hi r x → Tiled E n i lo hi r y → x ≡ y
   row-one (fitted at few far t) (fitted at′ few′ far′ u) = omega (arith, no-further few′ far t u, no-further few far′ u t)
   row-one (fitted at few far t) (stuck k at′ _ z c u no-fit) = absurd (no-fit (no-stop few far t c u))
   row-one (stuck k at _ z c t no-fit) (fitted at′ few′ far′ u) = absurd (no-fit (no-stop few′ far′ u c t))
   row-one (stuck k at _ z c t no-fit) (stuck k′ at′ _ z′ c′ u no-fit′) = z ∙ sym z′
+
+-- ── what the rights of the next entry are compared with ──
+-- s: the range's before the first, those of the first after it
+pub record Compared (E : ℕ → Entry) (i k : ℕ) (r s : Rights) : Type 0 where
+  pub before : k ≡ i → s ≡ r
+  pub after : i < k → s ≡ E i .rights
+
+pub compare-start : {E : ℕ → Entry} {i : ℕ} {r : Rights} → Compared E i i r r
+compare-start = record { before = λ _. refl; after = λ h. absurd (omega arith) }
+
+pub both-true : (b : Bool) → b ≡ Bool·beq true b
+both-true true = refl
+both-true false = refl
+
+module _ (k i : ℕ) (a b : Rights) where
+  first-follows : within a b ≡ true → k ≡ i → follows (eqb k i) a b ≡ true
+  unfolding follows
+  first-follows q z = rw (eq-eqb k i z) q
+
+  later-follows : a ≡ b → (k ≡ i → ⊥) → follows (eqb k i) a b ≡ true
+  unfolding follows
+  later-follows q z = rw (ne-eqb k i z) (same-rights-means a b .1 q)
+
+  follows-first : follows (eqb k i) a b ≡ true → k ≡ i → within a b ≡ true
+  unfolding follows
+  follows-first q z = rw (eq-eqb k i z) at q
+
+  follows-later : follows (eqb k i) a b ≡ true → (k ≡ i → ⊥) → a ≡ b
+  unfolding follows
+  follows-later q z = same-rights-means a b .0 (rw (ne-eqb k i z) at q)
 
 -- ── laws of the walk along one range ──
 module _ {E : ℕ → Entry} {i lo hi : ℕ} {r : Rights} where
@@ -96,16 +127,22 @@ module _ {E : ℕ → Entry} {i lo hi : ℕ} {r : Rights} where
     on = omega arith;
     piece = λ a b c. absurd (omega arith);
     cover = λ l b c. absurd (omega arith);
+    equal = λ a b c. absurd (omega arith);
   }
 
-  tile-on : {n k at : ℕ} → Tiling E i k lo hi at r → E k .start < E k .stop → Fits E n k hi at r → Tiling E i (k + 1) lo hi (E k .stop) r
+  tile-on : {n k at : ℕ} → Tiling E i k lo hi at r → E k .start < E k .stop → Fits E n i k hi at r → Tiling E i (k + 1) lo hi (E k .stop) r
   tile-on {n} {k} {at} inv line f = record {
     up = omega (arith, inv .up);
     on = omega (arith, inv .on, f .start);
     piece = λ a b c. piece a b c (ℕ-discrete a k);
     cover = λ l b c. cover l b c (decLt l at);
+    equal = λ a b c. equal a b c (ℕ-discrete a k);
   }
     where
+      equal : (a : ℕ) → i ≤ a → a < k + 1 → Dec (a ≡ k) → E a .rights ≡ E i .rights
+      equal a b c (yes z) = rw z (f .equal)
+      equal a b c (no z) = inv .equal a b (omega arith)
+
       piece : (a : ℕ) → i ≤ a → a < k + 1 → Dec (a ≡ k) → Piece (E a) lo hi (E k .stop) r
       piece a b c (yes z) = rw z (record { from = omega (arith, inv .on, f .start); to = f .to; before = omega arith; rights = f .rights })
       piece a b c (no z) = let e = inv .piece a b (omega arith) in record { from = e .from; to = e .to; before = omega (arith, e .before, f .start); rights = e .rights }
@@ -124,6 +161,7 @@ module _ {E F : ℕ → Entry} {p : ℕ} where
     inside = λ a b. absurd (omega arith);
     cover = λ a b. absurd (omega arith);
     rights = λ a b c. absurd (omega arith);
+    equal = λ a c b d. absurd (omega arith);
   }
 
   -- the next is not given to p
@@ -132,6 +170,7 @@ module _ {E F : ℕ → Entry} {p : ℕ} where
     inside = λ a b. let (c, h, g, u) = inv .inside a b in (c, omega arith, g, u);
     cover = λ b h g. inv .cover b (below b h g) g;
     rights = λ a b c h g. inv .rights a b c (below b h g) g;
+    equal = λ a d b c e h g. inv .equal a d b c e (below b h g) g;
   }
     where
       below : (b : ℕ) → b < j + 1 → F b .given ≡ p → b < j
@@ -160,7 +199,8 @@ module _ {E F : ℕ → Entry} {p : ℕ} where
       exact-on few′ (fitted at _ c t) = record {
         inside = λ a b. inside a b (decLt a i);
         cover = λ b h. cover b h (ℕ-discrete b j);
-        rights = λ a b c h. rights a b c h (decLt a i) (ℕ-discrete b j);
+        rights = λ a b c h. rights a b c h (ℕ-discrete b j);
+        equal = λ a d b c e h. equal a d b c e h (ℕ-discrete b j);
       }
         where
           inside : (a : ℕ) → a < x → Dec (a < i) → (b : ℕ) × (b < j + 1) × (F b .given ≡ p) × Around (E a) (F b)
@@ -174,14 +214,26 @@ module _ {E F : ℕ → Entry} {p : ℕ} where
               (a, d, w)
           cover b h (no z) g l u = let (a, d, v) = inv .cover b (omega arith) g l u in (a, omega (arith, t .up), v)
 
-          rights : (a b : ℕ) → a < x → b < j + 1 → Dec (a < i) → Dec (b ≡ j) → F b .given ≡ p → Around (E a) (F b) → within (E a .rights) (F b .rights) ≡ true
-          rights a b c h (yes d) (yes z) g u =
-              let (b′, h′, _, u′) = inv .inside a d in
-              let v : Around (E a) (F j) = subst (λ (b : ℕ). Around (E a) (F b)) z u in
-              absurd (omega (arith, w .line a (omega arith), w .grants b′ j h′ next, u′ .to, v .from))
-          rights a b c h (yes d) (no z) g u = inv .rights a b d (omega arith) g u
-          rights a b c h (no d) (yes z) g u = rw z (t .piece a (omega arith) c .rights)
-          rights a b c h (no d) (no z) g u = absurd (later a b (omega arith) (omega arith) (omega arith) g u)
+          -- what lies in this grant comes from place i on, what lies in one of those before it earlier
+          late : (a b : ℕ) → a < x → b ≡ j → Around (E a) (F b) → Dec (a < i) → i ≤ a
+          late a b c z u (yes d) =
+              let (b′, h, _, v) = inv .inside a d in
+              let o : Around (E a) (F j) = subst (λ (b : ℕ). Around (E a) (F b)) z u in
+              absurd (omega (arith, w .line a (omega arith), w .grants b′ j h next, v .to, o .from))
+          late a b c z u (no d) = omega arith
+
+          early : (a b : ℕ) → a < x → b < j → F b .given ≡ p → Around (E a) (F b) → Dec (a < i) → a < i
+          early a b c h g u (yes d) = d
+          early a b c h g u (no d) = absurd (later a b (omega arith) (omega arith) h g u)
+
+          rights : (a b : ℕ) → a < x → b < j + 1 → Dec (b ≡ j) → F b .given ≡ p → Around (E a) (F b) → within (E a .rights) (F b .rights) ≡ true
+          rights a b c h (yes z) g u = rw z (t .piece a (late a b c z u (decLt a i)) c .rights)
+          rights a b c h (no z) g u = inv .rights a b (early a b c (omega arith) g u (decLt a i)) (omega arith) g u
+
+          equal : (a d b : ℕ) → a < x → d < x → b < j + 1 → Dec (b ≡ j) → F b .given ≡ p → Around (E a) (F b) → Around (E d) (F b) → E a .rights ≡ E d .rights
+          equal a d b c e h (yes z) g u v = t .equal a (late a b c z u (decLt a i)) c ∙ sym (t .equal d (late d b e z v (decLt d i)) e)
+          equal a d b c e h (no z) g u v =
+              inv .equal a d b (early a b c (omega arith) g u (decLt a i)) (early d b e (omega arith) g v (decLt d i)) (omega arith) g u v
 
       -- they do not tile it
       exact-stuck : n < x → Tiled E n i (F j .start) (F j .stop) (F j .rights) x → Exact E n F m p → ⊥
@@ -212,13 +264,20 @@ module _ {E F : ℕ → Entry} {p : ℕ} where
               absurd (omega (arith, u .to, w .ends a k e d))
           exactly-at d s v (no h) = omega arith
 
+          -- .. and has the rights of those before it
+          alike : k < n → Around (E k) (F j) → Exact E n F m p → Dec (k ≡ i) → E k .rights ≡ E i .rights
+          alike d v ex (yes z) = rw z refl
+          alike d v ex (no z) =
+              let e = t .piece i (omega arith) (omega (arith, t .up)) in
+              ex .equal k i j d (omega (arith, t .up)) next given v (record { from = e .from; to = e .to })
+
           here : k < n → E k .start ≤ at → Exact E n F m p → (b : ℕ) → b < m → F b .given ≡ p → Around (E k) (F b) → Dec (b < j) → Dec (j < b) → ⊥
           here d s ex b h g v (yes y) _ = later k b (t .up) d y g v
           here d s ex b h g v (no y) (yes z) = omega (arith, v .from, w .grants j b z h)
           here d s ex b h g v (no y) (no z) =
               let e : b ≡ j = omega arith in
               let u : Around (E k) (F j) = subst (λ (b : ℕ). Around (E k) (F b)) e v in
-              no-fit (record { there = d; start = exactly-at d s u (decLt (E k .start) at); to = u .to; rights = ex .rights k j d next given u })
+              no-fit (record { there = d; start = exactly-at d s u (decLt (E k .start) at); to = u .to; rights = ex .rights k j d next given u; equal = alike d u ex (ℕ-discrete k i) })
 
 -- ── the entries of a partition by place ──
 -- the first i entries of p lie inside those of the first j of q that are given to p, and cover them
@@ -267,7 +326,7 @@ pub tiled-one : {l o : List ℕ} {p n i lo hi : ℕ} {r : Rights} {x y : ℕ} �
 tiled-one h = row-one (row-line h) (row-ends h)
 
 module _ {l o : List ℕ} {p n i k lo hi at : ℕ} {r : Rights} (h : InOrder l o p n) (inv : Tiling (rowOf l o p) i k lo hi at r) where
-  no-place : at < hi → (Fits (rowOf l o p) n k hi at r → ⊥) → Tiled (rowOf l o p) n i lo hi r 33
+  no-place : at < hi → (Fits (rowOf l o p) n i k hi at r → ⊥) → Tiled (rowOf l o p) n i lo hi r 33
   no-place c no-fit = stuck k at (omega (arith, h .rows .ordered .few)) refl c inv no-fit
 
   pub tile-none : at < hi → n ≤ k → Tiled (rowOf l o p) n i lo hi r 33
@@ -280,13 +339,33 @@ module _ {l o : List ℕ} {p n i k lo hi at : ℕ} {r : Rights} (h : InOrder l o
     pub tile-over : hi < f .end .0 → Tiled (rowOf l o p) n i lo hi r 33
     tile-over d = no-place c (λ u. omega (arith, u .to, row-seen h b v .stop))
 
-    pub tile-beyond : within (f .rights) r ≡ false → Tiled (rowOf l o p) n i lo hi r 33
-    tile-beyond q = no-place c (λ u. false≢true (sym q ∙ rw (row-seen h b v .rights) at (u .rights)))
+    module _ {s : Rights} (w : Compared (rowOf l o p) i k r s) where
+      pub tile-unlike : follows (eqb k i) (f .rights) s ≡ false → Tiled (rowOf l o p) n i lo hi r 33
+      tile-unlike q = no-place c (λ u. false≢true (sym q ∙ go u (ℕ-discrete k i)))
+        where
+          go : Fits (rowOf l o p) n i k hi at r → Dec (k ≡ i) → follows (eqb k i) (f .rights) s ≡ true
+          go u (yes z) = first-follows k i (f .rights) s (rw (← row-seen h b v .rights, w .before z) (u .rights)) z
+          go u (no z) = later-follows k i (f .rights) s (sym (row-seen h b v .rights) ∙ u .equal ∙ sym (w .after (omega (arith, inv .up)))) z
 
-    pub tile-next : f .start .0 ≡ at → f .end .0 ≤ hi → within (f .rights) r ≡ true → Tiling (rowOf l o p) i (k + 1) lo hi (f .end .0) r
-    tile-next start to rights =
-        let s = row-seen h b v in
-        rw (← s .stop) (tile-on inv (row-line h k b) (record { there = b; start = s .start ∙ start; to = omega (arith, s .stop); rights = rw (s .rights) rights }))
+      module _ (start : f .start .0 ≡ at) (to : f .end .0 ≤ hi) (q : follows (eqb k i) (f .rights) s ≡ true) where
+        fits : Fits (rowOf l o p) n i k hi at r
+        fits =
+            let e = row-seen h b v in
+            let (x, y) = go (ℕ-discrete k i) in
+            record { there = b; start = e .start ∙ start; to = omega (arith, e .stop); rights = rw (e .rights) x; equal = e .rights ∙ y }
+          where
+            go : Dec (k ≡ i) → (within (f .rights) r ≡ true) × (f .rights ≡ rowOf l o p i .rights)
+            go (yes z) = (rw (w .before z) at (follows-first k i (f .rights) s q z), rw (← z) (sym (row-seen h b v .rights)))
+            go (no z) =
+                let after : i < k = omega (arith, inv .up) in
+                let x = follows-later k i (f .rights) s q z ∙ w .after after in
+                (rw x (inv .piece i (omega arith) after .rights), x)
+
+        pub tile-next : Tiling (rowOf l o p) i (k + 1) lo hi (f .end .0) r
+        tile-next = rw (← row-seen h b v .stop) (tile-on inv (row-line h k b) fits)
+
+        pub compare-next : Compared (rowOf l o p) i (k + 1) r (f .rights)
+        compare-next = record { before = λ z. absurd (omega (arith, inv .up)); after = λ _. sym (row-seen h b v .rights) ∙ fits .equal }
 
 -- ── a child's entries and its parent's ──
 module _ {l o : List ℕ} {p q n m : ℕ} (h : ChildOf l o p q n m) where
@@ -315,6 +394,10 @@ module _ {l o : List ℕ} {p q n m : ℕ} (h : ChildOf l o p q n m) where
         rights = λ a b c d g v.
             within-means (rowOf l o p a .rights) (rowOf l o q b .rights) .1
             (s11-means l p (h .own .inP) .0 s .child (h .other) _ _ _ _ (row-at (h .own) a c) (record { at = of-q _ _ (row-at (h .above) b d); given = g; around = v }));
+        equal = λ a c b d e i g u v.
+            let w = of-q _ _ (row-at (h .above) b i) in
+            s11-means l p (h .own .inP) .0 s .equal (h .other) _ _ _ _ (row-at (h .own) a d) (row-at (h .own) c e)
+            (placed o q b, rowOf l o q b, record { at = w; given = g; around = u }, record { at = w; given = g; around = v });
       }
 
   exact-child : Exact (rowOf l o p) n (rowOf l o q) m p → exactly (view l .k) p && s11 (view l .k) p ≡ true
@@ -338,6 +421,12 @@ module _ {l o : List ℕ} {p q n m : ℕ} (h : ChildOf l o p q n m) where
             let (b, d, y) = row-every (h .above) j f (to-q j f (g .at)) in
             let v : Around (rowOf l o p a) (rowOf l o q b) = subst (λ (e : Entry). Around e (rowOf l o q b)) (sym z) (subst (Around e) (sym y) (g .around)) in
             rw (← z, ← y) (within-means (rowOf l o p a .rights) (rowOf l o q b .rights) .0 (ex .rights a b c d (subst (λ (f : Entry). f .given ≡ p) (sym y) (g .given)) v));
+        equal = λ _ i m e f u v (j, g, x, y).
+            let (a, c, z) = row-every (h .own) i e u in
+            let (d, k, w) = row-every (h .own) m f v in
+            let (b, r, s) = row-every (h .above) j g (to-q j g (x .at)) in
+            let near : (a : ℕ) (e : Entry) → rowOf l o p a ≡ e → Around e g → Around (rowOf l o p a) (rowOf l o q b) = λ a e z t. rw (z, s) t in
+            rw (← z, ← w) (ex .equal a d b c k r (rw s (x .given)) (near a e z (x .around)) (near d f w (y .around)));
       }))
 
   two-rows : TwoRows (rowOf l o p) n (rowOf l o q) m
@@ -377,10 +466,12 @@ abbrev whole : List ℕ → ℕ → ℕ → Entry
 whole l p b = record { start = view l .k .base; stop = view l .k .stop; given = p; rights = allRights }
 
 module _ {l o : List ℕ} {p n : ℕ} (h : InOrder l o p n) (root : p ≡ 0) where
-  root-exact : exactly (view l .k) p ≡ true → Exact (rowOf l o p) n (whole l p) 1 p
+  root-exact : exactly (view l .k) p && s11 (view l .k) p ≡ true → Exact (rowOf l o p) n (whole l p) 1 p
   unfolding exactly
   root-exact w =
-      let x : s7Root (view l .k) p ≡ true = rw (eq-eqb p 0 root) at w in
+      let (y, s) = and-says (exactly (view l .k) p) (s11 (view l .k) p) w in
+      let x : s7Root (view l .k) p ≡ true = rw (eq-eqb p 0 root) at y in
+      let full = s11-means l p (h .inP) .0 s .root root in
       let q = root-means (view l .k) (slots32 l) p (h .lines) .0 x in
       record {
         inside = λ a b.
@@ -393,6 +484,7 @@ module _ {l o : List ℕ} {p n : ℕ} (h : InOrder l o p n) (root : p ≡ 0) whe
             let (a, d, z) = row-every h (t .i) (t .e) (t .at) in
             (a, d, subst (In i) (sym z) (t .holds));
         rights = λ a b c d g v. within-means (rowOf l o p a .rights) allRights .1 (record { read = λ _. refl; write = λ _. refl; execute = λ _. refl });
+        equal = λ a c b d e _ _ _ _. full _ _ (row-at h a d) ∙ sym (full _ _ (row-at h c e));
       }
 
   exact-root : Exact (rowOf l o p) n (whole l p) 1 p → exactly (view l .k) p ≡ true
@@ -427,13 +519,10 @@ module _ {l o : List ℕ} {p n : ℕ} (h : InOrder l o p n) (root : p ≡ 0) whe
       on : x ≤ n → Exact (rowOf l o p) x (whole l p) 1 p
       on few = exact-on one-row start (omega arith) (omega arith) refl few t
 
-      says : exactly (view l .k) p && s11 (view l .k) p ≡ true → Exact (rowOf l o p) n (whole l p) 1 p
-      says q = root-exact (and-says (exactly (view l .k) p) (s11 (view l .k) p) q .0)
-
       go : Dec (x ≡ n) → Dec (n < x) → eqb x n ≡ exactly (view l .k) p && s11 (view l .k) p
       go (yes e) _ = eq-eqb x n e ∙ sym (and-true _ _ (exact-root (subst (λ (x : ℕ). Exact (rowOf l o p) x (whole l p) 1 p) e (on (omega arith)))) (rights-root (view l .k) p root ∙ w))
-      go (no e) (yes c) = ne-eqb x n e ∙ never _ (λ q. exact-stuck one-row start (omega arith) (omega arith) refl c t (says q))
-      go (no e) (no c) = ne-eqb x n e ∙ never _ (λ q. exact-short one-row (on (omega arith)) (omega arith) (omega arith) (omega arith) (says q))
+      go (no e) (yes c) = ne-eqb x n e ∙ never _ (λ q. exact-stuck one-row start (omega arith) (omega arith) refl c t (root-exact q))
+      go (no e) (no c) = ne-eqb x n e ∙ never _ (λ q. exact-short one-row (on (omega arith)) (omega arith) (omega arith) (omega arith) (root-exact q))
 
 -- ── what the walks need, from what is known of the table ──
 module _ {l o c : List ℕ} (shaped : Shaped l) (orders : Orders (view l .k) o c) where

@@ -82,6 +82,7 @@ module _ (base end : ℕ) where
     s8 = λ p j a u n. absurd (n (area-from p j a u .0));
     s8-apart = λ p j q i a b l u v x y. let w = sameA (area-from p j a u .1) in absurd (omega arith);
     s11 = λ i e u. slot-from 0 i e u .2 .rights;
+    s11-equal = λ c i m e f n u. absurd (n (slot-from c i e u .0));
   }
 
 -- ── the call ──

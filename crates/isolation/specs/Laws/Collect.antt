@@ -80,6 +80,7 @@ module _ {k : K} {p j : ℕ} (h : Core k) (ok : CollectOk k p j) where
     s8 = λ q i a u. h .s8 q i a (was q i a u);
     s8-apart = λ q i r m a b l u v. h .s8-apart q i r m a b l (was q i a u) (was r m b v);
     s11 = h .s11;
+    s11-equal = h .s11-equal;
   }
 
   -- the ledger's line: each partition holds the lines that it held

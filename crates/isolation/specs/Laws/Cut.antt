@@ -20,7 +20,7 @@ use Rattle.isolation.specs.Laws.Two.{From, old, first, second, same-plac
 use Rattle.isolation.specs.Laws.Checks.{FreeEntry, free-answers, free-means}
 use Rattle.isolation.specs.Checks.{FreeSlot}
 use Rattle.isolation.specs.Laws.Keep.{still}
-use Rattle.isolation.specs.Laws.Slots.{Fine, Stays, slots-core, around-stays, part-fine, old-fine}
+use Rattle.isolation.specs.Laws.Slots.{Fine, Stays, Came, slots-core, around-stays, part-fine, old-fine, old-came, came-equal}
 use Rattle.isolation.specs.Laws.Written.{first-at, stays-at, given-stays, closed-stays}
 use Rattle.isolation.specs.Cut.{cutLadder}
 
@@ -105,6 +105,18 @@ module _ {k : K} {s n m : ℕ} {e : Entry} (h : Core k) (ok : CutOk k s n m e) w
       go (first _ _ u) (second _ _ v) = let w = same (some-inj u) in let z = same (some-inj v) in absurd (omega arith)
       go (second _ _ u) (first _ _ v) = let w = same (some-inj u) in let z = same (some-inj v) in absurd (omega arith)
 
+  came : (p i : ℕ) (a : Entry) → new p i ≡ some a → Came k new p a
+  came p i a u = go (inv p i a u)
+    where
+      go : Fr p i a → Came k new p a
+      go (old v _ _) = old-came h v (around p a)
+      go (first z _ v) =
+          let w = same (some-inj v) in
+          record { j = s; e = e; at = rw z (ok .entry .at); line = e .start; was = omega arith; now = omega arith; rights = sym (w .rights); stays = around p e }
+      go (second z _ v) =
+          let w = same (some-inj v) in
+          record { j = s; e = e; at = rw z (ok .entry .at); line = m; was = omega arith; now = omega arith; rights = sym (w .rights); stays = around p e }
+
   -- the ledger's line: each partition holds the lines that it held
   pub cut-holds : (p l : ℕ) → Holds (cutK k s n m e .slot) p l ↔ Holds (k .slot) p l
   cut-holds p l = (new-holds p l, holds-new p l)
@@ -115,6 +127,7 @@ module _ {k : K} {s n m : ℕ} {e : Entry} (h : Core k) (ok : CutOk k s n m e) w
     apart = apart;
     root = cut-holds 0;
     closed = closed-stays (ok .entry) (ok .slot) _ _;
+    equal = λ p i j a b n u v. came-equal h apart n (came p i a u) (came p j b v);
   })
 
 -- ── the service ──

@@ -10,7 +10,7 @@ use Rattle.tables.specs.Update.{both?}
 use Rattle.tables.specs.Lines.{In, Holds}
 use Rattle.tables.specs.Settle.{settle}
 use Rattle.sound.specs.Sound.{Sub}
-use Rattle.sound.specs.Core.{Core}
+use Rattle.sound.specs.Core.{Inside, Core}
 use Rattle.sound.specs.Properties.{Child}
 use Rattle.sound.specs.Whole.{Right}
 use Rattle.sound.specs.Laws.MeansRegions.{within-means}
@@ -19,7 +19,7 @@ use Rattle.isolation.specs.Laws.Two.{From, old, first, second, same-plac
 use Rattle.isolation.specs.Laws.Checks.{FreeEntry, free-answers, is-child-means, free-means}
 use Rattle.isolation.specs.Checks.{FreeSlot}
 use Rattle.isolation.specs.Laws.Keep.{child-other, still}
-use Rattle.isolation.specs.Laws.Slots.{Fine, Stays, slots-core, around-stays, part-fine, old-fine}
+use Rattle.isolation.specs.Laws.Slots.{Fine, Stays, Came, slots-core, around-stays, part-fine, old-fine, old-came, came-equal}
 use Rattle.isolation.specs.Laws.Written.{first-at, stays-at, given-stays, closed-stays}
 use Rattle.isolation.specs.Laws.Settled.{right-loads, settle-right}
 use Rattle.isolation.specs.Ladder.{Answers, finished, Ends}
@@ -128,6 +128,42 @@ module _ {k : K} {c s n : ℕ} {r : Rights} {e : Entry} (h : Core k) (ok : GiveO
       go (first q _ _) (second q′ _ _) = absurd (child-other h (ok .child) (sym q ∙ q′))
       go (second q _ _) (first q′ _ _) = absurd (child-other h (ok .child) (sym q′ ∙ q))
 
+  -- what the child gets is alone in its grant: the child held no line of it
+  equal : (p i m : ℕ) (a b : Entry) → (p ≡ 0 → ⊥) → new p i ≡ some a → new p m ≡ some b
+      → (o : Inside new (k .parent) p a) (q : Inside new (k .parent) p b) → o .i ≡ q .i → a .rights ≡ b .rights
+  equal p i m a b y u v o q z = go (inv p i a u) (inv p m b v)
+    where
+      was : {a : Entry} → p ≡ k .current → some (givenTo e c) ≡ some a → Came k new p a
+      was x v =
+          let w = same (some-inj v) in
+          let l = h .s5-range (k .current) s e (ok .entry .at) in
+          record { j = s; e = e; at = rw x (ok .entry .at); line = e .start; was = omega arith; now = omega arith; rights = sym (w .rights); stays = around p e }
+
+      -- another entry of the child inside that grant
+      alone : {a b : Entry} {j : ℕ} → p ≡ c → rangeOf e r ≡ a → k .slot p j ≡ some b → (o : Inside new (k .parent) p a) (q : Inside new (k .parent) p b)
+          → o .i ≡ q .i → ⊥
+      alone {a} {b} {j} x w t o q z =
+          let d = same w in
+          let l = h .s5-range (k .current) s e (ok .entry .at) in
+          let up : k .parent p ≡ k .current = rw x (ok .child .parent) in
+          let g : new (k .current) (o .i) ≡ some (o .f) = rw up at (o .at) in
+          let f : new (k .current) (q .i) ≡ some (q .f) = rw up at (q .at) in
+          let here : o .i ≡ s = apart (k .current) (o .i) s (o .f) (givenTo e c) (e .start) g at-s (omega arith) (omega arith) in
+          let n = same-place new at-s f (refl, sym z ∙ here) in
+          let r = h .s5-range p j b t in
+          fresh j b (b .start) (rw x at t) (omega arith) (omega arith)
+
+      go : Fr p i a → Fr p m b → a .rights ≡ b .rights
+      go (old t _ _) (old x _ _) = came-equal h apart y (old-came h t (around p a)) (old-came h x (around p b)) o q z
+      go (old t _ _) (first x _ w) = came-equal h apart y (old-came h t (around p a)) (was x w) o q z
+      go (first x _ w) (old t _ _) = came-equal h apart y (was x w) (old-came h t (around p b)) o q z
+      go (first _ _ w) (first _ _ w′) = same (some-inj (sym w ∙ w′)) .rights
+      go (second _ _ w) (second _ _ w′) = same (some-inj (sym w ∙ w′)) .rights
+      go (second x _ w) (old t _ _) = absurd (alone x (some-inj w) t o q z)
+      go (old t _ _) (second x _ w) = absurd (alone x (some-inj w) t q o (sym z))
+      go (first x _ _) (second x′ _ _) = absurd (child-other h (ok .child) (sym x ∙ x′))
+      go (second x _ _) (first x′ _ _) = absurd (child-other h (ok .child) (sym x′ ∙ x))
+
   -- the ledger's line: the child now holds the lines of e too
   pub give-holds : (p l : ℕ) → Holds (giveK k c s n r e .slot) p l ↔ (Holds (k .slot) p l ⊎ ((p ≡ c) × In l e))
   give-holds p l = (new-holds p l, go)
@@ -142,6 +178,7 @@ module _ {k : K} {c s n : ℕ} {r : Rights} {e : Entry} (h : Core k) (ok : GiveO
     apart = apart;
     root = λ l. (λ u. go (new-holds 0 l u), holds-new 0 l);
     closed = closed-stays (ok .entry) (ok .slot) _ _;
+    equal = equal;
   })
     where
       go : {l : ℕ} → Holds (k .slot) 0 l ⊎ ((0 ≡ c) × In l e) → Holds (k .slot) 0 l

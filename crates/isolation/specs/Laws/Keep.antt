@@ -43,7 +43,7 @@ itself e = record { from = omega arith; to = omega arith; rights = refl }
 
 module _ {slot new : ℕ → ℕ → Opt Entry} {up now : ℕ → ℕ} {p : ℕ} (q : now p ≡ up p) where
   -- around a part of e is what was around e
-  pub inside-at : {a e : Entry} → Part a e → (o : Inside slot up p e) → new (up p) (o .i) ≡ some (o .f) → Inside new now p a
+  unfoldable pub inside-at : {a e : Entry} → Part a e → (o : Inside slot up p e) → new (up p) (o .i) ≡ some (o .f) → Inside new now p a
   inside-at w o u = record { i = o .i; f = o .f; at = rw q u; given = o .given; from = omega arith; to = omega arith; sub = rw (w .rights) (o .sub) }
 
   pub backed-at : {j : ℕ} {a : Area} (b : Backed slot up p j a) → new (b .q) (b .i) ≡ some (b .e) → Backed new now p j a

@@ -1,44 +1,40 @@
 -- Merge keeps a table sound, and each partition holds the lines that it held; its answer is that of its conditions.
-use mathlib.Core.Path.{_≡_, refl, sym, _∙_, ap}
+use mathlib.Core.Path.{_≡_, refl, sym, _∙_}
 use mathlib.Core.Logic.{_⊎_, inl, inr, _↔_, ⊎-elim}
-use mathlib.Core.Bool.{Bool, true, _&&_, _||_}
+use mathlib.Core.Bool.{true, _||_}
 use Prim.Native.Nat.{ℕ, _<_}
-use native.Mathlib.Decide.{decLt}
+use native.Mathlib.Decide.{ℕ-discrete, decLt}
 use native.Mathlib.Omega.{arith}
 use lib.Dec.{eqb}
 use borrow.Author.Tests.{eqb-true, eq-eqb}
-use Rattle.words.specs.declared.Rights.{Rights}
 use Rattle.tables.specs.State.{Opt, none, some, Entry, K, Same, Table}
 use Rattle.tables.specs.Laws.State.{same, some-inj, not-none}
 use Rattle.tables.specs.Update.{both?}
 use Rattle.tables.specs.Lines.{In, Holds}
 use Rattle.tables.specs.Settle.{settle}
-use Rattle.sound.specs.Sound.{Granted}
 use Rattle.sound.specs.Core.{Inside, Core}
 use Rattle.sound.specs.Whole.{Right}
-use Rattle.sound.specs.Clauses.{grants}
-use Rattle.sound.specs.Laws.Tests.{and-says, and-true, some-says, some-true}
+use Rattle.sound.specs.Clauses.{oneGrant}
+use Rattle.sound.specs.Laws.Properties.{core-rights}
 use Rattle.sound.specs.Laws.Means.{eq-means, and-means}
-use Rattle.sound.specs.Laws.MeansEntries.{else-says, else-true, grants-means}
-use Rattle.sound.specs.Laws.MeansRegions.{beq-means}
-use Rattle.rules.specs.Rules.{endingAt, mergeK, done, merge, oneGrant, sameRights}
+use Rattle.sound.specs.Laws.MeansEntries.{else-says, else-true, one-grant-means}
+use Rattle.rules.specs.Rules.{endingAt, mergeK, done, merge}
 use Rattle.isolation.specs.Laws.Two.{From, old, first, second, same-place, two-from, two-first, two-old, two-other}
 use Rattle.isolation.specs.Laws.Checks.{FreeEntry}
 use Rattle.isolation.specs.Laws.Keep.{same-clear, still, itself, inside-at}
-use Rattle.isolation.specs.Laws.Slots.{Fine, Stays, slots-core, around-stays, old-fine}
+use Rattle.isolation.specs.Laws.Slots.{Fine, Stays, Came, slots-core, around-stays, old-fine, old-came, came-equal}
 use Rattle.isolation.specs.Laws.Settled.{right-loads, settle-right}
 use Rattle.isolation.specs.Ladder.{Answers, finished, Ends}
 use Rattle.isolation.specs.Laws.Ladder.{ends, check-answers, need-answers}
 use Rattle.isolation.specs.Laws.Fits.{right-fit}
-use Rattle.isolation.specs.Merge.{OneGrant, mergeLadder}
+use Rattle.isolation.specs.Merge.{MayJoin, mergeLadder}
 
--- what checks 4, 5, 6 (first, second), 11 (meet), 12 (grant) and 13 (rights) say
+-- what checks 4, 5, 6 (first, second), 11 (meet) and 12 (grant) say
 pub record MergeOk (k : K) (s t : ℕ) (e f : Entry) : Type 0 where
   pub first : FreeEntry k s e
   pub second : FreeEntry k t f
   pub meet : e .stop ≡ f .start
-  pub grant : OneGrant k e f
-  pub rights : e .rights ≡ f .rights
+  pub grant : MayJoin k e f
 
 module _ {k : K} {s t : ℕ} {e f : Entry} (h : Core k) (ok : MergeOk k s t e f) where
   abbrev new : ℕ → ℕ → Opt Entry
@@ -153,6 +149,27 @@ module _ {k : K} {s t : ℕ} {e f : Entry} (h : Core k) (ok : MergeOk k s t e f)
       go (old _ _ _) (second _ _ v) = not-none none refl v
       go (first _ _ _) (second _ _ v) = not-none none refl v
 
+  -- the whole has the rights of e, and its first line
+  came : (p i : ℕ) (a : Entry) → new p i ≡ some a → Came k new p a
+  came p i a u = go (inv p i a u)
+    where
+      go : Fr p i a → Came k new p a
+      go (old v _ _) = old-came h v (around p a)
+      go (first z _ v) =
+          let w = same (some-inj v) in
+          let x = e-range in
+          let y = f-range in
+          record { j = s; e = e; at = rw z (ok .first .at); line = e .start; was = omega arith; now = omega arith; rights = sym (w .rights); stays = around p e }
+      go (second _ _ v) = not-none none refl v
+
+  -- both have equal rights, so the whole has those of f too: no check asks for it
+  pub merge-rights : e .rights ≡ f .rights
+  merge-rights = go (ℕ-discrete (k .current) 0)
+    where
+      go : Dec (k .current ≡ 0) → e .rights ≡ f .rights
+      go (yes z) = core-rights h .root s t e f (rw z at (ok .first .at)) (rw z at (ok .second .at))
+      go (no n) = core-rights h .child (k .current) s t e f n (ok .first .at) (ok .second .at) (ok .grant n)
+
   -- the ledger's line: each partition holds the lines that it held
   pub merge-holds : (p l : ℕ) → Holds (mergeK k s t e f .slot) p l ↔ Holds (k .slot) p l
   merge-holds p l = (new-holds p l, holds-new p l)
@@ -165,42 +182,20 @@ module _ {k : K} {s t : ℕ} {e f : Entry} (h : Core k) (ok : MergeOk k s t e f)
     closed = λ p i a u _ z. other-stays p i a u
         (λ w. z (same-clear w (ok .first .clear)))
         (λ w. z (same-clear w (ok .second .clear)));
+    equal = λ p i m a b n u v. came-equal h apart n (came p i a u) (came p m b v);
   })
 
 -- ── the service ──
 abbrev pub MergeDone : Table → ℕ → ℕ → ℕ → ℕ → Table → Type 0
 MergeDone t s u v w t′ = (e f : Entry) × MergeOk (t .k) s u e f × (t′ ≡ settle (mergeK (t .k) s u e f) (t .region))
 
-rights-mean : (a b : Rights) → (sameRights a b ≡ true) ↔ (a ≡ b)
-unfolding sameRights
-rights-mean a b =
-    let m = and-means (and-means (beq-means (a .read) (b .read)) (beq-means (a .write) (b .write))) (beq-means (a .execute) (b .execute)) in (
-      λ q. let ((x, y), z) = m .0 q in λ i. record { read = x i; write = y i; execute = z i },
-      λ e. m .1 ((ap (λ (r : Rights). r .read) e, ap (λ (r : Rights). r .write) e), ap (λ (r : Rights). r .execute) e),
-    )
-
 module _ {t : Table} (h : Right t) (s u : ℕ) where
-  grant-means : (e f : Entry) → (eqb (t .k .current) 0 || oneGrant (t .k) e f ≡ true) ↔ OneGrant (t .k) e f
-  unfolding oneGrant
-  grant-means e f = (
-    λ q n.
-        let (i, g, _, v, z) = some-says 32 both around (else-says _ _ q (λ z. n (eqb-true _ 0 z))) in
-        let (x, y) = and-says _ _ z in
-        (i, g, granted e i g v x, granted f i g v y),
-    λ c. else-true _ _ (λ z.
-        let (i, g, x, y) = c (λ q. z (eq-eqb _ 0 q)) in
-        some-true 32 both around i g (right-fit h .slot (t .k .parent (t .k .current)) i g (x .at) .1) (x .at) (and-true _ _
-        (grants-means (t .k .current) e g .1 (x .given, x .around)) (grants-means (t .k .current) f g .1 (y .given, y .around)))),
-  )
-    where
-      both : ℕ → Entry → Bool
-      both i g = grants (t .k .current) e g && grants (t .k .current) f g
-
-      around : ℕ → Opt Entry
-      around = t .k .slot (t .k .parent (t .k .current))
-
-      granted : (e : Entry) (i : ℕ) (g : Entry) → around i ≡ some g → grants (t .k .current) e g ≡ true → Granted (t .k) (t .k .current) e i g
-      granted e i g v z = let (x, y) = grants-means (t .k .current) e g .0 z in record { at = v; given = x; around = y }
+  grant-means : (e f : Entry) → (eqb (t .k .current) 0 || oneGrant (t .k) (t .k .current) e f ≡ true) ↔ MayJoin (t .k) e f
+  grant-means e f =
+      let m = one-grant-means (t .k) (λ p i e u. right-fit h .slot p i e u .1) (t .k .current) e f in (
+        λ q n. m .0 (else-says _ _ q (λ z. n (eqb-true _ 0 z))),
+        λ c. else-true _ _ (λ z. m .1 (c (λ q. z (eq-eqb _ 0 q)))),
+      )
 
   pub merge-exact : Answers (mergeLadder t s u) (merge t s u)
   unfolding merge
@@ -211,12 +206,11 @@ module _ {t : Table} (h : Right t) (s u : ℕ) where
       check-answers (and-means (eq-means (e .given) 0) (eq-means (f .given) 0)) λ _.
       check-answers (eq-means (e .stop) (f .start)) λ _.
       check-answers (grant-means e f) λ _.
-      check-answers (rights-mean (e .rights) (f .rights)) λ _.
       finished
 
   pub merge-done : {v w : ℕ} {t′ : Table} → merge t s u ≡ done v w t′ → MergeDone t s u v w t′
   unfolding Ends
-  merge-done = ends (MergeDone t s u) merge-exact (λ e x f y o z m g r. (
+  merge-done = ends (MergeDone t s u) merge-exact (λ e x f y o z m g. (
     e,
     f,
     record {
@@ -224,7 +218,6 @@ module _ {t : Table} (h : Right t) (s u : ℕ) where
       second = record { at = y; clear = o .1; free = z .1 };
       meet = m;
       grant = g;
-      rights = r;
     },
     refl,
   ))

@@ -92,6 +92,7 @@ module _ {k : K} {s p j : ℕ} {e : Entry} (f : FreeArea k s p j e) where
     apart q i r m a b l (now z y _) (now w v _) _ _ = (z ∙ sym w, y ∙ sym v)
 
     pub area-core : Core (withArea k up (plus k p j e))
+    unfolding inside-at
     area-core = record {
       s1 = h .s1;
       s1-current = header-stays (k .current) (h .s1-current);
@@ -116,4 +117,7 @@ module _ {k : K} {s p j : ℕ} {e : Entry} (f : FreeArea k s p j e) where
       s8 = λ q i a u. backed q i a (from k p j e q i a u);
       s8-apart = λ q i r m a b l u v. apart q i r m a b l (from k p j e q i a u) (from k p j e r m b v);
       s11 = h .s11;
+      s11-equal = λ q i m a b n u v o r.
+          let before = sym (t .same q (entry-present h q i a u)) in
+          h .s11-equal q i m a b n u v (inside-at before (itself a) o (o .at)) (inside-at before (itself b) r (r .at));
     }

@@ -204,6 +204,13 @@ module _ {k : K} {c : ℕ} {m : ℕ → Bool} (h : Core k) (ok : Goes k c m) whe
       inside-at (up-same p (o .stayed)) (record { from = omega arith; to = omega arith; rights = o .rights }) f
       (stays (k .parent p) (f .i) (f .f) (f .at) (up-stays p (entry-present h p i (o .e) (o .at)) (o .stayed)) (λ z. not-c (o .stayed) (sym (f .given) ∙ z)))
 
+  -- what is around an entry was around it
+  inside-was : (p i : ℕ) (a : Entry) (u : new p i ≡ some a) → (p ≡ 0 → ⊥) → Inside new (removeK k c m .parent) p a → Inside (k .slot) (k .parent) p (inv p i a u .e)
+  inside-was p i a u n g =
+      let o = inv p i a u in
+      inside-at (sym (up-same p (o .stayed))) (record { from = omega arith; to = omega arith; rights = sym (o .rights) }) g
+      (inv (removeK k c m .parent p) (g .i) (g .f) (g .at) .given (λ z. n (sym (g .given) ∙ z)) .0)
+
   backed : (p j : ℕ) (a : Area) → removeK k c m .area p j ≡ some a → (Rooted p j → ⊥) → Backed new (removeK k c m .parent) p j a
   backed p j a u n =
       let (v, s) = area-was p j a u in
@@ -215,6 +222,7 @@ module _ {k : K} {c : ℕ} {m : ℕ → Bool} (h : Core k) (ok : Goes k c m) whe
       go q s n (inr y) = ap m (y .0) ∙ s
 
   pub remove-core : Core (removeK k c m)
+  unfolding inside-was inside-at
   remove-core = record {
     s1 = h .s1;
     s1-current = keep (k .current) (h .s1-current, ok .caller);
@@ -248,6 +256,10 @@ module _ {k : K} {c : ℕ} {m : ℕ → Bool} (h : Core k) (ok : Goes k c m) whe
     s8 = backed;
     s8-apart = λ p j q i a b l u v. h .s8-apart p j q i a b l (area-was p j a u .0) (area-was q i b v .0);
     s11 = λ i a u. let o = inv 0 i a u in o .rights ∙ h .s11 i (o .e) (o .at);
+    s11-equal = λ p i j a b n u v g f z.
+        let o = inv p i a u in
+        let q = inv p j b v in
+        o .rights ∙ h .s11-equal p i j (o .e) (q .e) n (o .at) (q .at) (inside-was p i a u n g) (inside-was p j b v n f) z ∙ sym (q .rights);
   }
 
 -- .. and with its open bits and regions the table is right again

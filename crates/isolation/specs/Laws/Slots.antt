@@ -1,5 +1,5 @@
 -- Soundness after a change of slots alone.
-use mathlib.Core.Path.{_≡_, refl}
+use mathlib.Core.Path.{_≡_, refl, sym, _∙_}
 use mathlib.Core.Logic.{_↔_}
 use Prim.Native.Nat.{ℕ, _+_, _/_, _<_}
 use native.Mathlib.Omega.{arith}
@@ -24,16 +24,29 @@ pub record Fine (k : K) (new : ℕ → ℕ → Opt Entry) (p i : ℕ) (a : Entry
   pub inside : (p ≡ 0 → ⊥) → Inside new (k .parent) p a
   pub root : p ≡ 0 → a .rights ≡ allRights
 
--- .. and of all slots: no two entries share a line, the root holds what it held, and an entry that is an area stays
+-- .. and of all slots: no two entries share a line, the root holds what it held, an entry that is an area stays, and those inside one grant have equal rights
 pub record Kept (k : K) (new : ℕ → ℕ → Opt Entry) : Type 0 where
   pub fine : (p i : ℕ) (a : Entry) → new p i ≡ some a → Fine k new p i a
   pub apart : (p i j : ℕ) (a b : Entry) (l : ℕ) → new p i ≡ some a → new p j ≡ some b → In l a → In l b → i ≡ j
   pub root : (l : ℕ) → Holds new 0 l ↔ Holds (k .slot) 0 l
   pub closed : (q i : ℕ) (e : Entry) → k .slot q i ≡ some e → e .given ≡ 0 → (Clear (k .area) e → ⊥) → new q i ≡ some e
+  pub equal : (p i m : ℕ) (a b : Entry) → (p ≡ 0 → ⊥) → new p i ≡ some a → new p m ≡ some b
+      → (o : Inside new (k .parent) p a) (q : Inside new (k .parent) p b) → o .i ≡ q .i → a .rights ≡ b .rights
 
 -- what is around the entry e of p stays
 abbrev pub Stays : K → (ℕ → ℕ → Opt Entry) → ℕ → Entry → Type 0
 Stays k new p e = (p ≡ 0 → ⊥) → (o : Inside (k .slot) (k .parent) p e) → new (k .parent p) (o .i) ≡ some (o .f)
+
+-- the entry a of p shares a line with an old one, around which all stays, and has its rights
+pub record Came (k : K) (new : ℕ → ℕ → Opt Entry) (p : ℕ) (a : Entry) : Type 0 where
+  pub j : ℕ
+  pub e : Entry
+  pub at : k .slot p j ≡ some e
+  pub line : ℕ
+  pub was : In line e
+  pub now : In line a
+  pub rights : a .rights ≡ e .rights
+  pub stays : Stays k new p e
 
 -- where all that is given stays, it does
 pub around-stays : (k : K) {new : ℕ → ℕ → Opt Entry} → ((p i : ℕ) (f : Entry) → k .slot p i ≡ some f → (f .given ≡ 0 → ⊥) → new p i ≡ some f)
@@ -65,6 +78,7 @@ module _ {k : K} (h : Core k) {new : ℕ → ℕ → Opt Entry} where
         backed-at refl b (c .closed (b .q) (b .i) (b .e) (b .at) (b .free) (λ z. z p j a (a .lo) u (omega arith) (omega arith)));
     s8-apart = h .s8-apart;
     s11 = λ i a u. c .fine 0 i a u .root refl;
+    s11-equal = c .equal;
   }
 
   -- a part of an old entry is fine ..
@@ -84,3 +98,26 @@ module _ {k : K} (h : Core k) {new : ℕ → ℕ → Opt Entry} where
       → Stays k new p a → Fine k new p i a
   old-fine {p} {i} {a} u c s = part-fine u (itself a) (h .s5 p i a u) (h .s5-range p i a u)
       (λ n. record { child = given-child h p i a u n; cover = λ l x. c n l x (h .s7-cover p i a l u n x) }) s
+
+  -- .. and comes from itself
+  pub old-came : {p i : ℕ} {a : Entry} → k .slot p i ≡ some a → Stays k new p a → Came k new p a
+  old-came {p} {i} {a} u s =
+      let r = h .s5-range p i a u in
+      record { j = i; e = a; at = u; line = a .start; was = omega arith; now = omega arith; rights = refl; stays = s }
+
+  -- what is around a is what was around the entry that it comes from ..
+  module _ (apart : (p i j : ℕ) (a b : Entry) (l : ℕ) → new p i ≡ some a → new p j ≡ some b → In l a → In l b → i ≡ j) {p : ℕ} (n : p ≡ 0 → ⊥) where
+    same-grant : {a : Entry} (c : Came k new p a) (o : Inside new (k .parent) p a) → o .i ≡ h .s7-in p (c .j) (c .e) (c .at) n .i
+    same-grant {a} c o =
+        let u = h .s7-in p (c .j) (c .e) (c .at) n in
+        let x = c .was in
+        let y = c .now in
+        apart (k .parent p) (o .i) (u .i) (o .f) (u .f) (c .line) (o .at) (c .stays n u) (omega arith) (omega arith)
+
+    -- .. so two inside one grant come from two inside one grant
+    pub came-equal : {a b : Entry} → Came k new p a → Came k new p b → (o : Inside new (k .parent) p a) (q : Inside new (k .parent) p b) → o .i ≡ q .i
+        → a .rights ≡ b .rights
+    came-equal c d o q z =
+        c .rights
+        ∙ h .s11-equal p (c .j) (d .j) (c .e) (d .e) n (c .at) (d .at) (h .s7-in p (c .j) (c .e) (c .at) n) (h .s7-in p (d .j) (d .e) (d .at) n) (sym (same-grant c o) ∙ z ∙ same-grant d q)
+        ∙ sym (d .rights)

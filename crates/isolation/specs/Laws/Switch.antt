@@ -43,6 +43,7 @@ module _ {k : K} (h : Core k) where
     s8 = h .s8;
     s8-apart = h .s8-apart;
     s11 = h .s11;
+    s11-equal = h .s11-equal;
   }
 
 abbrev pub SwitchDone : Table → ℕ → ℕ → ℕ → Table → Type 0

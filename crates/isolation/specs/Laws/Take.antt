@@ -17,7 +17,7 @@ use Rattle.sound.specs.Laws.Means.{eq-means, and-means, not-means, has-means}
 use Rattle.rules.specs.Rules.{givenTo, takeK, done, take, returned}
 use Rattle.isolation.specs.Laws.Two.{From, old, first, second, same-place, two-from, two-first, two-old, two-other}
 use Rattle.isolation.specs.Laws.Keep.{given-child, child-other, same-clear, still}
-use Rattle.isolation.specs.Laws.Slots.{Fine, Stays, slots-core, part-fine, old-fine}
+use Rattle.isolation.specs.Laws.Slots.{Fine, Stays, Came, slots-core, part-fine, old-fine, old-came, came-equal}
 use Rattle.isolation.specs.Laws.Settled.{right-loads, settle-right}
 use Rattle.isolation.specs.Ladder.{Answers, finished, Ends}
 use Rattle.isolation.specs.Laws.Ladder.{ends, check-answers, need-answers, lowest-answers}
@@ -114,6 +114,26 @@ module _ {k : K} {s j : ℕ} {e f : Entry} (h : Core k) (ok : TakeOk k s j e f) 
       go (old _ _ _) (second _ _ v) = not-none none refl v
       go (first _ _ _) (second _ _ v) = not-none none refl v
 
+  came : (p i : ℕ) (a : Entry) → new p i ≡ some a → Came k new p a
+  came p i a u = go (inv p i a u)
+    where
+      go : Fr p i a → Came k new p a
+      go (old v _ n) = old-came h v (around p i a v n)
+      go (first z _ v) =
+          let w = same (some-inj v) in
+          let r = h .s5-range (k .current) s e (ok .at) in
+          record {
+            j = s;
+            e = e;
+            at = rw z (ok .at);
+            line = e .start;
+            was = omega arith;
+            now = omega arith;
+            rights = sym (w .rights);
+            stays = around p s e (rw z (ok .at)) (λ q. child-other h child (sym z ∙ q .0));
+          }
+      go (second _ _ v) = not-none none refl v
+
   -- the ledger's line: the child no longer holds the lines of e
   pub take-holds : (p l : ℕ) → Holds (takeK k s j e .slot) p l ↔ (Holds (k .slot) p l × ((p ≡ e .given) × In l e → ⊥))
   take-holds p l = (new-holds p l, λ u. holds-new p l (u .0) (u .1))
@@ -126,6 +146,7 @@ module _ {k : K} {s j : ℕ} {e f : Entry} (h : Core k) (ok : TakeOk k s j e f) 
     closed = λ p i a u y z. other-stays p i a u
         (λ w. ok .given (sym (w .given) ∙ y))
         (λ w. z (same-clear w (ok .back .clear)));
+    equal = λ p i m a b n u v. came-equal h apart n (came p i a u) (came p m b v);
   })
 
 -- ── the service ──

@@ -77,7 +77,7 @@ module _ (t : Table) where
   unfolding merge
   merge-brief s u =
       needed 4 _ (omega arith) λ e q. needed 4 _ (omega arith) λ f r.
-      checked 5 _ (omega arith) (checked 6 _ (omega arith) (checked 11 _ (omega arith) (checked 12 _ (omega arith) (checked 13 _ (omega arith) (brief-done (omega arith))))))
+      checked 5 _ (omega arith) (checked 6 _ (omega arith) (checked 11 _ (omega arith) (checked 12 _ (omega arith) (brief-done (omega arith)))))
 
   load-brief : (p s r : ℕ) → Brief (load t p s r)
   unfolding load

@@ -22,7 +22,7 @@ use Rattle.tables.specs.Settle.{openBit, openAt}
 use Rattle.memory.specs.ByteRecords.{HeaderTells}
 use Rattle.sound.specs.Sound.{Sound}
 use Rattle.sound.specs.Laws.Sound.{s2-of}
-use Rattle.sound.specs.Clauses.{when, s3, rooted, s4Area, s4Absent, s4, s5Slot, s5, apartE, s6, s7Given, s7, s8Backed, s9, s10Names, s10Once, s10, s11}
+use Rattle.sound.specs.Clauses.{when, s3, rooted, s4Area, s4Absent, s4, s5Slot, s5, apartE, s6, s7Given, s7, s8Backed, s9, s10Names, s10Once, s10, s11Within, s11Equal, s11}
 use Rattle.sound.specs.Laws.Tests.{and-true}
 use Rattle.sound.specs.Laws.MeansWords.{s3-means}
 
@@ -91,5 +91,5 @@ module _ (l : List ℕ) (p : ℕ) (z : zeroRecord l p ≡ true) where
       (all-of 8 (λ r. all r (s10Once (view l) p r)) (λ r h. rw (no-region l p r (zero-regions l p words)) (all-true r)))
 
   pub absent-s11 : (p ≡ 0 → ⊥) → s11 (view l .k) p ≡ true
-  unfolding s11
-  absent-s11 n = rw (ne-eqb p 0 n) (no-entries _)
+  unfolding s11 s11Within s11Equal
+  absent-s11 n = rw (ne-eqb p 0 n) (and-true _ _ (no-entries _) (no-entries _))

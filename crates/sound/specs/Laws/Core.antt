@@ -13,7 +13,7 @@ use Rattle.tables.specs.Laws.View.{slot-bounds, area-bounds}
 use Rattle.tables.specs.Laws.Spelling.{zero-areas}
 use Rattle.tables.specs.Laws.ZeroWord.{no-area, no-parent}
 use Rattle.tables.specs.Lines.{In, InA, Holds}
-use Rattle.sound.specs.Sound.{Present, Rooted, Equals, S1, S2, S6, S7, S8, S11, Sound}
+use Rattle.sound.specs.Sound.{Present, Rooted, Granted, Equals, S1, S2, S6, S7, S8, S11, Sound}
 use Rattle.sound.specs.Core.{Inside, Backed, Core}
 use Rattle.sound.specs.Laws.Sound.{s1-of, s2-of, s4-of, s5-of, s6-of, s7-of, s8-of, s11-of}
 
@@ -44,6 +44,18 @@ module _ (l : List ℕ) (h : Sound l) where
       let hc = slot-bounds l c i e u .0 in
       let (j, f, g) = s7-of h c hc .inside n i e u in
       record { i = j; f = f; at = g .at; given = g .given; from = g .around .from; to = g .around .to; sub = s11-of h c hc .child n i j e f u g }
+
+  -- two entries with one grant around them
+  equal : (c i m : ℕ) (e f : Entry) → (c ≡ 0 → ⊥) → view l .k .slot c i ≡ some e → view l .k .slot c m ≡ some f
+      → (o : Inside (view l .k .slot) (view l .k .parent) c e) (q : Inside (view l .k .slot) (view l .k .parent) c f) → o .i ≡ q .i → e .rights ≡ f .rights
+  equal c i m e f n u v o q z =
+      let w = same-at (view l .k .slot (view l .k .parent c) (q .i)) (rw z at (o .at)) (q .at) in
+      s11-of h c (slot-bounds l c i e u .0) .equal n i m e f u v (
+        o .i,
+        o .f,
+        record { at = o .at; given = o .given; around = record { from = o .from; to = o .to } },
+        record { at = o .at; given = o .given; around = record { from = omega (arith, w .start, q .from); to = omega (arith, w .stop, q .to) } },
+      )
 
   -- S7 says it of the child, here it is said of the giver
   cover : (p i : ℕ) (f : Entry) (n : ℕ) → view l .k .slot p i ≡ some f → (f .given ≡ 0 → ⊥) → In n f → Holds (view l .k .slot) (f .given) n
@@ -95,6 +107,7 @@ module _ (l : List ℕ) (h : Sound l) where
         s8 = backed;
         s8-apart = apart;
         s11 = s11-of h 0 (omega arith) .root refl;
+        s11-equal = equal;
       }
 
 -- ── and back ──
@@ -140,14 +153,20 @@ module _ {k : K} (h : Core k) where
           go (inr z) e = inl (z .1, rw (z .0) at e)
 
   -- only one entry of the parent holds an entry's first line
+  one-around : (p i j : ℕ) (e f : Entry) (n : p ≡ 0 → ⊥) (u : k .slot p i ≡ some e) → Granted k p e j f → h .s7-in p i e u n .i ≡ j
+  one-around p i j e f n u g =
+      let o = h .s7-in p i e u n in
+      let r = h .s5-range p i e u in
+      h .s6 (k .parent p) (o .i) j (o .f) f (e .start) (o .at) (g .at) (omega arith) (omega arith)
+
   core-s11 : (p : ℕ) → S11 k p
   core-s11 p = record {
     root = λ z i e u. h .s11 i e (rw z at u);
     child = λ n i j e f u g.
         let o = h .s7-in p i e u n in
-        let r = h .s5-range p i e u in
-        let s : o .i ≡ j = h .s6 (k .parent p) (o .i) j (o .f) f (e .start) (o .at) (g .at) (omega arith) (omega arith) in
-        rw (same-at (k .slot (k .parent p) j) (rw s at (o .at)) (g .at) .rights) at (o .sub);
+        rw (same-at (k .slot (k .parent p) j) (rw (one-around p i j e f n u g) at (o .at)) (g .at) .rights) at (o .sub);
+    equal = λ n i m e f u v (j, g, x, y).
+        h .s11-equal p i m e f n u v (h .s7-in p i e u n) (h .s7-in p m f v n) (one-around p i j e g n u x ∙ sym (one-around p m j f g n v y));
   }
 
   pub core-sound : Parts k

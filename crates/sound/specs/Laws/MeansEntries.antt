@@ -18,8 +18,8 @@ use Rattle.tables.specs.Laws.Spelling.{zero-slots}
 use Rattle.tables.specs.Laws.ZeroWord.{no-entry}
 use Rattle.tables.specs.Lines.{In, Holds}
 use Rattle.tables.specs.Search.{isSome, present, child, holds}
-use Rattle.sound.specs.Sound.{Present, Around, Granted, S2, S5, S6, S7}
-use Rattle.sound.specs.Clauses.{when, has, apartE, s6, held, covered, s7Root, s7Given, grants, s7Inside, s7Cover, s7}
+use Rattle.sound.specs.Sound.{Present, Around, Granted, OneGrant, S2, S5, S6, S7}
+use Rattle.sound.specs.Clauses.{when, has, apartE, s6, held, covered, s7Root, s7Given, grants, s7Inside, s7Cover, s7, containsBoth, oneGrant}
 use Rattle.sound.specs.Laws.Tests.{and-says, and-true, then-says, then-true, not-says, when-says, when-true, every-says, every-true, some-says, some-true}
 use Rattle.sound.specs.Laws.Meets.{meets-not}
 use Rattle.sound.specs.Laws.Cover.{Covered, ends-cover, cover-ends}
@@ -142,6 +142,25 @@ module _ (k : K) (slots : Slots32 k) where
         (every-means _ p .1 (λ i e u. both-true (ltb lo (e .stop)) (ltb (e .stop) hi) _
         (λ a b. held-means p (e .stop) .1 (h .next i e u (ltb-true lo (e .stop) a) (ltb-true (e .stop) hi b)))))),
   )
+
+  -- one entry that p's parent gave it contains both
+  pub one-grant-means : (p : ℕ) (e f : Entry) → (oneGrant k p e f ≡ true) ↔ OneGrant k p e f
+  unfolding oneGrant containsBoth
+  one-grant-means p e f = (
+    λ q.
+        let (j, g, u, z) = some-means _ (k .parent p) .0 q in
+        let (x, y) = and-says (grants p e g) (grants p f g) z in
+        (j, g, granted e j g u x, granted f j g u y),
+    λ (j, g, x, y). some-means _ (k .parent p) .1 (
+      j,
+      g,
+      x .at,
+      and-true _ _ (grants-means p e g .1 (x .given, x .around)) (grants-means p f g .1 (y .given, y .around)),
+    ),
+  )
+    where
+      granted : (e : Entry) (j : ℕ) (g : Entry) → k .slot (k .parent p) j ≡ some g → grants p e g ≡ true → Granted k p e j g
+      granted e j g u z = let (x, y) = grants-means p e g .0 z in record { at = u; given = x; around = y }
 
   -- ── S6 ──
   pair-apart : (p i j : ℕ) → s6 k p ≡ true → i < 32 → j < i → apartE (k .slot p i) (k .slot p j) ≡ true

@@ -1,5 +1,5 @@
 -- The tests of S9, S10 and S11 are true exactly where the clauses hold.
-use mathlib.Core.Path.{_≡_, refl, sym}
+use mathlib.Core.Path.{_≡_, refl, sym, ap}
 use mathlib.Core.Bool.{Bool, true, false, not, _&&_, _||_, Bool·beq, false≢true}
 use mathlib.Core.List.{List}
 use mathlib.Core.Logic.{_↔_}
@@ -11,17 +11,18 @@ use borrow.Author.Tests.{eqb-true, eq-eqb, ne-eqb}
 use Rattle.loops.specs.Every.{all}
 use Rattle.loops.specs.Laws.Every.{all-at, all-of, bool-ext}
 use Rattle.words.specs.declared.Rights.{Rights}
-use Rattle.tables.specs.State.{Opt, none, some, Entry}
-use Rattle.tables.specs.Laws.State.{not-none}
+use Rattle.tables.specs.State.{Opt, none, some, Entry, K}
+use Rattle.tables.specs.Laws.State.{not-none, same-at}
 use Rattle.tables.specs.View.{view}
 use Rattle.tables.specs.Laws.View.{slot-bounds, area-bounds, region-bounds}
 use Rattle.tables.specs.Laws.ZeroWord.{not-open}
 use Rattle.tables.specs.Lines.{Clear}
 use Rattle.tables.specs.Search.{isSome}
 use Rattle.tables.specs.Settle.{openBit, openAt}
-use Rattle.sound.specs.Sound.{Sub, allRights, S5, S9, S10, S11}
-use Rattle.sound.specs.Clauses.{when, grants, full, within, s9, s10Names, s10Once, s10, s11}
-use Rattle.sound.specs.Laws.MeansEntries.{grants-means}
+use Rattle.sound.specs.Sound.{Granted, OneGrant, Sub, allRights, S5, S9, S10, S11}
+use Rattle.sound.specs.Clauses.{when, grants, full, within, s9, s10Names, s10Once, s10, s11Within, oneGrant, sameRights, s11Equal, s11}
+use Rattle.sound.specs.Laws.Means.{and-means}
+use Rattle.sound.specs.Laws.MeansEntries.{root-or-means, grants-means, Slots32, every-means, one-grant-means, slots32}
 use Rattle.sound.specs.Laws.Tests.{and-says, and-true, then-says, then-true, not-says, not-of, when-says, when-true, every-says, every-true}
 use Rattle.sound.specs.Laws.Opens.{open-clear}
 
@@ -126,40 +127,76 @@ within-means a b = (
   λ s. and-true _ _ (and-true _ _ (then-true _ _ (s .read)) (then-true _ _ (s .write))) (then-true _ _ (s .execute)),
 )
 
+pub same-rights-means : (a b : Rights) → (sameRights a b ≡ true) ↔ (a ≡ b)
+unfolding sameRights
+same-rights-means a b =
+    let m = and-means (and-means (beq-means (a .read) (b .read)) (beq-means (a .write) (b .write))) (beq-means (a .execute) (b .execute)) in (
+      λ q. let ((x, y), z) = m .0 q in λ i. record { read = x i; write = y i; execute = z i },
+      λ e. m .1 ((ap (λ (r : Rights). r .read) e, ap (λ (r : Rights). r .write) e), ap (λ (r : Rights). r .execute) e),
+    )
+
+module _ (k : K) (slots : Slots32 k) (p : ℕ) where
+  inside-mean : (s11Within k p ≡ true) ↔ ((i j : ℕ) (e f : Entry) → k .slot p i ≡ some e → Granted k p e j f → Sub (e .rights) (f .rights))
+  unfolding s11Within
+  inside-mean = (
+    λ q i j e f u g.
+        let x = every-means k slots (pair e) (k .parent p) .0 (every-means k slots each p .0 q i e u) j f (g .at) in
+        within-means (e .rights) (f .rights) .0 (then-says (grants p e f) _ x (grants-means p e f .1 (g .given, g .around))),
+    λ h. every-means k slots each p .1 (λ i e u. every-means k slots (pair e) (k .parent p) .1 (λ j f v. then-true (grants p e f) _ (λ x.
+        let (y, z) = grants-means p e f .0 x in
+        within-means (e .rights) (f .rights) .1 (h i j e f u (record { at = v; given = y; around = z }))))),
+  )
+    where
+      pair : Entry → Entry → Bool
+      pair e f = not (grants p e f) || within (e .rights) (f .rights)
+
+      each : Entry → Bool
+      each e = all 32 (λ j. when (pair e) (k .slot (k .parent p) j))
+
+  equal-mean : (s11Equal k p ≡ true)
+      ↔ ((i m : ℕ) (e f : Entry) → k .slot p i ≡ some e → k .slot p m ≡ some f → OneGrant k p e f → e .rights ≡ f .rights)
+  unfolding s11Equal
+  equal-mean = (
+    λ q i m e f u v g. to q i m e f u v g (ℕ-discrete i m) (decLt m i),
+    λ h. every-true 32 each (k .slot p) (λ i e _ u. every-true i (λ _. pair e) (k .slot p) (λ m f _ v. then-true (oneGrant k p e f) _ (λ x.
+        same-rights-means (e .rights) (f .rights) .1 (h i m e f u v (one-grant-means k slots p e f .0 x))))),
+  )
+    where
+      pair : Entry → Entry → Bool
+      pair e f = not (oneGrant k p e f) || sameRights (e .rights) (f .rights)
+
+      each : ℕ → Entry → Bool
+      each i e = all i (λ m. when (pair e) (k .slot p m))
+
+      below : s11Equal k p ≡ true → (i m : ℕ) (e f : Entry) → m < i → k .slot p i ≡ some e → k .slot p m ≡ some f → OneGrant k p e f → e .rights ≡ f .rights
+      below q i m e f b u v g =
+          let x = every-says i (λ _. pair e) (k .slot p) (every-says 32 each (k .slot p) q i e (slots p i e u) u) m f b v in
+          same-rights-means (e .rights) (f .rights) .0 (then-says (oneGrant k p e f) _ x (one-grant-means k slots p e f .1 g))
+
+      to : s11Equal k p ≡ true → (i m : ℕ) (e f : Entry) → k .slot p i ≡ some e → k .slot p m ≡ some f → OneGrant k p e f → Dec (i ≡ m) → Dec (m < i)
+          → e .rights ≡ f .rights
+      to q i m e f u v g (yes z) _ = same-at (k .slot p m) (rw z at u) v .rights
+      to q i m e f u v g (no z) (yes b) = below q i m e f b u v g
+      to q i m e f u v (j, g, x, y) (no z) (no b) = sym (below q m i f e (omega arith) v u (j, g, y, x))
+
 pub s11-means : (l : List ℕ) (p : ℕ) → p < 16 → (s11 (view l .k) p ≡ true) ↔ S11 (view l .k) p
 unfolding s11
-s11-means l p hp = go (ℕ-discrete p 0)
+s11-means l p hp = (
+  λ q.
+      let (root, child) = root-or-means p (all 32 (λ i. when full-at (k .slot p i))) _ .0 q in
+      record {
+        root = λ z i e u. full-means (e .rights) .0 (every-means k (slots32 l) full-at p .0 (root z) i e u);
+        child = λ n. inside-mean k (slots32 l) p .0 (and-says (s11Within k p) (s11Equal k p) (child n) .0);
+        equal = λ n. equal-mean k (slots32 l) p .0 (and-says (s11Within k p) (s11Equal k p) (child n) .1);
+      },
+  λ h. root-or-means p _ _ .1 (
+    λ z. every-means k (slots32 l) full-at p .1 (λ i e u. full-means (e .rights) .1 (h .root z i e u)),
+    λ n. and-true _ _ (inside-mean k (slots32 l) p .1 (h .child n)) (equal-mean k (slots32 l) p .1 (h .equal n)),
+  ),
+)
   where
-    inSlots : (q i : ℕ) (e : Entry) → view l .k .slot q i ≡ some e → i < 32
-    inSlots q i e u = slot-bounds l q i e u .1
+    k : K
+    k = view l .k
 
-    -- the tests: of an entry of the root; of an entry e of a child, with an entry f of its parent, and with each
-    root : ℕ → Entry → Bool
-    root i e = full (e .rights)
-
-    pair : Entry → ℕ → Entry → Bool
-    pair e j f = not (grants p e f) || within (e .rights) (f .rights)
-
-    child : ℕ → Entry → Bool
-    child i e = all 32 (λ j. when (pair e j) (view l .k .slot (view l .k .parent p) j))
-
-    go : Dec (p ≡ 0) → (s11 (view l .k) p ≡ true) ↔ S11 (view l .k) p
-    go (yes z) = rw (eq-eqb p 0 z) (
-      λ q. record {
-        root = λ _ i e u. full-means (e .rights) .0 (every-says 32 root (view l .k .slot p) q i e (inSlots p i e u) u);
-        child = λ n. absurd (n z);
-      },
-      λ h. every-true 32 root (view l .k .slot p) (λ i e b u. full-means (e .rights) .1 (h .root z i e u)),
-    )
-    go (no n) = rw (ne-eqb p 0 n) (
-      λ q. record {
-        root = λ z. absurd (n z);
-        child = λ _ i j e f u g.
-            let x = every-says 32 child (view l .k .slot p) q i e (inSlots p i e u) u in
-            let y = every-says 32 (pair e) (view l .k .slot (view l .k .parent p)) x j f (inSlots (view l .k .parent p) j f (g .at)) (g .at) in
-            within-means (e .rights) (f .rights) .0 (then-says (grants p e f) _ y (grants-means p e f .1 (g .given, g .around)));
-      },
-      λ h. every-true 32 child (view l .k .slot p) (λ i e b u. every-true 32 (pair e) (view l .k .slot (view l .k .parent p)) (λ j f c v. then-true (grants p e f) _ (λ x.
-          let w = grants-means p e f .0 x in
-          within-means (e .rights) (f .rights) .1 (h .child n i j e f u (record { at = v; given = w .0; around = w .1 }))))),
-    )
+    full-at : Entry → Bool
+    full-at e = full (e .rights)

@@ -13,8 +13,8 @@ use Rattle.tables.specs.Lines.{In, Holds}
 use Rattle.sound.specs.Sound.{Present, Sound}
 use Rattle.sound.specs.Laws.Sound.{s9-of, s10-of}
 use Rattle.sound.specs.Core.{Core}
-use Rattle.sound.specs.Laws.Core.{sound-core}
-use Rattle.sound.specs.Properties.{Accessible, Isolated, Above, itself, higher}
+use Rattle.sound.specs.Laws.Core.{sound-core, core-sound}
+use Rattle.sound.specs.Properties.{Accessible, Isolated, EqualRights, Above, itself, higher}
 
 -- ── the properties ──
 -- so each line of an entry that a region has loaded is accessible to the region's own partition
@@ -60,6 +60,13 @@ module _ {k : K} (h : Core k) where
 
   pub held-range : {p l : ℕ} → Holds (k .slot) p l → (k .base ≤ l) × (l < k .stop)
   held-range {l = l} u = h .s7-root l .0 (root-holds u)
+
+-- ── rights ──
+pub core-rights : {k : K} → Core k → EqualRights k
+core-rights h = record {
+  root = λ i m e f u v. h .s11 i e u ∙ sym (h .s11 m f v);
+  child = λ p i m e f n. core-sound h .s11 p .equal n i m e f;
+}
 
 -- ── every sound table is isolated ──
 pub sound-isolated : (l : List ℕ) → Sound l → Isolated (view l)

@@ -57,6 +57,7 @@ turned-right {t} h v =
         s8 = c .s8;
         s8-apart = c .s8-apart;
         s11 = c .s11;
+        s11-equal = c .s11-equal;
       };
       stop = h .stop;
       closed = h .closed;

@@ -1,8 +1,7 @@
 use mathlib.Core.Path.{refl}
 use borrow.Author.Tests.{not-true, not-false}
 use Rattle.tables.specs.View.{entryIn}
-use Rattle.sound.specs.Clauses.{has}
-use Rattle.blocks.specs.MergeExits.{containsBoth}
+use Rattle.sound.specs.Clauses.{has, containsBoth}
 use borrow.Author.Needs.{needs}
 use Rattle.blocks.proofs.merge_service.contains_both.Statement.{statement}
 use Rattle.blocks.proofs.merge_service.contains_both.Tie as tie

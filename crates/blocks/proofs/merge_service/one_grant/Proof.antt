@@ -2,7 +2,7 @@ use Prim.Native.Nat.{_-_}
 use Rattle.loops.specs.Laws.Every.{Missing}
 use Rattle.loops.specs.Laws.Scan.{seek-start, seek-hit, seek-on, seek-end}
 use Rattle.tables.specs.View.{view, entryOf}
-use Rattle.blocks.specs.MergeExits.{containsBoth}
+use Rattle.sound.specs.Clauses.{containsBoth}
 use native.Mathlib.Omega.{arith}
 use borrow.Author.Needs.{needs}
 use Rattle.blocks.proofs.merge_service.one_grant.Statement.{statement}

@@ -1,9 +1,9 @@
 use mathlib.Core.Path.{refl}
 use borrow.Author.Tests.{not-true, not-false}
-use Rattle.rules.specs.Rules.{sameRights}
+use Rattle.sound.specs.Clauses.{sameRights}
 use borrow.Author.Needs.{needs}
-use Rattle.blocks.proofs.merge_service.same_rights.Statement.{statement}
-use Rattle.blocks.proofs.merge_service.same_rights.Tie as tie
+use Rattle.decide.proofs.tiles.same_rights.Statement.{statement}
+use Rattle.decide.proofs.tiles.same_rights.Tie as tie
 
 pub same-rights-spec : {M : Type 1} → statement M
 unfolding sameRights
