@@ -5,14 +5,13 @@ use mathlib.Core.List.{List}
 use Prim.Native.Nat.{ℕ, _<_}
 use lib.Dec.{eqb}
 use Rattle.words.specs.declared.slot_word.SlotFields.{SlotFields}
-use Rattle.tables.specs.State.{none, some, Entry, K, Table}
+use Rattle.tables.specs.State.{none, some, Entry, K, Table, endingAt}
 use Rattle.tables.specs.View.{view, entryOf}
 use Rattle.tables.specs.Encode.{Canon}
 use Rattle.tables.specs.Write.{putSlot}
 use Rattle.tables.specs.Seen.{Seen}
 use Rattle.sound.specs.Clauses.{oneGrant}
 use Rattle.sound.specs.Whole.{Right}
-use Rattle.rules.specs.Rules.{endingAt}
 
 -- check 12
 unfoldable pub mayJoin : K → ℕ → Entry → Entry → Bool

@@ -5,24 +5,13 @@ use mathlib.Core.List.{List}
 use Prim.Native.Nat.{ℕ, _^_, _<_}
 use Rattle.words.specs.declared.Rights.{Rights}
 use Rattle.words.specs.declared.slot_word.SlotFields.{SlotFields}
-use Rattle.tables.specs.State.{some, Table}
+use Rattle.tables.specs.State.{some, Table, endingAt, startingAt, givenTo, rangeOf}
 use Rattle.tables.specs.View.{view, entryOf}
 use Rattle.tables.specs.Encode.{Canon}
 use Rattle.tables.specs.Write.{putSlot}
 use Rattle.tables.specs.Search.{child}
 use Rattle.sound.specs.Whole.{Right}
-use Rattle.rules.specs.Rules.{endingAt, startingAt, givenTo, rangeOf}
 use Rattle.blocks.specs.Pick.{Free}
-
--- what the writes of slot s of c ask of its entry f
-pub record CanPut (l : List ℕ) (c s : ℕ) (f : SlotFields) : Type 0 where
-  pub canon : Canon l
-  pub inP : c < 16
-  pub inI : s < 32
-  pub present : f .present ≡ true
-  pub given-small : f .given .0 < 16
-  pub start-small : f .start .0 < 2 ^ 27
-  pub end-small : f .end .0 < 2 ^ 27
 
 -- slot s of c ends at k, and slot n of c goes on from there
 abbrev pub splitAt : Table → ℕ → ℕ → ℕ → ℕ → SlotFields → Table

@@ -4,13 +4,12 @@ use mathlib.Core.Bool.{true, false}
 use mathlib.Core.List.{List}
 use Prim.Native.Nat.{ℕ, _<_}
 use Rattle.words.specs.declared.slot_word.SlotFields.{SlotFields}
-use Rattle.tables.specs.State.{none, some, Table}
+use Rattle.tables.specs.State.{none, some, Table, givenTo}
 use Rattle.tables.specs.View.{view, entryOf}
 use Rattle.tables.specs.Encode.{Canon}
 use Rattle.tables.specs.Write.{putSlot}
 use Rattle.tables.specs.Seen.{Seen}
 use Rattle.sound.specs.Whole.{Right}
-use Rattle.rules.specs.Rules.{givenTo}
 
 -- ── slot i of the child that e is given to, whose entry f was read ──
 -- slot s of c is given to nobody, and slot i of the child that had it is free

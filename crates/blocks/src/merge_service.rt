@@ -7,7 +7,7 @@ ghost use Rattle.sound.specs.Clauses.{grants, containsBoth};
 ghost use Rattle.sound.specs.Whole.{Right};
 ghost use Rattle.rules.specs.Rules.{merge};
 ghost use Rattle.rules.specs.Ran.{Ran};
-ghost use Rattle.blocks.specs.SlotExits.{CanPut};
+ghost use Rattle.writing.specs.CanWrite.{CanEntry};
 ghost use Rattle.blocks.specs.MergeExits.{mayJoin, CanMerge, joinedAt};
 use tables::Outcome;
 use words::Partition;
@@ -70,7 +70,7 @@ fn may_join(t: &[u64; 641], c: Partition, e: SlotFields, f: SlotFields) -> bool
 
 // slot s of c, whose entry is e, ends where f ended; slot u is free
 fn join(t: &mut [u64; 641], c: Partition, s: Slot, u: Slot, e: SlotFields, f: SlotFields)
-    requires { ⌜ CanPut (now t) (c .0) (s .0) e × (u .0 < 32) × (f .end .0 < 2 ^ 27) ⌝ }
+    requires { ⌜ CanEntry (now t) (c .0) (s .0) e × (u .0 < 32) × (f .end .0 < 2 ^ 27) ⌝ }
     ensures { λ _. ⌜ Is (now (t .exit)) (joinedAt (view (now (t .entry))) (c .0) (s .0) (u .0) e f) ⌝ }
 {
     let mut whole = e;

@@ -4,7 +4,8 @@ ghost use Rattle.tables.specs.Encode.{Canon, Is};
 ghost use Rattle.sound.specs.Whole.{Right};
 ghost use Rattle.rules.specs.Rules.{cut, give};
 ghost use Rattle.rules.specs.Ran.{Ran};
-ghost use Rattle.blocks.specs.SlotExits.{CanPut, CanCut, CanGive, splitAt, handedTo};
+ghost use Rattle.writing.specs.CanWrite.{CanEntry};
+ghost use Rattle.blocks.specs.SlotExits.{CanCut, CanGive, splitAt, handedTo};
 use crate::pick::Picked;
 use crate::pick::free_entry;
 use tables::Found;
@@ -17,7 +18,7 @@ use words::slot_word::SlotFields;
 
 // slot s of c, whose entry is f, ends at l; slot n goes on from there
 fn split_entry(t: &mut [u64; 641], c: Partition, s: Slot, n: Slot, l: Line, f: SlotFields)
-    requires { ⌜ CanPut (now t) (c .0) (s .0) f × (n .0 < 32) × (l .0 < 2 ^ 27) ⌝ }
+    requires { ⌜ CanEntry (now t) (c .0) (s .0) f × (n .0 < 32) × (l .0 < 2 ^ 27) ⌝ }
     ensures { λ _. ⌜ Is (now (t .exit)) (splitAt (view (now (t .entry))) (c .0) (s .0) (n .0) (l .0) f) ⌝ }
 {
     let mut low = f;
@@ -69,7 +70,7 @@ fn hand_over(
     r: Rights,
     f: SlotFields,
 )
-    requires { ⌜ CanPut (now t) (c .0) (s .0) f × (p .0 < 16) × (n .0 < 32) ⌝ }
+    requires { ⌜ CanEntry (now t) (c .0) (s .0) f × (p .0 < 16) × (n .0 < 32) ⌝ }
     ensures { λ _. ⌜ Is (now (t .exit)) (handedTo (view (now (t .entry))) (c .0) (s .0) (p .0) (n .0) r f) ⌝ }
 {
     let mut old = f;

@@ -7,7 +7,7 @@ ghost use Rattle.tables.specs.Answers.{foundOf};
 ghost use Rattle.sound.specs.Whole.{Right};
 ghost use Rattle.rules.specs.Rules.{returned, take};
 ghost use Rattle.rules.specs.Ran.{Ran};
-ghost use Rattle.blocks.specs.SlotExits.{CanPut};
+ghost use Rattle.writing.specs.CanWrite.{CanEntry};
 ghost use Rattle.blocks.specs.TakeExits.{CanTake, takenBack};
 use tables::Found;
 use tables::Outcome;
@@ -54,7 +54,7 @@ fn returned_slot(t: &[u64; 641], e: SlotFields) -> Found
 
 // slot s of c, whose entry is e, is given to nobody; slot i of the child that had it is free
 fn take_back(t: &mut [u64; 641], c: Partition, s: Slot, i: Slot, e: SlotFields)
-    requires { ⌜ CanPut (now t) (c .0) (s .0) e × (i .0 < 32) ⌝ }
+    requires { ⌜ CanEntry (now t) (c .0) (s .0) e × (i .0 < 32) ⌝ }
     ensures { λ _. ⌜ Is (now (t .exit)) (takenBack (view (now (t .entry))) (c .0) (s .0) (i .0) e) ⌝ }
 {
     let nobody = Partition(0);

@@ -45,13 +45,14 @@ pub extern "C" fn ulavrepit_call(table: &mut [u8], word: u64, second: &mut u64) 
         return packed(1, Partition(0), 0);
     }
     let mut a = [0u64; 641];
-    memory::load(table, &mut a);
-    let answer = services::calls::call_table(&mut a, 16, word);
+    let top = memory::load(table, &mut a);
+    let answer = services::calls::call_table(&mut a, top, word);
     let caller = answer.caller;
+    let stands = answer.stands;
     let outcome = answer.outcome;
     match outcome {
         Outcome::Done(first, value) => {
-            if !services::calls::only_reads(word) {
+            if !stands {
                 memory::store(&a, table);
             }
             *second = value;
@@ -75,8 +76,8 @@ pub extern "C" fn ulavrepit_holders(
         return packed(1, Partition(0), 0);
     }
     let mut a = [0u64; 641];
-    memory::load(table, &mut a);
-    let outcome = holders::holders_table(&a, 16, line, list);
+    let top = memory::load(table, &mut a);
+    let outcome = holders::holders_table(&a, top, line, list);
     match outcome {
         Outcome::Done(first, value) => {
             *second = value;

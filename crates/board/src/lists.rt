@@ -36,8 +36,8 @@ fn plan_bytes(table: &[u8], size: usize, marks: &mut [u32; 513]) -> Ready
         };
     }
     let mut a = [0u64; 641];
-    memory::load(table, &mut a);
-    let p = runs::listing::plan_of(&a, 16, size, marks);
+    let top = memory::load(table, &mut a);
+    let p = runs::listing::plan_of(&a, top, size, marks);
     let n = p.number;
     let outcome = p.outcome;
     let answer = answer_word(outcome);

@@ -15,7 +15,7 @@ use Rattle.loops.specs.Carry.{done as carried}
 use Rattle.loops.specs.Count.{sum}
 use Rattle.words.specs.Kind.{wordOf}
 use Rattle.words.specs.Words.{first, header, structure, regions, slot, call}
-use Rattle.tables.specs.State.{Opt, none, some, Entry, Area}
+use Rattle.tables.specs.State.{Opt, none, some, Entry, entry, allRights, Area}
 use Rattle.tables.specs.View.{view, viewK, entryIn, headerArea, structureArea, areaIn, nth, named, inside, parentAt, firstWord, recordWord, areaWordAt, regionsWordAt, blankWordAt, slotWordAt}
 use Rattle.tables.specs.Encode.{encode, slotWord, headerWord, structureWord, regionFor, regionsWord, partWord, wordFor}
 use Rattle.tables.specs.Update.{pick, upd, upd1, both?}
@@ -24,11 +24,10 @@ use Rattle.tables.specs.Settle.{meets, apart, clear, openBit, openAt, keep, set
 use Rattle.tables.specs.ZeroRecord.{zeroTo, zeroBlanks}
 use Rattle.tables.specs.Outcomes.{answered}
 use Rattle.tables.specs.declared.Outcome.{Outcome}
-use Rattle.sound.specs.Sound.{allRights}
 use Rattle.sound.specs.Clauses.{when, has, isNowhere, long, s1, s2Root, s2Other, s2, blankRegion, s3Regions, s3First, s3, rooted, s4Area, s4Absent, s4, s5Slot, s5, apartE, s6, held, covered, s7Root, s7Given, grants, s7Inside, s7Cover, s7, equals, s8Backed, s8Apart, s8, s9, s10Names, s10Once, s10, full, within, s11Within, containsBoth, oneGrant, sameRights, s11Equal, s11, clauseAt, sound}
-use Rattle.sound.specs.Holders.{givenTo, givenBy, heir, deepest, trail, holdersOf, inMemory, holdersOutcome, holdersBytes}
+use Rattle.sound.specs.Holders.{receiver, givenBy, heir, deepest, trail, holdersOf, inMemory, holdersOutcome, holdersBytes}
 use Rattle.rules.specs.Ran.{outcomeOf}
-use Rattle.rules.specs.Rules.{Result, check, need, ownOrChild, parentOrChild, freeEntry, long as longEntry, create, delete, prepare, vacant, collect, give, returned, take, cut, merge, elsewhere, load, unload, regionWord, readRegion, find, switch, ungive, branch, clearOut, noRights, uses, unused, regionCall, known, perform, serve, serveRead, callOn, bootOn, wordsAfter}
+use Rattle.rules.specs.Rules.{Result, check, need, ownOrChild, parentOrChild, freeEntry, create, delete, prepare, vacant, collect, give, returned, take, cut, merge, elsewhere, load, unload, regionWord, readRegion, find, switch, ungive, branch, clearOut, noRights, uses, unused, regionCall, known, perform, serve, serveRead, callOn, bootOn, wordsAfter}
 
 -- ── a case: what is computed, and what 01 says ──
 abbrev pub Case : Type 0
@@ -120,7 +119,7 @@ session = run B calls
 
 -- ── D: X with a branch three deep: 1 has child 2, which has loaded a region, and 2 has child 3 ──
 abbrev piece : ℕ → ℕ → ℕ → Opt Entry
-piece start stop given = some (record { start = start; stop = stop; given = given; rights = allRights })
+piece start stop given = some (entry start stop given allRights)
 
 abbrev area : ℕ → ℕ → Opt Area
 area lo hi = some (record { lo = lo; hi = hi })
@@ -263,11 +262,11 @@ right-both (c ∷ bs) cs g h =
 
 -- each part is computed by itself: a declaration has so many steps and no more
 base-right : right (casesOf B session) ≡ true
-unfolding B session D A carried rest tabFrom climb first header structure regions slot call firstWord recordWord areaWordAt regionsWordAt blankWordAt slotWordAt view viewK entryIn headerArea structureArea areaIn nth named inside parentAt encode slotWord headerWord structureWord regionFor regionsWord partWord wordFor pick upd upd1 both? ℕ-discrete lowest present absent absentChild child noStructure free holds meets apart clear openBit openAt keep settle zeroTo zeroBlanks when has isNowhere long s1 s2Root s2Other s2 blankRegion s3Regions s3First s3 rooted s4Area s4Absent s4 s5Slot s5 apartE s6 held covered s7Root s7Given grants s7Inside s7Cover s7 equals s8Backed s8Apart s8 s9 s10Names s10Once s10 full within s11Within containsBoth oneGrant sameRights s11Equal s11 clauseAt sound givenTo givenBy heir deepest trail holdersOf inMemory holdersOutcome holdersBytes check need ownOrChild parentOrChild freeEntry longEntry create prepare vacant collect give returned take cut merge elsewhere load switch ungive branch clearOut sum noRights uses unused regionCall known perform serve serveRead callOn bootOn wordsAfter outcomeOf
+unfolding B session D A carried rest tabFrom climb first header structure regions slot call firstWord recordWord areaWordAt regionsWordAt blankWordAt slotWordAt view viewK entryIn headerArea structureArea areaIn nth named inside parentAt encode slotWord headerWord structureWord regionFor regionsWord partWord wordFor pick upd upd1 both? ℕ-discrete lowest present absent absentChild child noStructure free holds meets apart clear openBit openAt keep settle zeroTo zeroBlanks when has isNowhere long s1 s2Root s2Other s2 blankRegion s3Regions s3First s3 rooted s4Area s4Absent s4 s5Slot s5 apartE s6 held covered s7Root s7Given grants s7Inside s7Cover s7 equals s8Backed s8Apart s8 s9 s10Names s10Once s10 full within s11Within containsBoth oneGrant sameRights s11Equal s11 clauseAt sound receiver givenBy heir deepest trail holdersOf inMemory holdersOutcome holdersBytes check need ownOrChild parentOrChild freeEntry create prepare vacant collect give returned take cut merge elsewhere load switch ungive branch clearOut sum noRights uses unused regionCall known perform serve serveRead callOn bootOn wordsAfter outcomeOf
 base-right = refl
 
 further-right : right (furtherCases B (session .1) D A) ≡ true
-unfolding B session D A carried rest tabFrom climb first header structure regions slot call firstWord recordWord areaWordAt regionsWordAt blankWordAt slotWordAt view viewK entryIn headerArea structureArea areaIn nth named inside parentAt encode slotWord headerWord structureWord regionFor regionsWord partWord wordFor pick upd upd1 both? ℕ-discrete lowest present absent absentChild child hasChild noStructure free holds meets apart clear openBit openAt keep settle zeroTo zeroBlanks when has isNowhere long s1 s2Root s2Other s2 blankRegion s3Regions s3First s3 rooted s4Area s4Absent s4 s5Slot s5 apartE s6 held covered s7Root s7Given grants s7Inside s7Cover s7 equals s8Backed s8Apart s8 s9 s10Names s10Once s10 full within s11Within containsBoth oneGrant sameRights s11Equal s11 clauseAt sound givenTo givenBy heir deepest trail holdersOf inMemory holdersOutcome holdersBytes check need ownOrChild parentOrChild freeEntry longEntry create delete prepare vacant collect give returned take cut merge elsewhere load unload regionWord readRegion find switch ungive branch clearOut sum noRights uses unused regionCall known perform serve serveRead callOn bootOn wordsAfter outcomeOf
+unfolding B session D A carried rest tabFrom climb first header structure regions slot call firstWord recordWord areaWordAt regionsWordAt blankWordAt slotWordAt view viewK entryIn headerArea structureArea areaIn nth named inside parentAt encode slotWord headerWord structureWord regionFor regionsWord partWord wordFor pick upd upd1 both? ℕ-discrete lowest present absent absentChild child hasChild noStructure free holds meets apart clear openBit openAt keep settle zeroTo zeroBlanks when has isNowhere long s1 s2Root s2Other s2 blankRegion s3Regions s3First s3 rooted s4Area s4Absent s4 s5Slot s5 apartE s6 held covered s7Root s7Given grants s7Inside s7Cover s7 equals s8Backed s8Apart s8 s9 s10Names s10Once s10 full within s11Within containsBoth oneGrant sameRights s11Equal s11 clauseAt sound receiver givenBy heir deepest trail holdersOf inMemory holdersOutcome holdersBytes check need ownOrChild parentOrChild freeEntry create delete prepare vacant collect give returned take cut merge elsewhere load unload regionWord readRegion find switch ungive branch clearOut sum noRights uses unused regionCall known perform serve serveRead callOn bootOn wordsAfter outcomeOf
 further-right = refl
 
 -- ── the statement: in every case, what is computed is what 01 and 02 say ──

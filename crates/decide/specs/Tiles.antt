@@ -4,10 +4,9 @@ use mathlib.Core.Bool.{Bool, true, cond}
 use mathlib.Core.List.{List}
 use Prim.Native.Nat.{ℕ, _≤_, _<_}
 use Rattle.words.specs.declared.Rights.{Rights}
-use Rattle.tables.specs.State.{Opt, none, some, Entry}
+use Rattle.tables.specs.State.{Opt, none, some, Entry, entry, allRights}
 use Rattle.tables.specs.View.{view}
 use Rattle.tables.specs.Lines.{In}
-use Rattle.sound.specs.Sound.{allRights}
 use Rattle.sound.specs.Clauses.{within, sameRights}
 use Rattle.decide.specs.Entries.{Solid}
 use Rattle.decide.specs.Order.{placed, Rows}
@@ -47,7 +46,7 @@ pub data Tiled (E : ℕ → Entry) (n i lo hi : ℕ) (r : Rights) (x : ℕ) : Ty
 
 -- ── the entries of a partition by place ──
 unfoldable pub entryOr : Opt Entry → Entry
-entryOr none = record { start = 0; stop = 0; given = 0; rights = allRights }
+entryOr none = entry 0 0 0 allRights
 entryOr (some e) = e
 
 abbrev pub rowOf : List ℕ → List ℕ → ℕ → ℕ → Entry

@@ -17,6 +17,7 @@ use Rattle.tables.specs.declared.Outcome.the-variants.{Done, Refused}
 use Rattle.rules.specs.Rules.{zeroed, branch, callOn, wordsAfter}
 use Rattle.rules.specs.Ran.{outcomeOf}
 use Rattle.rules.specs.Calls.{callerOf}
+use Rattle.rules.specs.Reads.{standsAfter}
 use Rattle.rules.specs.declared.Answer.{Answer}
 
 -- whether partition p stands in it for line l; and the tree, which tells whose child one is and who goes with a partition that is cleared out
@@ -87,9 +88,9 @@ unfoldable pub noted : ℕ → Answer → Lines → Ledger → Ledger
 noted w a r g = apply (eventOf g (fieldsIn call w) (a .caller .0) (a .outcome) r) g
 
 -- ── over a list of calls ──
--- the answer of a call of word w on the words l: the caller's number beside the outcome
+-- the answer of a call of word w on the words l
 abbrev pub answerOn : List ℕ → ℕ → Answer
-answerOn l w = record { caller = record { 0 = callerOf l }; outcome = outcomeOf (callOn l w) }
+answerOn l w = record { caller = record { 0 = callerOf l }; outcome = outcomeOf (callOn l w); stands = standsAfter l w }
 
 -- no entry has no line
 unfoldable pub linesOf : Opt Entry → Lines

@@ -8,12 +8,14 @@ use Rattle.sound.specs.Clauses.{sound}
 use Rattle.rules.specs.declared.Answer.{Answer}
 use Rattle.rules.specs.Rules.{callOn}
 use Rattle.rules.specs.Ran.{Ran}
+use Rattle.rules.specs.Reads.{standsAfter}
 
 -- the caller's number before the call; 0 where refusal 1 is given
 unfoldable pub callerOf : List ℕ → ℕ
 callerOf l = cond (sound l) (view l .k .current) 0
 
--- the answer: the caller beside the outcome of the rule; and every word afterwards
+-- the answer: the caller beside the outcome of the rule, and whether it only reads; and every word afterwards
 pub record Answers (before : List ℕ) (w : ℕ) (r : Answer) (after : List ℕ) : Type 0 where
   pub caller : r .caller .0 ≡ callerOf before
   pub ran : Ran (callOn before w) before (r .outcome) after
+  pub stands : r .stands ≡ standsAfter before w

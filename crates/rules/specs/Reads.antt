@@ -1,15 +1,19 @@
--- Find and read region leave every word of the table as it was.
-use mathlib.Core.Bool.{Bool, _||_}
+-- The calls that leave every word of the table as it was, whatever they answer.
+use mathlib.Core.Bool.{Bool, true, cond, _||_}
+use mathlib.Core.List.{List}
 use Prim.Native.Nat.{ℕ}
 use lib.Dec.{eqb}
-use Rattle.words.specs.Kind.{fieldsIn}
+use Rattle.words.specs.Kind.{reading}
 use Rattle.words.specs.Words.{call}
-use Rattle.words.specs.declared.call_word.CallFields.{CallFields}
+use Rattle.words.specs.declared.call_word.CallRead.{CallRead}
+use Rattle.words.specs.declared.call_word.CallRead.the-variants.{Fields, Refused}
+use Rattle.sound.specs.Clauses.{sound}
 
--- 11 read region, 12 find
-abbrev pub reader : CallFields → Bool
-reader f = eqb (f .service) 11 || eqb (f .service) 12
+-- 11 read region, 12 find, and a word that is refused
+unfoldable pub onlyReads : CallRead → Bool
+onlyReads (Fields f) = eqb (f .service) 11 || eqb (f .service) 12
+onlyReads (Refused n) = true
 
--- the service that stands in the word only reads
-unfoldable pub onlyReads : ℕ → Bool
-onlyReads w = reader (fieldsIn call w)
+-- .. and a table that is refused
+unfoldable pub standsAfter : List ℕ → ℕ → Bool
+standsAfter l w = cond (sound l) (onlyReads (reading call w)) true

@@ -13,15 +13,14 @@ use Rattle.words.specs.declared.Rights.{Rights}
 use Rattle.words.specs.declared.call_word.CallFields.{CallFields}
 use Rattle.words.specs.declared.call_word.CallRead.{CallRead}
 use Rattle.words.specs.declared.call_word.CallRead.the-variants.{Fields, Refused}
-use Rattle.tables.specs.State.{Opt, none, some, Entry, Area, nowhere, K, Table}
+use Rattle.tables.specs.State.{Opt, none, some, Entry, rootEntry, givenTo, endingAt, startingAt, rangeOf, Area, nowhere, K, Table}
 use Rattle.tables.specs.Update.{upd, upd1}
 use Rattle.tables.specs.View.{view}
 use Rattle.tables.specs.Encode.{encode, slotWord}
 use Rattle.tables.specs.Write.{withSlot, withArea, withCurrent}
 use Rattle.tables.specs.Search.{lowest, isSome, child, hasChild, absentChild, noStructure, free, holdsAt}
 use Rattle.tables.specs.Settle.{settle}
-use Rattle.sound.specs.Sound.{allRights}
-use Rattle.sound.specs.Clauses.{sound, has, within, oneGrant}
+use Rattle.sound.specs.Clauses.{sound, has, long, within, oneGrant}
 
 -- done with its two values and the table after it, or refused with its number
 pub data Result : Type 0 where
@@ -55,25 +54,8 @@ freeEntry t s f =
     (check 6 (eqb (e .given) 0)
     (f e))
 
--- 16 lines or more
-unfoldable pub long : Entry → Bool
-long e = leb (e .start + 16) (e .stop)
-
 abbrev pub areaOf : Entry → Area
 areaOf e = record { lo = e .start; hi = e .stop }
-
-abbrev pub endingAt : Entry → ℕ → Entry
-endingAt e l = record { start = e .start; stop = l; given = e .given; rights = e .rights }
-
-abbrev pub startingAt : Entry → ℕ → Entry
-startingAt e l = record { start = l; stop = e .stop; given = e .given; rights = e .rights }
-
-abbrev pub givenTo : Entry → ℕ → Entry
-givenTo e p = record { start = e .start; stop = e .stop; given = p; rights = e .rights }
-
--- the range of an entry, with rights R, not given
-abbrev pub rangeOf : Entry → Rights → Entry
-rangeOf e r = record { start = e .start; stop = e .stop; given = 0; rights = r }
 
 abbrev pub setSlot : K → ℕ → ℕ → Opt Entry → K
 setSlot k p i x = withSlot k (upd (k .slot) p i x)
@@ -86,7 +68,7 @@ unfoldable pub create : Table → ℕ → Result
 create t s =
     freeEntry t s λ e.
     need 8 (lowest 16 (absentChild (t .k))) λ n.
-    check 9 (long e)
+    check 9 (long (areaOf e))
     (done n 0 (settle (createK (t .k) n e) (t .region)))
 
 -- ── 2 delete: P a child; 3 15; caller's given = P become 0, record P zero; 0, 0 ──
@@ -127,7 +109,7 @@ prepare t p s =
     check 3 (ownOrChild (t .k) p)
     (freeEntry t s λ e.
     need 8 (lowest 4 (noStructure (t .k) p)) λ j.
-    check 9 (long e)
+    check 9 (long (areaOf e))
     (done j 0 (settle (prepareK (t .k) p j e) (t .region))))
 
 -- ── 4 collect: P own or child, T structure; 3 4 15; structure word zero; 0, 0 ──
@@ -338,7 +320,7 @@ bootK base end = record {
   current = 0;
   parent = λ p. 0;
   area = upd (upd (λ p j. none) 0 0 (some nowhere)) 0 1 (some nowhere);
-  slot = upd (λ p i. none) 0 0 (some (record { start = base; stop = end; given = 0; rights = allRights }));
+  slot = upd (λ p i. none) 0 0 (some (rootEntry base end));
 }
 
 unfoldable pub bootOn : List ℕ → ℕ → ℕ → Result

@@ -3,7 +3,9 @@ use tables::Outcome;
 use words::Partition;
 
 // What a call answers: its outcome, beside the number that the caller had before it (0 where the table is refused).
+// Where it stands, every word is as it was; a call that may write does not say so, even where it is refused.
 pub struct Answer {
     pub caller: Partition,
     pub outcome: Outcome,
+    pub stands: bool,
 }

@@ -1,16 +1,14 @@
 ghost use mathlib.Core.Path.{_≡_};
 ghost use mathlib.Core.Bool.{true, false, _&&_, _||_};
-ghost use Rattle.words.specs.Kind.{reading};
-ghost use Rattle.words.specs.Words.{call};
 ghost use Rattle.words.specs.Fields.{SmallCall};
 ghost use Rattle.tables.specs.View.{view};
 ghost use Rattle.tables.specs.Top.{Top};
 ghost use Rattle.tables.specs.Encode.{Canon};
+ghost use Rattle.sound.specs.Clauses.{sound};
 ghost use Rattle.sound.specs.Whole.{Right};
-ghost use Rattle.rules.specs.Rules.{noRights, unused, regionCall, known, numbered, perform, serve, serveRead};
+ghost use Rattle.rules.specs.Rules.{noRights, unused, regionCall, known, numbered, perform, serve};
 ghost use Rattle.rules.specs.Ran.{Ran};
 ghost use Rattle.rules.specs.Calls.{Answers};
-ghost use Rattle.rules.specs.Reads.{onlyReads};
 use rules::Answer;
 use tables::Outcome;
 use words::Partition;
@@ -31,34 +29,33 @@ fn no_rights(r: Rights) -> bool
     !r.execute
 }
 
-// a field that is used, or zero
-fn in_order(used: bool, zero: bool) -> bool
-    ensures { λ b. ⌜ b ≡ used || zero ⌝ }
+fn either(a: bool, b: bool) -> bool
+    ensures { λ r. ⌜ r ≡ a || b ⌝ }
 {
-    if used {
+    if a {
         return true;
     }
-    zero
+    b
 }
 
 // Each field that the service doesn't use is 0.
 fn unused(p: bool, s: bool, u: bool, r: bool, l: bool, f: CallFields) -> bool
     ensures { λ b. ⌜ b ≡ unused (record { p = p; s = s; u = u; r = r; l = l }) f ⌝ }
 {
-    if !in_order(p, f.partition.0 == 0) {
+    if !either(p, f.partition.0 == 0) {
         return false;
     }
-    if !in_order(s, f.slot.0 == 0) {
+    if !either(s, f.slot.0 == 0) {
         return false;
     }
-    if !in_order(u, f.other == 0) {
+    if !either(u, f.other == 0) {
         return false;
     }
     let rights = f.rights;
-    if !in_order(r, no_rights(rights)) {
+    if !either(r, no_rights(rights)) {
         return false;
     }
-    in_order(l, f.line.0 == 0)
+    either(l, f.line.0 == 0)
 }
 
 // Service 9: R is not above 1, S is 0 where R is 1, and L is 0.
@@ -72,7 +69,7 @@ fn region_known(f: CallFields) -> bool
     if r.write {
         return false;
     }
-    if !in_order(!r.execute, f.slot.0 == 0) {
+    if !either(!r.execute, f.slot.0 == 0) {
         return false;
     }
     unused(true, true, true, true, false, f)
@@ -148,15 +145,30 @@ fn serve(t: &mut [u64; 641], f: CallFields) -> Outcome
     perform(t, f)
 }
 
-// A call word: its service, or 2 where it is none.
-fn serve_word(t: &mut [u64; 641], word: u64) -> Outcome
-    requires { ⌜ Canon (now t) × Right (view (now t)) ⌝ }
-    ensures { λ r. ⌜ Ran (serveRead (view (now (t .entry))) (reading call word)) (now (t .entry)) r (now (t .exit)) ⌝ }
+// A call on the words of a sound table: its service, or 2 where it is none. Find and read region leave every word as it was.
+pub fn serve_word(t: &mut [u64; 641], word: u64) -> Answer
+    requires { ⌜ sound (now t) ≡ true ⌝ }
+    ensures { λ r. ⌜ Answers (now (t .entry)) word r (now (t .exit)) ⌝ }
 {
+    tables::fits(t);
+    let first = tables::read::first(t);
+    let caller = first.current;
     let read = words::call_word::read(word);
     match read {
-        CallRead::Fields(f) => serve(t, f),
-        CallRead::Refused(n) => Outcome::Refused(n),
+        CallRead::Fields(f) => {
+            let outcome = serve(t, f);
+            let stands = either(f.service == 11, f.service == 12);
+            Answer {
+                caller,
+                outcome,
+                stands,
+            }
+        }
+        CallRead::Refused(n) => Answer {
+            caller,
+            outcome: Outcome::Refused(n),
+            stands: true,
+        },
     }
 }
 
@@ -169,22 +181,8 @@ pub fn call_table(t: &mut [u64; 641], top: u32, word: u64) -> Answer
         return Answer {
             caller: Partition(0),
             outcome: Outcome::Refused(1),
+            stands: true,
         };
     }
-    tables::fits(t);
-    let first = tables::read::first(t);
-    let caller = first.current;
-    let outcome = serve_word(t, word);
-    Answer { caller, outcome }
-}
-
-// Find and read region leave every word as it was, so nothing is to be written back after them.
-pub fn only_reads(word: u64) -> bool
-    ensures { λ r. ⌜ r ≡ onlyReads word ⌝ }
-{
-    let f = words::call_word::fields(word);
-    if f.service == 11 {
-        return true;
-    }
-    f.service == 12
+    serve_word(t, word)
 }

@@ -25,15 +25,16 @@ pub fn call(t: &mut [u64], word: u64) -> Answer
         return Answer {
             caller: Partition(0),
             outcome: Outcome::Refused(1),
+            stands: true,
         };
     }
     let mut a = [0u64; 641];
     tables::copies::copy_in(t, &mut a);
     let answer = calls::call_table(&mut a, 16, word);
-    let outcome = answer.outcome;
-    if let Outcome::Done(_, _) = outcome {
-        tables::copies::copy_out(&a, t);
+    if answer.stands {
+        return answer;
     }
+    tables::copies::copy_out(&a, t);
     answer
 }
 

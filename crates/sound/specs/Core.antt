@@ -3,9 +3,9 @@ use mathlib.Core.Path.{_≡_}
 use mathlib.Core.Logic.{_⊎_, _↔_}
 use Prim.Native.Nat.{ℕ, _+_, _/_, _≤_, _<_}
 use Rattle.loops.specs.Climb.{Reaches}
-use Rattle.tables.specs.State.{Opt, none, some, Entry, Area, nowhere, K}
+use Rattle.tables.specs.State.{Opt, none, some, Entry, Area, nowhere, K, allRights}
 use Rattle.tables.specs.Lines.{In, InA, Holds}
-use Rattle.sound.specs.Sound.{Present, Rooted, Sub, allRights}
+use Rattle.sound.specs.Sound.{Present, Rooted, Sub}
 
 -- around an entry of c: an entry that c's parent gave it, with all its rights
 pub record Inside (slot : ℕ → ℕ → Opt Entry) (up : ℕ → ℕ) (c : ℕ) (e : Entry) : Type 0 where

@@ -14,14 +14,14 @@ use Rattle.tables.specs.declared.Outcome.the-variants.{Done, Refused}
 use Rattle.sound.specs.Clauses.{sound}
 
 -- whom an entry is given to; 0 is nobody
-unfoldable pub givenTo : Opt Entry → ℕ
-givenTo none = 0
-givenTo (some e) = e .given
+unfoldable pub receiver : Opt Entry → ℕ
+receiver none = 0
+receiver (some e) = e .given
 
 -- .. of p, by its slot that was found
 unfoldable pub givenBy : K → ℕ → Opt ℕ → ℕ
 givenBy k p none = 0
-givenBy k p (some i) = givenTo (k .slot p i)
+givenBy k p (some i) = receiver (k .slot p i)
 
 -- whom p gave its entry that holds line l
 unfoldable pub heir : K → ℕ → ℕ → ℕ

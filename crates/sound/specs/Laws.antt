@@ -6,7 +6,6 @@ pub mod Cover
 pub mod MeansEntries
 pub mod MeansAreas
 pub mod MeansWords
-pub mod Opens
 pub mod MeansRegions
 pub mod List
 pub mod Canonical

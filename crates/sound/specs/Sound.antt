@@ -10,7 +10,7 @@ use Rattle.loops.specs.Climb.{Reaches}
 use Rattle.words.specs.Kind.{Zeroed}
 use Rattle.words.specs.Words.{first, header, structure, regions, slot}
 use Rattle.words.specs.declared.Rights.{Rights}
-use Rattle.tables.specs.State.{none, some, Entry, Area, nowhere, K, Table}
+use Rattle.tables.specs.State.{none, some, Entry, allRights, Area, nowhere, K, Table}
 use Rattle.tables.specs.View.{firstWord, areaWordAt, regionsWordAt, blankWordAt, slotWordAt, nth, regionsAt, view}
 use Rattle.tables.specs.Spelling.{ZeroWords}
 use Rattle.tables.specs.Lines.{In, InA, Holds, Clear}
@@ -46,9 +46,6 @@ pub record Equals (k : K) (q : ℕ) (a : Area) : Type 0 where
   pub free : e .given ≡ 0
   pub lo : e .start ≡ a .lo
   pub hi : e .stop ≡ a .hi
-
-abbrev pub allRights : Rights
-allRights = record { read = true; write = true; execute = true }
 
 -- no right of a that b lacks
 pub record Sub (a b : Rights) : Type 0 where

@@ -1,5 +1,4 @@
 pub mod State
-pub mod Lines
 pub mod Update
 pub mod View
 pub mod Encode

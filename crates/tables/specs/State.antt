@@ -1,6 +1,6 @@
 -- The table that 641 words mean. An absent thing is `none`. An entry has no open bit of its own: S9 derives it.
 use mathlib.Core.Path.{_≡_}
-use mathlib.Core.Bool.{Bool}
+use mathlib.Core.Bool.{Bool, true}
 use Prim.Native.Nat.{ℕ}
 use Rattle.words.specs.declared.Rights.{Rights}
 
@@ -13,6 +13,30 @@ pub record Entry : Type 0 where
   pub stop : ℕ
   pub given : ℕ
   pub rights : Rights
+
+-- ── makers of entries: no other place builds one ──
+abbrev pub allRights : Rights
+allRights = record { read = true; write = true; execute = true }
+
+abbrev pub entry : ℕ → ℕ → ℕ → Rights → Entry
+entry start stop given rights = record { start = start; stop = stop; given = given; rights = rights }
+
+-- all that there is: what the root gets at boot
+abbrev pub rootEntry : ℕ → ℕ → Entry
+rootEntry base end = entry base end 0 allRights
+
+abbrev pub endingAt : Entry → ℕ → Entry
+endingAt e l = entry (e .start) l (e .given) (e .rights)
+
+abbrev pub startingAt : Entry → ℕ → Entry
+startingAt e l = entry l (e .stop) (e .given) (e .rights)
+
+abbrev pub givenTo : Entry → ℕ → Entry
+givenTo e p = entry (e .start) (e .stop) p (e .rights)
+
+-- the range of an entry, with rights R, not given
+abbrev pub rangeOf : Entry → Rights → Entry
+rangeOf e r = entry (e .start) (e .stop) 0 r
 
 -- memory that serves the kernel
 pub record Area : Type 0 where

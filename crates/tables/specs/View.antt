@@ -13,7 +13,7 @@ use Rattle.words.specs.declared.regions_word.Region.{Region}
 use Rattle.words.specs.declared.regions_word.RegionsFields.{RegionsFields}
 use Rattle.words.specs.declared.slot_word.SlotFields.{SlotFields}
 use Rattle.words.specs.declared.structure_word.StructureFields.{StructureFields}
-use Rattle.tables.specs.State.{Opt, none, some, Entry, Area, K, Table}
+use Rattle.tables.specs.State.{Opt, none, some, Entry, entry, Area, K, Table}
 
 -- ── places: partition p has 40 words from word 1 + 40 p ──
 abbrev pub areaPlace : ℕ → ℕ → ℕ
@@ -50,7 +50,7 @@ slotWordAt l p i = getD l (slotPlace p i) 0
 
 -- ── fields as parts of the table ──
 abbrev pub entryOf : SlotFields → Entry
-entryOf f = record { start = f .start .0; stop = f .end .0; given = f .given .0; rights = f .rights }
+entryOf f = entry (f .start .0) (f .end .0) (f .given .0) (f .rights)
 
 -- a present slot is an entry
 unfoldable pub entryIn : SlotFields → Opt Entry

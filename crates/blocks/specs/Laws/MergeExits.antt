@@ -7,7 +7,7 @@ use lib.Dec.{eqb}
 use borrow.Author.Tests.{eq-eqb, ne-eqb}
 use Rattle.loops.specs.Every.{any}
 use Rattle.words.specs.declared.slot_word.SlotFields.{SlotFields}
-use Rattle.tables.specs.State.{some, Entry, K}
+use Rattle.tables.specs.State.{some, Entry, K, endingAt}
 use Rattle.tables.specs.View.{view, entryOf}
 use Rattle.tables.specs.Encode.{encode, Is}
 use Rattle.tables.specs.Write.{putSlot}
@@ -17,7 +17,7 @@ use Rattle.tables.specs.Kept.{keepRegions}
 use Rattle.tables.specs.declared.Outcome.the-variants.{Done}
 use Rattle.sound.specs.Laws.Settled.{Settled, clear-both, entry-clear, put-settled, empty-words, right-settled}
 use Rattle.sound.specs.Clauses.{containsBoth, oneGrant}
-use Rattle.rules.specs.Rules.{Result, done, refused, check, endingAt, mergeK, merge}
+use Rattle.rules.specs.Rules.{Result, done, refused, check, mergeK, merge}
 use Rattle.rules.specs.Ran.{Ran}
 use Rattle.rules.specs.Laws.Ran.{ran-done, pass, fail, there, missing}
 use Rattle.blocks.specs.Laws.Pick.{at-caller}

@@ -7,7 +7,7 @@ use native.Mathlib.Omega.{arith}
 use borrow.Author.Tests.{lt-ltb, le-ltb}
 use Rattle.words.specs.declared.Rights.{Rights}
 use Rattle.words.specs.declared.slot_word.SlotFields.{SlotFields}
-use Rattle.tables.specs.State.{none, some, K}
+use Rattle.tables.specs.State.{none, some, K, endingAt, startingAt, givenTo, rangeOf}
 use Rattle.tables.specs.View.{view, entryOf}
 use Rattle.tables.specs.Encode.{encode, Canon, Is}
 use Rattle.tables.specs.Seen.{Seen}
@@ -17,18 +17,19 @@ use Rattle.tables.specs.declared.Outcome.the-variants.{Done, Refused}
 use Rattle.sound.specs.Clauses.{within}
 use Rattle.sound.specs.Whole.{Right}
 use Rattle.sound.specs.Laws.Settled.{Settled, clear-part, settled-words, entry-clear, put-settled, right-settled}
-use Rattle.rules.specs.Rules.{endingAt, startingAt, givenTo, rangeOf, cut, give}
+use Rattle.rules.specs.Rules.{cut, give}
 use Rattle.rules.specs.Ran.{Ran}
 use Rattle.rules.specs.Laws.Ran.{ran-refused, ran-done, pass, fail, there, missing}
 use Rattle.blocks.specs.Pick.{Free}
 use Rattle.blocks.specs.Laws.RegionExits.{entry-there}
-use Rattle.blocks.specs.SlotExits.{CanPut, splitAt, CanCut, handedTo, CanGive}
+use Rattle.writing.specs.CanWrite.{CanEntry}
+use Rattle.blocks.specs.SlotExits.{splitAt, CanCut, handedTo, CanGive}
 
 -- in a right table no area shares a line with a free entry
 free-clear : {l : List ℕ} {s : ℕ} {f : SlotFields} → Right (view l) → Free l s f → clear (view l .k .area) (f .start .0) (f .end .0) ≡ true
 free-clear {f = f} right entry = entry-clear (right-settled right) {e = entryOf f} (entry-there (entry .seen) (entry .present)) ∙ entry .seen .opened ∙ entry .opened
 
-pub can-put : {l : List ℕ} {c p s : ℕ} {f : SlotFields} → Canon l → c < 16 → s < 32 → Seen l p s f → f .present ≡ true → CanPut l c s f
+pub can-put : {l : List ℕ} {c p s : ℕ} {f : SlotFields} → Canon l → c < 16 → s < 32 → Seen l p s f → f .present ≡ true → CanEntry l c s f
 can-put a b d v q = record {
   canon = a;
   inP = b;
@@ -41,7 +42,7 @@ can-put a b d v q = record {
 
 -- ── cut ──
 module _ {l : List ℕ} {s k : ℕ} {f : SlotFields} (h : CanCut l s k f) where
-  pub can-split : {c : ℕ} → c < 16 → CanPut l c s f
+  pub can-split : {c : ℕ} → c < 16 → CanEntry l c s f
   can-split b = can-put (h .canon) b (h .inI) (h .entry .seen) (h .entry .present)
 
   pub cut-low : k ≤ f .start .0 → Ran (cut (view l) s k) l (Refused 7) l
@@ -81,7 +82,7 @@ pub child-now : (k : K) (p : ℕ) {c : ℕ} {b : Bool} → k .current ≡ c → 
 child-now k p now e = ap (λ (c : ℕ). child k c p) now ∙ e
 
 module _ {l : List ℕ} {c p s : ℕ} {f : SlotFields} (h : CanGive l c p s f) where
-  pub can-hand : CanPut l c s f
+  pub can-hand : CanEntry l c s f
   can-hand = can-put (h .canon) (h .caller) (h .inI) (h .entry .seen) (h .entry .present)
 
   pub give-full : (r : Rights) → lowest 32 (free (view l .k) p) ≡ none → Ran (give (view l) p s r) l (Refused 8) l

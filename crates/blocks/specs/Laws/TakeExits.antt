@@ -5,7 +5,7 @@ use mathlib.Core.List.{List}
 use Prim.Native.Nat.{ℕ}
 use borrow.Author.Tests.{eq-eqb, ne-eqb}
 use Rattle.words.specs.declared.slot_word.SlotFields.{SlotFields}
-use Rattle.tables.specs.State.{none, some}
+use Rattle.tables.specs.State.{none, some, givenTo}
 use Rattle.tables.specs.View.{view, entryOf}
 use Rattle.tables.specs.Encode.{encode, Is}
 use Rattle.tables.specs.Write.{putSlot}
@@ -16,11 +16,11 @@ use Rattle.tables.specs.Kept.{keepRegions}
 use Rattle.tables.specs.declared.Outcome.the-variants.{Done, Refused}
 use Rattle.sound.specs.Clauses.{has}
 use Rattle.sound.specs.Laws.Settled.{Settled, entry-clear, put-settled, empty-words, right-settled}
-use Rattle.rules.specs.Rules.{givenTo, returned, take}
+use Rattle.rules.specs.Rules.{returned, take}
 use Rattle.rules.specs.Ran.{Ran}
 use Rattle.rules.specs.Laws.Ran.{ran-refused, ran-done, pass, fail, there, missing}
 use Rattle.blocks.specs.Laws.Pick.{at-caller}
-use Rattle.blocks.specs.SlotExits.{CanPut}
+use Rattle.writing.specs.CanWrite.{CanEntry}
 use Rattle.blocks.specs.Laws.SlotExits.{can-put}
 use Rattle.blocks.specs.Laws.RegionExits.{entry-none, entry-there}
 use Rattle.blocks.specs.TakeExits.{takenBack, CanTake}
@@ -62,7 +62,7 @@ module _ {l : List ℕ} {c s : ℕ} {f : SlotFields} (now : view l .k .current �
 
 -- ── take: they pass ──
 module _ {l : List ℕ} {c s : ℕ} {f : SlotFields} (h : CanTake l c s f) where
-  pub can-take : CanPut l c s f
+  pub can-take : CanEntry l c s f
   can-take = can-put (h .canon) (h .caller) (h .inI) (h .seen) (h .present)
 
   pub take-kept : lowest 32 (returned (view l) (entryOf f)) ≡ none → Ran (take (view l) s) l (Refused 14) l

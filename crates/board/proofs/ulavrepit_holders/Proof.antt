@@ -1,5 +1,5 @@
 use mathlib.Core.Path.{refl, sym, _∙_}
-use Rattle.tables.specs.Laws.Top.{top-16}
+use Rattle.tables.specs.Laws.Top.{top-at}
 use Rattle.board.specs.Laws.Board.{holders-first, holders-number, list-none, list-lent, list-kept}
 use native.Mathlib.Omega.{arith}
 use borrow.Author.Needs.{needs}
@@ -13,7 +13,7 @@ ulavrepit-holders-spec =
     (λ c κs. (omega arith, omega arith, omega arith))
     (λ c. list-none _ (c .before .if1 .taken) (c .packed .ensures))
     (λ c κs. (c .before .if1 .left, refl))
-    (λ c κs. top-16 _)
+    (λ c κs. top-at (c .before .before .load .ensures .0) (c .before .before .load .ensures .1))
     (λ c. search needs)
     (λ c κs. (omega arith, omega arith, omega (arith, holders-first _ _ _ (sym (c .before .before .before .before .before .holders-table .ensures .outcome) ∙ c .before .outcome .given .1))))
     (λ c. search needs)

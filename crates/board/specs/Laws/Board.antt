@@ -32,8 +32,7 @@ use Rattle.services.specs.Laws.Boot.{boot-any, boot-length}
 use Rattle.rules.specs.declared.Answer.{Answer}
 use Rattle.rules.specs.Laws.Calls.{caller-small, answers-unsound}
 use Rattle.rules.specs.Calls.{Answers}
-use Rattle.rules.specs.Reads.{onlyReads}
-use Rattle.rules.specs.Laws.Reads.{reads-stand}
+use Rattle.rules.specs.Laws.Reads.{answers-stand}
 use Rattle.isolation.specs.Whole.{call-sound}
 use Rattle.board.specs.Board.{handed, packed, resultOf, secondAfter, bytesAfter, Lent, CallLent, ListLent}
 
@@ -158,11 +157,11 @@ module _ (b : List ℕ) {a m : List ℕ} {w : ℕ} {x : Answer} (size : length b
       go true e = sound-means a .0 e
       go false e = let u : callOn a w ≡ refused 1 = rw e refl in absurd (refused-done (sym (ap outcomeOf u) ∙ sym (h .ran .outcome) ∙ q))
 
-  -- a call that only reads: the bytes are those of the table already
-  pub call-stands : ((i : ℕ) → getD b i 0 < 256) → onlyReads w ≡ true → b ≡ bytesOf m
+  -- where its answer stands, the bytes are those of the table already
+  pub call-stands : ((i : ℕ) → getD b i 0 < 256) → x .stands ≡ true → b ≡ bytesOf m
   call-stands small q =
       sym
-      (ap bytesOf (h .ran .words ∙ reads-stand a w (subst Words (sym load) (words-small b small)) q ∙ load)
+      (ap bytesOf (answers-stand (subst Words (sym load) (words-small b small)) h q ∙ load)
       ∙ bytes-words b size (λ i _. small i))
 
   pub call-kept : {s r n : ℕ} → x .outcome ≡ Refused n → r ≡ packed n (x .caller .0) 0 → CallLent b w s r b s

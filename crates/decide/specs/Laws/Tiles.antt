@@ -11,7 +11,7 @@ use borrow.Author.Tests.{eq-eqb, ne-eqb}
 use Rattle.loops.specs.Every.{all}
 use Rattle.words.specs.declared.Rights.{Rights}
 use Rattle.words.specs.declared.slot_word.SlotFields.{SlotFields}
-use Rattle.tables.specs.State.{Opt, none, some, Entry, Same}
+use Rattle.tables.specs.State.{Opt, none, some, Entry, Same, entry, allRights}
 use Rattle.tables.specs.Laws.State.{some-inj, not-none, same}
 use Rattle.tables.specs.View.{entryOf, entryIn, view}
 use Rattle.tables.specs.Laws.View.{slot-bounds}
@@ -19,7 +19,7 @@ use Rattle.tables.specs.Lines.{In}
 use Rattle.settling.specs.Rising.{lowOf, highOf}
 use Rattle.tables.specs.Search.{present}
 use Rattle.tables.specs.Seen.{Seen}
-use Rattle.sound.specs.Sound.{Around, allRights}
+use Rattle.sound.specs.Sound.{Around}
 use Rattle.sound.specs.Clauses.{s7Root, s7Inside, s7Cover, within, s11}
 use Rattle.sound.specs.Laws.Tests.{and-says, and-true}
 use Rattle.sound.specs.Laws.MeansEntries.{present-means, slots32, root-means, inside-means, cover-means}
@@ -463,7 +463,7 @@ module _ {l o : List ℕ} {p q n m : ℕ} (h : ChildOf l o p q n m) where
 
 -- ── the root's entries, and base to end as one that it was given ──
 abbrev whole : List ℕ → ℕ → ℕ → Entry
-whole l p b = record { start = view l .k .base; stop = view l .k .stop; given = p; rights = allRights }
+whole l p b = entry (view l .k .base) (view l .k .stop) p allRights
 
 module _ {l o : List ℕ} {p n : ℕ} (h : InOrder l o p n) (root : p ≡ 0) where
   root-exact : exactly (view l .k) p && s11 (view l .k) p ≡ true → Exact (rowOf l o p) n (whole l p) 1 p

@@ -6,12 +6,12 @@ use Prim.Native.Nat.{ℕ, _^_, _≤_, _<_}
 use native.Mathlib.Omega.{arith}
 use lib.ListN.{length}
 use Rattle.loops.specs.Climb.{at-root}
-use Rattle.tables.specs.State.{none, some, Entry, Area, nowhere, Table, Same}
+use Rattle.tables.specs.State.{none, some, Entry, Area, nowhere, Table, Same, rootEntry}
 use Rattle.tables.specs.Laws.State.{same, some-inj, not-none, sameA}
 use Rattle.tables.specs.Update.{upd}
 use Rattle.tables.specs.Laws.Update.{upd-same, upd-other, upd-from}
 use Rattle.tables.specs.Lines.{Holds}
-use Rattle.sound.specs.Sound.{Rooted, allRights}
+use Rattle.sound.specs.Sound.{Rooted}
 use Rattle.sound.specs.Laws.Means.{eq-means, lt-means, and-means}
 use Rattle.sound.specs.Core.{Core}
 use Rattle.sound.specs.Whole.{Right}
@@ -22,13 +22,10 @@ use Rattle.isolation.specs.Laws.Ladder.{ends, check-answers}
 use Rattle.isolation.specs.Boot.{bootLadder}
 
 module _ (base end : ℕ) where
-  abbrev whole : Entry
-  whole = record { start = base; stop = end; given = 0; rights = allRights }
-
-  slot-from : (p i : ℕ) (e : Entry) → bootK base end .slot p i ≡ some e → (p ≡ 0) × (i ≡ 0) × Same e whole
-  slot-from p i e u = go (upd-from (λ p i. none) 0 0 (some whole) p i u)
+  slot-from : (p i : ℕ) (e : Entry) → bootK base end .slot p i ≡ some e → (p ≡ 0) × (i ≡ 0) × Same e (rootEntry base end)
+  slot-from p i e u = go (upd-from (λ p i. none) 0 0 (some (rootEntry base end)) p i u)
     where
-      go : ((p ≡ 0) × (i ≡ 0) × (some whole ≡ some e)) ⊎ (((p ≡ 0) × (i ≡ 0) → ⊥) × (none ≡ some e)) → (p ≡ 0) × (i ≡ 0) × Same e whole
+      go : ((p ≡ 0) × (i ≡ 0) × (some (rootEntry base end) ≡ some e)) ⊎ (((p ≡ 0) × (i ≡ 0) → ⊥) × (none ≡ some e)) → (p ≡ 0) × (i ≡ 0) × Same e (rootEntry base end)
       go (inl (y, z, v)) = (y, z, same (sym (some-inj v)))
       go (inr (_, v)) = not-none none refl v
 
@@ -43,8 +40,8 @@ module _ (base end : ℕ) where
       go (inl (y, z, v)) = ((y, omega arith), sym (some-inj v))
       go (inr (_, v)) = first (upd-from (λ p j. none) 0 0 (some nowhere) p j v)
 
-  entry : bootK base end .slot 0 0 ≡ some whole
-  entry = upd-same (λ p i. none) 0 0 (some whole) 0 0 (refl, refl)
+  entry : bootK base end .slot 0 0 ≡ some (rootEntry base end)
+  entry = upd-same (λ p i. none) 0 0 (some (rootEntry base end)) 0 0 (refl, refl)
 
   header : bootK base end .area 0 0 ≡ some nowhere
   header =
@@ -58,7 +55,7 @@ module _ (base end : ℕ) where
   pub boot-holds : (p l : ℕ) → Holds (bootK base end .slot) p l ↔ ((p ≡ 0) × ((base ≤ l) × (l < end)))
   boot-holds p l = (
     λ u. let (z, _, w) = slot-from p (u .i) (u .e) (u .at) in (z, (omega arith, omega arith)),
-    λ (z, (x, y)). record { i = 0; e = whole; at = rw z entry; holds = omega arith },
+    λ (z, (x, y)). record { i = 0; e = rootEntry base end; at = rw z entry; holds = omega arith },
   )
 
   pub boot-core : base < end → Core (bootK base end)

@@ -7,12 +7,13 @@ use Rattle.tables.specs.State.{Opt, none, some, Entry, K, Table}
 use Rattle.tables.specs.Laws.State.{not-none}
 use Rattle.tables.specs.Search.{isNone, child, free}
 use Rattle.tables.specs.Lines.{Clear}
+use Rattle.sound.specs.Clauses.{long}
 use Rattle.sound.specs.Laws.Tests.{and-says, and-true}
 use Rattle.sound.specs.Laws.Means.{eq-means, le-means, or-means}
 use Rattle.sound.specs.Laws.MeansEntries.{is-some-means, child-means}
 use Rattle.sound.specs.Properties.{Child}
 use Rattle.sound.specs.Whole.{Right}
-use Rattle.rules.specs.Rules.{Result, ownOrChild, freeEntry, long}
+use Rattle.rules.specs.Rules.{Result, ownOrChild, freeEntry, areaOf}
 use Rattle.isolation.specs.Ladder.{Ladder, Answers}
 use Rattle.isolation.specs.Laws.Ladder.{check-answers, need-answers}
 use Rattle.isolation.specs.Checks.{OwnOrChild, FreeSlot, freeLadder}
@@ -63,6 +64,6 @@ module _ (k : K) where
         λ h. and-true _ _ (room .1 (h .room)) (empty .1 (h .empty)),
       )
 
-pub long-means : (e : Entry) → (long e ≡ true) ↔ (e .start + 16 ≤ e .stop)
+pub long-means : (e : Entry) → (long (areaOf e) ≡ true) ↔ (e .start + 16 ≤ e .stop)
 unfolding long
 long-means e = le-means (e .start + 16) (e .stop)

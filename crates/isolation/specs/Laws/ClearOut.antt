@@ -6,7 +6,7 @@ use Prim.Native.Nat.{ℕ, _+_, _<_}
 use native.Mathlib.Omega.{arith}
 use Rattle.loops.specs.Count.{count}
 use Rattle.loops.specs.Laws.Count.{count-ext, count-apart}
-use Rattle.tables.specs.State.{Opt, none, some, Entry, Area, K, Table}
+use Rattle.tables.specs.State.{Opt, none, some, Entry, Area, K, Table, givenTo}
 use Rattle.tables.specs.Search.{isSome, present}
 use Rattle.tables.specs.Settle.{settle}
 use Rattle.sound.specs.Sound.{Present}
@@ -14,7 +14,7 @@ use Rattle.sound.specs.Laws.MeansEntries.{present-means}
 use Rattle.sound.specs.Core.{Core}
 use Rattle.sound.specs.Properties.{Child}
 use Rattle.sound.specs.Whole.{Right}
-use Rattle.rules.specs.Rules.{givenTo, removeK, remove, done, branch, clearOut}
+use Rattle.rules.specs.Rules.{removeK, remove, done, branch, clearOut}
 use Rattle.rules.specs.Branch.{Under, itself, below}
 use Rattle.rules.specs.Laws.Branch.{under-root, branch-of, branch-at, under-parent}
 use Rattle.isolation.specs.Ladder.{Answers, finished, Ends}

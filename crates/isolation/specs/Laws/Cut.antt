@@ -4,7 +4,7 @@ use mathlib.Core.Logic.{_↔_}
 use Prim.Native.Nat.{ℕ, _<_}
 use native.Mathlib.Decide.{decLt}
 use native.Mathlib.Omega.{arith}
-use Rattle.tables.specs.State.{Opt, some, Entry, K, Table}
+use Rattle.tables.specs.State.{Opt, some, Entry, K, Table, endingAt, startingAt}
 use Rattle.tables.specs.Laws.State.{same, some-inj}
 use Rattle.tables.specs.Update.{both?}
 use Rattle.tables.specs.Lines.{In, Holds}
@@ -12,7 +12,7 @@ use Rattle.tables.specs.Settle.{settle}
 use Rattle.sound.specs.Laws.Means.{lt-means, and-means}
 use Rattle.sound.specs.Core.{Core}
 use Rattle.sound.specs.Whole.{Right}
-use Rattle.rules.specs.Rules.{done, endingAt, startingAt, cutK, cut}
+use Rattle.rules.specs.Rules.{done, cutK, cut}
 use Rattle.isolation.specs.Laws.Settled.{right-loads, settle-right}
 use Rattle.isolation.specs.Ladder.{Answers, finished, Ends}
 use Rattle.isolation.specs.Laws.Ladder.{ends, check-answers, lowest-answers}
@@ -54,7 +54,7 @@ module _ {k : K} {s n m : ℕ} {e : Entry} (h : Core k) (ok : CutOk k s n m e) w
   new-holds p l u = go (inv p (u .i) (u .e) (u .at))
     where
       go : Fr p (u .i) (u .e) → Holds (k .slot) p l
-      go (old v _ _) = still u v
+      go (old v _ _) = still u (u .i, v)
       go (first z _ v) = let w = same (some-inj v) in record { i = s; e = e; at = rw z (ok .entry .at); holds = omega arith }
       go (second z _ v) = let w = same (some-inj v) in record { i = s; e = e; at = rw z (ok .entry .at); holds = omega arith }
 

@@ -4,7 +4,7 @@ use mathlib.Core.Logic.{_⊎_, inl, inr, _↔_}
 use Prim.Native.Nat.{ℕ}
 use native.Mathlib.Omega.{arith}
 use Rattle.words.specs.declared.Rights.{Rights}
-use Rattle.tables.specs.State.{Opt, some, Entry, K, Table}
+use Rattle.tables.specs.State.{Opt, some, Entry, K, Table, givenTo, rangeOf}
 use Rattle.tables.specs.Laws.State.{same, some-inj}
 use Rattle.tables.specs.Update.{both?}
 use Rattle.tables.specs.Lines.{In, Holds}
@@ -14,7 +14,7 @@ use Rattle.sound.specs.Core.{Inside, Core}
 use Rattle.sound.specs.Properties.{Child}
 use Rattle.sound.specs.Whole.{Right}
 use Rattle.sound.specs.Laws.MeansRegions.{within-means}
-use Rattle.rules.specs.Rules.{givenTo, rangeOf, giveK, done, give}
+use Rattle.rules.specs.Rules.{giveK, done, give}
 use Rattle.isolation.specs.Laws.Two.{From, old, first, second, same-place, two-from, two-second}
 use Rattle.isolation.specs.Laws.Checks.{FreeEntry, free-answers, is-child-means, free-means}
 use Rattle.isolation.specs.Checks.{FreeSlot}
@@ -65,7 +65,7 @@ module _ {k : K} {c s n : ℕ} {r : Rights} {e : Entry} (h : Core k) (ok : GiveO
   new-holds p l u = go (inv p (u .i) (u .e) (u .at))
     where
       go : Fr p (u .i) (u .e) → Holds (k .slot) p l ⊎ ((p ≡ c) × In l e)
-      go (old v _ _) = inl (still u v)
+      go (old v _ _) = inl (still u (u .i, v))
       go (first z _ v) = let w = same (some-inj v) in inl (record { i = s; e = e; at = rw z (ok .entry .at); holds = omega arith })
       go (second z _ v) = let w = same (some-inj v) in inr (z, omega arith)
 

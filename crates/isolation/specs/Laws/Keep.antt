@@ -28,9 +28,13 @@ module _ {k : K} (h : Core k) where
 pub same-clear : {area : ℕ → ℕ → Opt Area} {a e : Entry} → Same a e → Clear area e → Clear area a
 same-clear w c q j b l u x y = c q j b l u x (omega arith)
 
+-- p has entry e, whatever its slot
+abbrev pub Has : (ℕ → ℕ → Opt Entry) → ℕ → Entry → Type 0
+Has slot p e = (i : ℕ) × (slot p i ≡ some e)
+
 -- who holds a line holds it where the entry stays
-pub still : {slot new : ℕ → ℕ → Opt Entry} {p l : ℕ} (u : Holds slot p l) → new p (u .i) ≡ some (u .e) → Holds new p l
-still u v = record { i = u .i; e = u .e; at = v; holds = u .holds }
+pub still : {slot new : ℕ → ℕ → Opt Entry} {p l : ℕ} (u : Holds slot p l) → Has new p (u .e) → Holds new p l
+still u (i, v) = record { i = i; e = u .e; at = v; holds = u .holds }
 
 -- a is a part of e, with its rights
 pub record Part (a e : Entry) : Type 0 where
@@ -43,11 +47,11 @@ itself e = record { from = omega arith; to = omega arith; rights = refl }
 
 module _ {slot new : ℕ → ℕ → Opt Entry} {up now : ℕ → ℕ} {p : ℕ} (q : now p ≡ up p) where
   -- around a part of e is what was around e
-  unfoldable pub inside-at : {a e : Entry} → Part a e → (o : Inside slot up p e) → new (up p) (o .i) ≡ some (o .f) → Inside new now p a
-  inside-at w o u = record { i = o .i; f = o .f; at = rw q u; given = o .given; from = omega arith; to = omega arith; sub = rw (w .rights) (o .sub) }
+  unfoldable pub inside-at : {a e : Entry} → Part a e → (o : Inside slot up p e) → Has new (up p) (o .f) → Inside new now p a
+  inside-at w o (i, u) = record { i = i; f = o .f; at = rw q u; given = o .given; from = omega arith; to = omega arith; sub = rw (w .rights) (o .sub) }
 
-  pub backed-at : {j : ℕ} {a : Area} (b : Backed slot up p j a) → new (b .q) (b .i) ≡ some (b .e) → Backed new now p j a
-  backed-at {j} b u = record { q = b .q; who = go (b .who); i = b .i; e = b .e; at = u; free = b .free; lo = b .lo; hi = b .hi }
+  pub backed-at : {j : ℕ} {a : Area} (b : Backed slot up p j a) → Has new (b .q) (b .e) → Backed new now p j a
+  backed-at {j} b (i, u) = record { q = b .q; who = go (b .who); i = i; e = b .e; at = u; free = b .free; lo = b .lo; hi = b .hi }
     where
       go : (b .q ≡ up p) ⊎ ((b .q ≡ p) × (0 < j)) → (b .q ≡ now p) ⊎ ((b .q ≡ p) × (0 < j))
       go (inl z) = inl (z ∙ sym q)

@@ -7,7 +7,7 @@ use native.Mathlib.Decide.{ℕ-discrete, decLt}
 use native.Mathlib.Omega.{arith}
 use lib.Dec.{eqb}
 use borrow.Author.Tests.{eqb-true, eq-eqb}
-use Rattle.tables.specs.State.{Opt, none, some, Entry, K, Same, Table}
+use Rattle.tables.specs.State.{Opt, none, some, Entry, K, Same, Table, endingAt}
 use Rattle.tables.specs.Laws.State.{same, some-inj, not-none}
 use Rattle.tables.specs.Update.{both?}
 use Rattle.tables.specs.Lines.{In, Holds}
@@ -18,10 +18,10 @@ use Rattle.sound.specs.Clauses.{oneGrant}
 use Rattle.sound.specs.Laws.Properties.{core-rights}
 use Rattle.sound.specs.Laws.Means.{eq-means, and-means}
 use Rattle.sound.specs.Laws.MeansEntries.{else-says, else-true, one-grant-means}
-use Rattle.rules.specs.Rules.{endingAt, mergeK, done, merge}
+use Rattle.rules.specs.Rules.{mergeK, done, merge}
 use Rattle.isolation.specs.Laws.Two.{From, old, first, second, same-place, two-from, two-first, two-old, two-other}
 use Rattle.isolation.specs.Laws.Checks.{FreeEntry}
-use Rattle.isolation.specs.Laws.Keep.{same-clear, still, itself, inside-at}
+use Rattle.isolation.specs.Laws.Keep.{same-clear, Has, still, itself, inside-at}
 use Rattle.isolation.specs.Laws.Slots.{Fine, Stays, Came, slots-core, around-stays, old-fine, old-came, came-equal}
 use Rattle.isolation.specs.Laws.Settled.{right-loads, settle-right}
 use Rattle.isolation.specs.Ladder.{Answers, finished, Ends}
@@ -61,10 +61,10 @@ module _ {k : K} {s t : ℕ} {e f : Entry} (h : Core k) (ok : MergeOk k s t e f)
       let w = same-place (k .slot) (ok .second .at) (ok .first .at) q in
       omega (arith, e-range, f-range))
 
-  stays : (p i : ℕ) (a : Entry) → k .slot p i ≡ some a → ((p ≡ k .current) × (i ≡ s) → ⊥) → ((p ≡ k .current) × (i ≡ t) → ⊥) → new p i ≡ some a
-  stays p i a u y z = two-old (k .slot) (k .current) s _ (k .current) t _ p i y z ∙ u
+  stays : (p i : ℕ) (a : Entry) → k .slot p i ≡ some a → ((p ≡ k .current) × (i ≡ s) → ⊥) → ((p ≡ k .current) × (i ≡ t) → ⊥) → Has new p a
+  stays p i a u y z = (i, two-old (k .slot) (k .current) s _ (k .current) t _ p i y z ∙ u)
 
-  other-stays : (p i : ℕ) (a : Entry) → k .slot p i ≡ some a → (Same a e → ⊥) → (Same a f → ⊥) → new p i ≡ some a
+  other-stays : (p i : ℕ) (a : Entry) → k .slot p i ≡ some a → (Same a e → ⊥) → (Same a f → ⊥) → Has new p a
   other-stays = two-other (k .slot) (k .current) s _ (k .current) t _ (ok .first .at) (ok .second .at)
 
   around : (p : ℕ) (a : Entry) → Stays k new p a
@@ -86,7 +86,7 @@ module _ {k : K} {s t : ℕ} {e f : Entry} (h : Core k) (ok : MergeOk k s t e f)
       half z (inr x) = record { i = t; e = f; at = rw z (ok .second .at); holds = x }
 
       go : Fr p (u .i) (u .e) → Holds (k .slot) p l
-      go (old v _ _) = still u v
+      go (old v _ _) = still u (u .i, v)
       go (first z _ v) = let w = same (some-inj v) in half z (halves l (omega arith))
       go (second _ _ v) = not-none none refl v
 

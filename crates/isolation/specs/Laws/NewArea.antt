@@ -80,7 +80,7 @@ module _ {k : K} {s p j : ℕ} {e : Entry} (f : FreeArea k s p j e) where
     long q i a (now _ _ w) n = rw (← w) (f .long)
 
     backed : (q i : ℕ) (a : Area) → From k p j e q i a → (Rooted q i → ⊥) → Backed (k .slot) up q i a
-    backed q i a (was v) n = let b = h .s8 q i a v n in backed-at (t .same q (h .s2-absent q i a v)) b (b .at)
+    backed q i a (was v) n = let b = h .s8 q i a v n in backed-at (t .same q (h .s2-absent q i a v)) b (b .i, b .at)
     backed q i a (now z y w) n =
         let x = sameA w in
         record { q = k .current; who = rw (z, y) (t .who); i = s; e = e; at = f .entry .at; free = f .entry .free; lo = x .lo; hi = x .hi }
@@ -112,12 +112,12 @@ module _ {k : K} {s p j : ℕ} {e : Entry} (f : FreeArea k s p j e) where
       s6 = h .s6;
       s7-root = h .s7-root;
       s7-given = λ q i a u n. let (b, v) = h .s7-given q i a u n in (header-stays (a .given) b, t .same (a .given) b ∙ v);
-      s7-in = λ q i a u n. let o = h .s7-in q i a u n in inside-at (t .same q (entry-present h q i a u)) (itself a) o (o .at);
+      s7-in = λ q i a u n. let o = h .s7-in q i a u n in inside-at (t .same q (entry-present h q i a u)) (itself a) o (o .i, o .at);
       s7-cover = h .s7-cover;
       s8 = λ q i a u. backed q i a (from k p j e q i a u);
       s8-apart = λ q i r m a b l u v. apart q i r m a b l (from k p j e q i a u) (from k p j e r m b v);
       s11 = h .s11;
       s11-equal = λ q i m a b n u v o r.
           let before = sym (t .same q (entry-present h q i a u)) in
-          h .s11-equal q i m a b n u v (inside-at before (itself a) o (o .at)) (inside-at before (itself b) r (r .at));
+          h .s11-equal q i m a b n u v (inside-at before (itself a) o (o .i, o .at)) (inside-at before (itself b) r (r .i, r .at));
     }

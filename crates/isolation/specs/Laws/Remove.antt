@@ -8,7 +8,7 @@ use native.Mathlib.Decide.{ℕ-discrete}
 use native.Mathlib.Omega.{arith}
 use borrow.Author.Tests.{eq-eqb, ne-eqb}
 use Rattle.loops.specs.Laws.Climb.{reaches-same}
-use Rattle.tables.specs.State.{Opt, none, some, Entry, Area, nowhere, K, Table}
+use Rattle.tables.specs.State.{Opt, none, some, Entry, Area, nowhere, K, Table, givenTo}
 use Rattle.tables.specs.Laws.State.{same, some-inj, not-none, none-of}
 use Rattle.tables.specs.Update.{upd1}
 use Rattle.tables.specs.Laws.Update.{upd1-same, upd1-other}
@@ -17,8 +17,8 @@ use Rattle.sound.specs.Sound.{Present, Rooted}
 use Rattle.sound.specs.Core.{Inside, Backed, Core}
 use Rattle.sound.specs.Properties.{Child}
 use Rattle.sound.specs.Whole.{Right}
-use Rattle.rules.specs.Rules.{givenTo, ungive, zeroed, removeK, remove}
-use Rattle.isolation.specs.Laws.Keep.{entry-present, still, inside-at, backed-at}
+use Rattle.rules.specs.Rules.{ungive, zeroed, removeK, remove}
+use Rattle.isolation.specs.Laws.Keep.{entry-present, Has, still, inside-at, backed-at}
 use Rattle.isolation.specs.Laws.Settled.{right-loads, settle-right, loads-fewer}
 
 -- m goes: c, a child of the caller, who stays, as the root does; who goes is c or hangs on one who goes; who hangs on one who goes goes
@@ -141,8 +141,8 @@ module _ {k : K} {c : ℕ} {m : ℕ → Bool} (h : Core k) (ok : Goes k c m) whe
       go n v (yes z) = mine n (k .slot p i) refl (rw z (sym (half-caller i) ∙ rw z at v))
       go n v (no z) = let w = sym (half-other p i z) ∙ v in alike n w (λ g. z (giver p i a w g))
 
-  stays : (p i : ℕ) (a : Entry) → k .slot p i ≡ some a → m p ≡ false → (a .given ≡ c → ⊥) → new p i ≡ some a
-  stays p i a u n g = without-stays m half p i n ∙ go (ℕ-discrete p (k .current))
+  stays : (p i : ℕ) (a : Entry) → k .slot p i ≡ some a → m p ≡ false → (a .given ≡ c → ⊥) → Has new p a
+  stays p i a u n g = (i, without-stays m half p i n ∙ go (ℕ-discrete p (k .current)))
     where
       go : Dec (p ≡ k .current) → half p i ≡ some a
       go (yes z) = rw z (half-caller i ∙ ap (ungive c) (rw z at u) ∙ ungive-no c a g)
@@ -209,7 +209,7 @@ module _ {k : K} {c : ℕ} {m : ℕ → Bool} (h : Core k) (ok : Goes k c m) whe
   inside-was p i a u n g =
       let o = inv p i a u in
       inside-at (sym (up-same p (o .stayed))) (record { from = omega arith; to = omega arith; rights = sym (o .rights) }) g
-      (inv (removeK k c m .parent p) (g .i) (g .f) (g .at) .given (λ z. n (sym (g .given) ∙ z)) .0)
+      (g .i, inv (removeK k c m .parent p) (g .i) (g .f) (g .at) .given (λ z. n (sym (g .given) ∙ z)) .0)
 
   backed : (p j : ℕ) (a : Area) → removeK k c m .area p j ≡ some a → (Rooted p j → ⊥) → Backed new (removeK k c m .parent) p j a
   backed p j a u n =

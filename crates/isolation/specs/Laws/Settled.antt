@@ -8,7 +8,7 @@ use Rattle.tables.specs.Laws.State.{some-inj, not-none}
 use Rattle.tables.specs.Update.{upd}
 use Rattle.tables.specs.Laws.Update.{upd-from}
 use Rattle.tables.specs.Settle.{openBit, openAt, keep, settle}
-use Rattle.sound.specs.Laws.Opens.{open-clear}
+use Rattle.sound.specs.Laws.Meets.{open-clear}
 use Rattle.sound.specs.Core.{Core}
 use Rattle.sound.specs.Whole.{Right}
 use Rattle.sound.specs.Laws.Settled.{settled-same as same, right-settled}

@@ -3,13 +3,13 @@ use mathlib.Core.Path.{_≡_, refl, sym, _∙_}
 use mathlib.Core.Logic.{_↔_}
 use Prim.Native.Nat.{ℕ, _+_, _/_, _<_}
 use native.Mathlib.Omega.{arith}
-use Rattle.tables.specs.State.{Opt, some, Entry, Area, K}
+use Rattle.tables.specs.State.{Opt, some, Entry, Area, K, allRights}
+use Rattle.tables.specs.Laws.State.{same-at}
 use Rattle.tables.specs.Write.{withSlot}
 use Rattle.tables.specs.Lines.{In, Holds, Clear}
-use Rattle.sound.specs.Sound.{allRights}
 use Rattle.sound.specs.Core.{Inside, Core}
 use Rattle.sound.specs.Properties.{Child}
-use Rattle.isolation.specs.Laws.Keep.{given-child, Part, itself, inside-at, backed-at}
+use Rattle.isolation.specs.Laws.Keep.{given-child, Has, Part, itself, inside-at, backed-at}
 
 -- what soundness says of the given entry a of p: it is given to a child, which holds its lines
 pub record Lent (k : K) (new : ℕ → ℕ → Opt Entry) (p : ℕ) (a : Entry) : Type 0 where
@@ -29,13 +29,13 @@ pub record Kept (k : K) (new : ℕ → ℕ → Opt Entry) : Type 0 where
   pub fine : (p i : ℕ) (a : Entry) → new p i ≡ some a → Fine k new p i a
   pub apart : (p i j : ℕ) (a b : Entry) (l : ℕ) → new p i ≡ some a → new p j ≡ some b → In l a → In l b → i ≡ j
   pub root : (l : ℕ) → Holds new 0 l ↔ Holds (k .slot) 0 l
-  pub closed : (q i : ℕ) (e : Entry) → k .slot q i ≡ some e → e .given ≡ 0 → (Clear (k .area) e → ⊥) → new q i ≡ some e
+  pub closed : (q i : ℕ) (e : Entry) → k .slot q i ≡ some e → e .given ≡ 0 → (Clear (k .area) e → ⊥) → Has new q e
   pub equal : (p i m : ℕ) (a b : Entry) → (p ≡ 0 → ⊥) → new p i ≡ some a → new p m ≡ some b
       → (o : Inside new (k .parent) p a) (q : Inside new (k .parent) p b) → o .i ≡ q .i → a .rights ≡ b .rights
 
 -- what is around the entry e of p stays
 abbrev pub Stays : K → (ℕ → ℕ → Opt Entry) → ℕ → Entry → Type 0
-Stays k new p e = (p ≡ 0 → ⊥) → (o : Inside (k .slot) (k .parent) p e) → new (k .parent p) (o .i) ≡ some (o .f)
+Stays k new p e = (p ≡ 0 → ⊥) → (o : Inside (k .slot) (k .parent) p e) → Has new (k .parent p) (o .f)
 
 -- the entry a of p shares a line with an old one, around which all stays, and has its rights
 pub record Came (k : K) (new : ℕ → ℕ → Opt Entry) (p : ℕ) (a : Entry) : Type 0 where
@@ -49,7 +49,7 @@ pub record Came (k : K) (new : ℕ → ℕ → Opt Entry) (p : ℕ) (a : Entry) 
   pub stays : Stays k new p e
 
 -- where all that is given stays, it does
-pub around-stays : (k : K) {new : ℕ → ℕ → Opt Entry} → ((p i : ℕ) (f : Entry) → k .slot p i ≡ some f → (f .given ≡ 0 → ⊥) → new p i ≡ some f)
+pub around-stays : (k : K) {new : ℕ → ℕ → Opt Entry} → ((p i : ℕ) (f : Entry) → k .slot p i ≡ some f → (f .given ≡ 0 → ⊥) → Has new p f)
     → (p : ℕ) (e : Entry) → Stays k new p e
 around-stays k s p e n o = s (k .parent p) (o .i) (o .f) (o .at) (λ z. n (omega arith))
 
@@ -107,17 +107,25 @@ module _ {k : K} (h : Core k) {new : ℕ → ℕ → Opt Entry} where
 
   -- what is around a is what was around the entry that it comes from ..
   module _ (apart : (p i j : ℕ) (a b : Entry) (l : ℕ) → new p i ≡ some a → new p j ≡ some b → In l a → In l b → i ≡ j) {p : ℕ} (n : p ≡ 0 → ⊥) where
-    same-grant : {a : Entry} (c : Came k new p a) (o : Inside new (k .parent) p a) → o .i ≡ h .s7-in p (c .j) (c .e) (c .at) n .i
+    was-around : {a : Entry} (c : Came k new p a) → Inside (k .slot) (k .parent) p (c .e)
+    was-around c = h .s7-in p (c .j) (c .e) (c .at) n
+
+    same-grant : {a : Entry} (c : Came k new p a) (o : Inside new (k .parent) p a) → o .i ≡ c .stays n (was-around c) .0
     same-grant {a} c o =
-        let u = h .s7-in p (c .j) (c .e) (c .at) n in
+        let u = was-around c in
+        let (i, v) = c .stays n u in
         let x = c .was in
         let y = c .now in
-        apart (k .parent p) (o .i) (u .i) (o .f) (u .f) (c .line) (o .at) (c .stays n u) (omega arith) (omega arith)
+        apart (k .parent p) (o .i) i (o .f) (u .f) (c .line) (o .at) v (omega arith) (omega arith)
 
     -- .. so two inside one grant come from two inside one grant
     pub came-equal : {a b : Entry} → Came k new p a → Came k new p b → (o : Inside new (k .parent) p a) (q : Inside new (k .parent) p b) → o .i ≡ q .i
         → a .rights ≡ b .rights
     came-equal c d o q z =
-        c .rights
-        ∙ h .s11-equal p (c .j) (d .j) (c .e) (d .e) n (c .at) (d .at) (h .s7-in p (c .j) (c .e) (c .at) n) (h .s7-in p (d .j) (d .e) (d .at) n) (sym (same-grant c o) ∙ z ∙ same-grant d q)
-        ∙ sym (d .rights)
+        let x = was-around c in
+        let y = was-around d in
+        let u : new (k .parent p) (d .stays n y .0) ≡ some (x .f) = rw (sym (same-grant c o) ∙ z ∙ same-grant d q) at (c .stays n x .1) in
+        let w = same-at (new (k .parent p) (d .stays n y .0)) u (d .stays n y .1) in
+        let r = h .s5-range (k .parent p) (x .i) (x .f) (x .at) in
+        let one : x .i ≡ y .i = h .s6 (k .parent p) (x .i) (y .i) (x .f) (y .f) (x .f .start) (x .at) (y .at) (omega arith) (omega arith) in
+        c .rights ∙ h .s11-equal p (c .j) (d .j) (c .e) (d .e) n (c .at) (d .at) x y one ∙ sym (d .rights)

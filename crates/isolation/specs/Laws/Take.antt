@@ -4,7 +4,7 @@ use mathlib.Core.Logic.{_↔_}
 use mathlib.Core.Bool.{true}
 use Prim.Native.Nat.{ℕ}
 use native.Mathlib.Omega.{arith}
-use Rattle.tables.specs.State.{Opt, none, some, Entry, K, Same, Table}
+use Rattle.tables.specs.State.{Opt, none, some, Entry, K, Same, Table, givenTo}
 use Rattle.tables.specs.Laws.State.{same, some-inj, not-none}
 use Rattle.tables.specs.Update.{both?}
 use Rattle.tables.specs.Lines.{In, Holds}
@@ -14,9 +14,9 @@ use Rattle.sound.specs.Properties.{Child}
 use Rattle.sound.specs.Whole.{Right}
 use Rattle.sound.specs.Laws.Tests.{and-says, and-true}
 use Rattle.sound.specs.Laws.Means.{eq-means, and-means, not-means, has-means}
-use Rattle.rules.specs.Rules.{givenTo, takeK, done, take, returned}
+use Rattle.rules.specs.Rules.{takeK, done, take, returned}
 use Rattle.isolation.specs.Laws.Two.{From, old, first, second, same-place, two-from, two-first, two-old, two-other}
-use Rattle.isolation.specs.Laws.Keep.{given-child, child-other, same-clear, still}
+use Rattle.isolation.specs.Laws.Keep.{given-child, child-other, same-clear, Has, still}
 use Rattle.isolation.specs.Laws.Slots.{Fine, Stays, Came, slots-core, part-fine, old-fine, old-came, came-equal}
 use Rattle.isolation.specs.Laws.Settled.{right-loads, settle-right}
 use Rattle.isolation.specs.Ladder.{Answers, finished, Ends}
@@ -45,10 +45,10 @@ module _ {k : K} {s j : ℕ} {e f : Entry} (h : Core k) (ok : TakeOk k s j e f) 
   at-s : new (k .current) s ≡ some (givenTo e 0)
   at-s = two-first (k .slot) (k .current) s _ (e .given) j _ (λ z. child-other h child (z .0))
 
-  stays : (p i : ℕ) (a : Entry) → k .slot p i ≡ some a → ((p ≡ k .current) × (i ≡ s) → ⊥) → ((p ≡ e .given) × (i ≡ j) → ⊥) → new p i ≡ some a
-  stays p i a u y z = two-old (k .slot) (k .current) s _ (e .given) j _ p i y z ∙ u
+  stays : (p i : ℕ) (a : Entry) → k .slot p i ≡ some a → ((p ≡ k .current) × (i ≡ s) → ⊥) → ((p ≡ e .given) × (i ≡ j) → ⊥) → Has new p a
+  stays p i a u y z = (i, two-old (k .slot) (k .current) s _ (e .given) j _ p i y z ∙ u)
 
-  other-stays : (p i : ℕ) (a : Entry) → k .slot p i ≡ some a → (Same a e → ⊥) → (Same a f → ⊥) → new p i ≡ some a
+  other-stays : (p i : ℕ) (a : Entry) → k .slot p i ≡ some a → (Same a e → ⊥) → (Same a f → ⊥) → Has new p a
   other-stays = two-other (k .slot) (k .current) s _ (e .given) j _ (ok .at) (ok .back .at)
 
   -- a line of e in the child is in its slot j
@@ -59,7 +59,7 @@ module _ {k : K} {s j : ℕ} {e f : Entry} (h : Core k) (ok : TakeOk k s j e f) 
   new-holds p l u = go (inv p (u .i) (u .e) (u .at))
     where
       go : Fr p (u .i) (u .e) → Holds (k .slot) p l × ((p ≡ e .given) × In l e → ⊥)
-      go (old v _ n) = (still u v, λ z. n (in-j p (u .i) (u .e) l v (z .0) (u .holds) (z .1)))
+      go (old v _ n) = (still u (u .i, v), λ z. n (in-j p (u .i) (u .e) l v (z .0) (u .holds) (z .1)))
       go (first q _ v) =
           let w = same (some-inj v) in
           (record { i = s; e = e; at = rw q (ok .at); holds = omega arith }, λ z. child-other h child (sym q ∙ z .0))

@@ -5,6 +5,7 @@ use Rattle.tables.specs.State.{Opt, some, Entry, Same}
 use Rattle.tables.specs.Laws.State.{same-at}
 use Rattle.tables.specs.Update.{upd, both?}
 use Rattle.tables.specs.Laws.Update.{upd-same, upd-other}
+use Rattle.isolation.specs.Laws.Keep.{Has}
 
 -- where an entry of the new slots comes from: it was there, or it was written first or second
 pub data From (f : ℕ → ℕ → Opt Entry) (c s : ℕ) (x : Opt Entry) (q n : ℕ) (y : Opt Entry) (p i : ℕ) (e : Entry) : Type 0 where
@@ -39,5 +40,5 @@ module _ (f : ℕ → ℕ → Opt Entry) (c s : ℕ) (x : Opt Entry) (q n : ℕ)
 
   -- an entry other than the two written over stays
   pub two-other : {e g : Entry} → f c s ≡ some e → f q n ≡ some g
-      → (p i : ℕ) (a : Entry) → f p i ≡ some a → (Same a e → ⊥) → (Same a g → ⊥) → two p i ≡ some a
-  two-other u v p i a w y z = two-old p i (λ t. y (same-place f u w t)) (λ t. z (same-place f v w t)) ∙ w
+      → (p i : ℕ) (a : Entry) → f p i ≡ some a → (Same a e → ⊥) → (Same a g → ⊥) → Has two p a
+  two-other u v p i a w y z = (i, two-old p i (λ t. y (same-place f u w t)) (λ t. z (same-place f v w t)) ∙ w)

@@ -31,6 +31,7 @@ use Rattle.rules.specs.Rules.{Result, done, refused, zeroed, remove, branch, cr
 use Rattle.rules.specs.Laws.Each.{done-each}
 use Rattle.rules.specs.Ran.{outcomeOf}
 use Rattle.rules.specs.Calls.{callerOf, Answers}
+use Rattle.rules.specs.Reads.{standsAfter}
 use Rattle.rules.specs.declared.Answer.{Answer}
 use Rattle.isolation.specs.Ladder.{Ends}
 use Rattle.isolation.specs.Laws.Ladder.{ends}
@@ -175,7 +176,7 @@ module _ {base end : ℕ} {g : Ledger} {t : Table} (h : Right t) (s : Keeps base
 -- ── any list of calls ──
 -- the reader has the answers that `call` promises
 pub told : {l m : List ℕ} {w : ℕ} {a : Answer} → Answers l w a m → a ≡ answerOn l w
-told {a = a} h = ap₂ (λ (c : ℕ) (o : Outcome). record { caller = record { 0 = c }; outcome = o }) (h .caller) (h .ran .outcome)
+told h = λ x. record { caller = record { 0 = h .caller x }; outcome = h .ran .outcome x; stands = h .stands x }
 
 module _ {base end : ℕ} where
   pub after-kept : {l : List ℕ} → Good l → {g : Ledger} → Keeps base end g (view l .k) → (ws : List ℕ) → Keeps base end (keptOn l g ws) (view (afterAll l ws) .k)
@@ -184,7 +185,7 @@ module _ {base end : ℕ} where
   after-kept {l} h {g} s (w ∷ ws) = let (a, b) = one (callOn l w) refl in after-kept a b ws
     where
       one : (r : Result) → callOn l w ≡ r
-          → Good (wordsAfter l r) × Keeps base end (noted w (record { caller = record { 0 = callerOf l }; outcome = outcomeOf r }) (linesNamed l w) g) (view (wordsAfter l r) .k)
+          → Good (wordsAfter l r) × Keeps base end (noted w (record { caller = record { 0 = callerOf l }; outcome = outcomeOf r; stands = standsAfter l w }) (linesNamed l w) g) (view (wordsAfter l r) .k)
       one (done v x t′) z =
           let (_, a, y) = served l w (h .small) z in
           let q = serve-right a (fieldsIn call w) y in

@@ -18,7 +18,7 @@ use Rattle.tables.specs.Lines.{Holds}
 use Rattle.sound.specs.Laws.MeansEntries.{holds-means}
 use Rattle.sound.specs.Core.{Core}
 use Rattle.sound.specs.Laws.Properties.{parent-holds, siblings-one, holder-present}
-use Rattle.sound.specs.Holders.{givenTo, givenBy, heir, deepest, trail, holdersOf}
+use Rattle.sound.specs.Holders.{receiver, givenBy, heir, deepest, trail, holdersOf}
 use Rattle.ledger.specs.Lists.{nth, Lists}
 
 -- the list is a way down from the root, each the parent of the next, m steps to p
@@ -83,7 +83,7 @@ pub record Deepest (k : K) (l p : ℕ) : Type 0 where
 module _ {k : K} (h : Core k) (l : ℕ) where
   -- only one entry of p holds the line: it says who the heir is
   heir-is : {p : ℕ} (u : Holds (k .slot) p l) → heir k l p ≡ u .e .given
-  unfolding heir givenBy givenTo
+  unfolding heir givenBy receiver
   heir-is {p} u = go (lowest 32 (holdsAt k p l)) refl
     where
       at : holdsAt k p l (u .i) ≡ true

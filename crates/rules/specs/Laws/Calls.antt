@@ -19,13 +19,14 @@ use Rattle.tables.specs.State.{Table}
 use Rattle.tables.specs.View.{view}
 use Rattle.tables.specs.Laws.Seen.{see-first}
 use Rattle.tables.specs.declared.Outcome.{Outcome}
-use Rattle.tables.specs.declared.Outcome.the-variants.{Done, Refused}
+use Rattle.tables.specs.declared.Outcome.the-variants.{Refused}
 use Rattle.sound.specs.Clauses.{sound, has}
 use Rattle.sound.specs.Laws.Tests.{or-says}
 use Rattle.rules.specs.declared.Answer.{Answer}
 use Rattle.rules.specs.Rules.{refused, check, uses, known, perform, serve, serveRead, callOn}
 use Rattle.rules.specs.Ran.{Ran}
-use Rattle.rules.specs.Laws.Ran.{ran-one, ran-refused, ran-as, ran-copied, ran-kept, pass, fail}
+use Rattle.rules.specs.Laws.Ran.{ran-one, ran-refused, ran-as, pass, fail}
+use Rattle.rules.specs.Reads.{onlyReads, standsAfter}
 use Rattle.rules.specs.Calls.{callerOf, Answers}
 
 pub caller-small : (l : List ℕ) → callerOf l < 16
@@ -40,10 +41,11 @@ caller-small l = go (sound l)
 pub answers-one : {before : List ℕ} {w : ℕ} {r s : Answer} {a b : List ℕ} → Answers before w r a → Answers before w s b → (r ≡ s) × (a ≡ b)
 answers-one x y =
     let (o, l) = ran-one (x .ran) (y .ran) in
-    (same (x .caller ∙ sym (y .caller)) o, l)
+    (same (x .caller ∙ sym (y .caller)) o (x .stands ∙ sym (y .stands)), l)
   where
-    same : {c d : ℕ} {o q : Outcome} → c ≡ d → o ≡ q → _≡_ {A = Answer} (record { caller = record { 0 = c }; outcome = o }) (record { caller = record { 0 = d }; outcome = q })
-    same e f = cc
+    same : {c d : ℕ} {o q : Outcome} {a b : Bool} → c ≡ d → o ≡ q → a ≡ b
+        → _≡_ {A = Answer} (record { caller = record { 0 = c }; outcome = o; stands = a }) (record { caller = record { 0 = d }; outcome = q; stands = b })
+    same e f g = cc
 
 -- ── a number that is no service's ──
 -- the services' numbers, the last first
@@ -92,15 +94,6 @@ read-small w q = subst SmallCall (sym (same (zeroed call w)) ∙ ap (fieldsElse 
     same true = refl
     same false = refl
 
-module _ (t : Table) (w : ℕ) where
-  pub read-serves : {f : CallFields} → reading call w ≡ Fields f → serveRead t (reading call w) ≡ serve t f
-  unfolding serveRead
-  read-serves q = rw q refl
-
-  pub read-refuses : {n : ℕ} → reading call w ≡ Unread n → serveRead t (reading call w) ≡ refused n
-  unfolding serveRead
-  read-refuses q = rw q refl
-
 -- ── a call is a check of the table, a check of the word, and the service ──
 module _ (l : List ℕ) (w : ℕ) where
   pub call-as : callOn l w ≡ check 1 (sound l) (check 2 (zeroed call w) (serve (view l) (fieldsIn call w)))
@@ -114,19 +107,16 @@ module _ (l : List ℕ) (w : ℕ) where
 
 -- ── the exits ──
 module _ (l : List ℕ) (w : ℕ) where
-  pub answers-unsound : sound l ≡ false → Answers l w (record { caller = record { 0 = 0 }; outcome = Refused 1 }) l
-  unfolding callerOf callOn
-  answers-unsound h = record { caller = rw h refl; ran = ran-refused (rw h refl) }
+  pub answers-unsound : sound l ≡ false → Answers l w (record { caller = record { 0 = 0 }; outcome = Refused 1; stands = true }) l
+  unfolding callerOf callOn standsAfter
+  answers-unsound h = record { caller = rw h refl; ran = ran-refused (rw h refl); stands = rw h refl }
 
-  pub answers-sound : {c : Partition} {r : Outcome} {m : List ℕ} → sound l ≡ true → view l .k .current ≡ c .0
-      → Ran (serveRead (view l) (reading call w)) l r m → Answers l w (record { caller = c; outcome = r }) m
-  unfolding callerOf callOn
-  answers-sound h q ran = record { caller = rw h (sym q); ran = ran-as (rw h refl) ran }
+  module _ (h : sound l ≡ true) {c : Partition} (q : view l .k .current ≡ c .0) where
+    pub answers-served : {f : CallFields} {r : Outcome} {b : Bool} {m : List ℕ} → reading call w ≡ Fields f → Ran (serve (view l) f) l r m
+        → b ≡ eqb (f .service) 11 || eqb (f .service) 12 → Answers l w (record { caller = c; outcome = r; stands = b }) m
+    unfolding callerOf callOn serveRead standsAfter onlyReads
+    answers-served z ran e = record { caller = rw h (sym q); ran = ran-as (rw (h, z) refl) ran; stands = rw (h, z) e }
 
--- ── on a copy: done, its words are copied back; refused, the words stay ──
-module _ {l a : List ℕ} {w : ℕ} {r : Answer} {m : List ℕ} (copy : a ≡ l) (h : Answers a w r m) where
-  pub answers-done : {v x : ℕ} {n : List ℕ} → r .outcome ≡ Done v x → n ≡ m → Answers l w r n
-  answers-done q e = rw (← copy) (record { caller = h .caller; ran = ran-copied (h .ran) q e })
-
-  pub answers-refused : {n : ℕ} → r .outcome ≡ Refused n → Answers l w r l
-  answers-refused q = rw (← copy) (record { caller = h .caller; ran = ran-kept (h .ran) q })
+    pub answers-unread : {n : ℕ} → reading call w ≡ Unread n → Answers l w (record { caller = c; outcome = Refused n; stands = true }) l
+    unfolding callerOf callOn serveRead standsAfter onlyReads
+    answers-unread z = record { caller = rw h (sym q); ran = ran-refused (rw (h, z) refl); stands = rw (h, z) refl }

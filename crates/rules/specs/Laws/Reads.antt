@@ -1,14 +1,15 @@
--- The exits of the test whether a call only reads; and such a call leaves every word as it was.
-use mathlib.Core.Path.{_≡_, refl, ap, sym, _∙_}
-use mathlib.Core.Bool.{Bool, true, false, _||_}
+-- A call whose answer stands leaves every word as it was; so a copy of the words need not be written back.
+use mathlib.Core.Path.{_≡_, refl, sym, subst, _∙_}
+use mathlib.Core.Bool.{Bool, true, false, cond}
 use mathlib.Core.List.{List}
 use mathlib.Core.Logic.{_⊎_, inl, inr}
 use Prim.Native.Nat.{ℕ}
 use lib.Dec.{eqb}
-use borrow.Author.Tests.{eqb-true, ne-eqb}
-use Rattle.words.specs.Kind.{fieldsIn, zeroed}
+use borrow.Author.Tests.{eqb-true}
+use Rattle.words.specs.Kind.{reading}
 use Rattle.words.specs.Words.{call}
-use Rattle.words.specs.declared.call_word.CallFields.{CallFields}
+use Rattle.words.specs.declared.call_word.CallRead.{CallRead}
+use Rattle.words.specs.declared.call_word.CallRead.the-variants.{Fields, Refused as Unread}
 use Rattle.tables.specs.State.{Opt, none, some}
 use Rattle.tables.specs.View.{view}
 use Rattle.tables.specs.Encode.{encode}
@@ -21,20 +22,11 @@ use Rattle.sound.specs.Laws.Canonical.{sound-canon}
 use Rattle.sound.specs.Laws.List.{sound-means}
 use Rattle.sound.specs.Laws.Whole.{sound-right}
 use Rattle.sound.specs.Laws.Settled.{right-settled, settled-words}
-use Rattle.rules.specs.Rules.{Result, check, need, readRegion, find, known, perform, serve, callOn, wordsAfter}
+use Rattle.rules.specs.Rules.{Result, refused, check, need, readRegion, find, known, perform, serve, serveRead, callOn, wordsAfter}
 use Rattle.rules.specs.Laws.Each.{perform-at}
-use Rattle.rules.specs.Laws.Calls.{call-as}
-use Rattle.rules.specs.Reads.{reader, onlyReads}
-
--- ── the exits of the test ──
-module _ (w : ℕ) {f : CallFields} (is : f ≡ fieldsIn call w) where
-  pub reads-region : f .service ≡ 11 → true ≡ onlyReads w
-  unfolding onlyReads
-  reads-region q = sym (ap (λ (n : ℕ). eqb n 11 || eqb n 12) q) ∙ ap reader is
-
-  pub reads-found : (f .service ≡ 11 → ⊥) → eqb (f .service) 12 ≡ onlyReads w
-  unfolding onlyReads
-  reads-found q = sym (ap (λ (b : Bool). b || eqb (f .service) 12) (ne-eqb (f .service) 11 q)) ∙ ap reader is
+use Rattle.rules.specs.Reads.{onlyReads, standsAfter}
+use Rattle.rules.specs.Calls.{Answers}
+use Rattle.rules.specs.declared.Answer.{Answer}
 
 -- ── a rule that leaves the words l: done with their own table, or refused ──
 module _ {l : List ℕ} where
@@ -57,18 +49,19 @@ module _ {l : List ℕ} (same : encode (settled (view l)) ≡ l) where
   unfolding find wordsAfter
   find-stands p n = checked 3 _ _ (needed 7 _ _ (λ i. same))
 
-  serve-stands : (f : CallFields) → reader f ≡ true → wordsAfter l (serve (view l) f) ≡ l
-  unfolding serve
-  serve-stands f q = checked 2 (known f) (perform (view l) f) (go (or-says _ _ q))
+  serve-stands : (r : CallRead) → onlyReads r ≡ true → wordsAfter l (serveRead (view l) r) ≡ l
+  unfolding serveRead serve onlyReads wordsAfter
+  serve-stands (Fields f) q = checked 2 (known f) (perform (view l) f) (go (or-says _ _ q))
     where
       go : (eqb (f .service) 11 ≡ true) ⊎ (eqb (f .service) 12 ≡ true) → wordsAfter l (perform (view l) f) ≡ l
       go (inl z) = rw (perform-at 11 (view l) f (eqb-true _ 11 z)) (read-stands _ _)
       go (inr z) = rw (perform-at 12 (view l) f (eqb-true _ 12 z)) (find-stands _ _)
+  serve-stands (Unread n) q = refl
 
--- done or refused, a call that only reads leaves every word as it was
-pub reads-stand : (l : List ℕ) (w : ℕ) → Words l → onlyReads w ≡ true → wordsAfter l (callOn l w) ≡ l
-unfolding onlyReads check wordsAfter
-reads-stand l w small q = rw (call-as l w) (go (sound l) refl)
+-- done or refused, such a call leaves every word as it was
+reads-stand : (l : List ℕ) (w : ℕ) → Words l → standsAfter l w ≡ true → wordsAfter l (callOn l w) ≡ l
+unfolding standsAfter callOn wordsAfter
+reads-stand l w small = go (sound l) refl
   where
     same : sound l ≡ true → encode (settled (view l)) ≡ l
     same h =
@@ -76,6 +69,17 @@ reads-stand l w small q = rw (call-as l w) (go (sound l) refl)
         let canon = sound-canon small s in
         sym (settled-words (canon-is canon) (right-settled (sound-right canon s)))
 
-    go : (a : Bool) → sound l ≡ a → wordsAfter l (check 1 a (check 2 (zeroed call w) (serve (view l) (fieldsIn call w)))) ≡ l
-    go true h = checked 2 (zeroed call w) _ (serve-stands (same h) (fieldsIn call w) q)
-    go false h = refl
+    go : (a : Bool) → sound l ≡ a → cond a (onlyReads (reading call w)) true ≡ true → wordsAfter l (cond a (serveRead (view l) (reading call w)) (refused 1)) ≡ l
+    go true h q = serve-stands (same h) (reading call w) q
+    go false h q = refl
+
+pub answers-stand : {l : List ℕ} {w : ℕ} {r : Answer} {m : List ℕ} → Words l → Answers l w r m → r .stands ≡ true → m ≡ l
+answers-stand {l} {w} small h q = h .ran .words ∙ reads-stand l w small (sym (h .stands) ∙ q)
+
+-- ── on a copy: its words are copied back, or they stand ──
+module _ {l a : List ℕ} {w : ℕ} {r : Answer} {m : List ℕ} (copy : a ≡ l) (h : Answers a w r m) where
+  pub answers-copied : {n : List ℕ} → n ≡ m → Answers l w r n
+  answers-copied e = rw (← copy, e) h
+
+  pub answers-left : Words l → r .stands ≡ true → Answers l w r l
+  answers-left small q = answers-copied (sym (answers-stand (subst Words (sym copy) small) h q ∙ copy))

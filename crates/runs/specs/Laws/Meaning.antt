@@ -45,10 +45,6 @@ module _ (rs list : List Run) (b : length rs ≤ length list) where
       rw e at (getD-append-add rs (drop (length rs) list) (i - length rs) (runOf 0 0 0) ∙ getD-drop (length rs) list (i - length rs) (runOf 0 0 0))
 
 module _ {t : List ℕ} {before after : List Run} {r : Outcome} (h : Listed t before r after) where
-  pub unsound-told : sound t ≡ false → Kept 1 before r after
-  unfolding runsOutcome runsRecords
-  unsound-told q = record { answer = h .outcome ∙ rw q refl; same = h .records ∙ rw q refl }
-
   pub short-told : sound t ≡ true → length before < length (runsOf (view t .k)) → Kept 17 before r after
   unfolding runsOutcome runsRecords
   short-told q b =

@@ -19,15 +19,11 @@ use Rattle.sound.specs.Core.{Core}
 use Rattle.sound.specs.Laws.Core.{sound-core}
 use Rattle.sound.specs.Laws.List.{sound-means}
 use Rattle.sound.specs.Laws.MeansEntries.{holds-means}
-use Rattle.sound.specs.Holders.{givenTo, givenBy, heir, deepest}
+use Rattle.sound.specs.Holders.{receiver, givenBy, heir, deepest}
 use Rattle.sound.specs.Laws.Holders.{deepest-here, deepest-last, deepest-down}
-use Rattle.runs.specs.declared.Run.{Run}
 use Rattle.runs.specs.declared.pieces.Hop.{Hop}
-use Rattle.runs.specs.Runs.{deepestAt, runOf}
+use Rattle.runs.specs.Runs.{deepestAt}
 use Rattle.runs.specs.Pieces.{endOf, endBy, endAt, nearest, pieceEnd, Hopped, Descent}
-
-abbrev pub pieceAt : K → ℕ → Run
-pieceAt k l = runOf l (pieceEnd k l) (deepestAt k l)
 
 -- ── how far a piece goes ──
 module _ (k : K) (l : ℕ) where
@@ -126,7 +122,7 @@ module _ {k : K} (h : Core k) where
 
   -- what p gave, the heir holds
   pub heir-is : {p l : ℕ} (u : Holds (k .slot) p l) → heir k l p ≡ u .e .given
-  unfolding heir givenBy givenTo
+  unfolding heir givenBy receiver
   heir-is {p} {l} u = rw (found p (u .i) l (u .e) (in-table p (u .i) (u .e) (u .at) .1) (u .at) (u .holds), u .at) refl
 
   pub heir-holds : {p l : ℕ} (u : Holds (k .slot) p l) → (heir k l p ≡ 0 → ⊥) → Holds (k .slot) (heir k l p) l
@@ -176,7 +172,7 @@ hopped-one x y = same (x .heir ∙ sym (y .heir)) (x .end ∙ sym (y .end))
 
 pub hop-found : (k : K) (l p i : ℕ) (f : SlotFields) → lowest 32 (holdsAt k p l) ≡ some i → k .slot p i ≡ some (entryOf f) → f .given .0 < 16
     → Hopped k l p (record { heir = f .given; end = f .end })
-unfolding endAt endBy endOf heir givenBy givenTo
+unfolding endAt endBy endOf heir givenBy receiver
 hop-found k l p i f q e b = record { heir = rw (q, e) refl; end = rw (q, e) refl; small = b }
 
 pub piece-start : {k : K} {l : ℕ} → Core k → k .base ≤ l → l < k .stop → Descent k l 0 (k .stop) 15

@@ -1,6 +1,7 @@
 use Rattle.tables.specs.Laws.Top.{top-16}
 use Rattle.sound.specs.Laws.Holders.{wrong-length}
-use Rattle.rules.specs.Laws.Calls.{answers-unsound, answers-done, answers-refused}
+use Rattle.rules.specs.Laws.Calls.{answers-unsound}
+use Rattle.rules.specs.Laws.Reads.{answers-copied, answers-left}
 use borrow.Author.Needs.{needs}
 use Rattle.services.proofs.call.Statement.{statement}
 use Rattle.services.proofs.call.Tie as tie
@@ -13,9 +14,7 @@ call-spec =
     (λ c κs. c .before .before .if1 .left)
     (λ c κs. top-16 _)
     (λ c. search needs)
-    (λ c κs. c .before .before .before .before .before .before .before .before .before .if1 .left)
+    (λ c. answers-left (c .before .before .before .copy-in .ensures) (c .before .call-table .ensures) (record { small = λ i. c .before .before .before .before .before .before .before .slice-known .given i .fits }) (c .if2 .taken))
+    (λ c κs. c .before .before .before .before .before .before .before .before .if1 .left)
     (λ c. search needs)
-    (λ c. search needs)
-    (λ c. answers-done (c .before .before .before .before .before .before .before .before .before .copy-in .ensures) (c .before .before .before .before .before .before .before .call-table .ensures) (c .before .before .before .before .before .enum-told .given .1) (c .before .before .copy-out .ensures))
-    (λ c. search needs)
-    (λ c. answers-refused (c .before .before .before .before .copy-in .ensures) (c .before .before .call-table .ensures) (c .enum-told2 .given .1)))
+    (λ c. answers-copied (c .before .before .before .before .before .before .before .before .copy-in .ensures) (c .before .before .before .before .before .before .call-table .ensures) (c .before .before .copy-out .ensures)))

@@ -19,7 +19,8 @@ use Rattle.tables.specs.Laws.Search.{entry-some, structure-some}
 use Rattle.tables.specs.Settle.{settled}
 use Rattle.settling.specs.Laws.Settled.{settled-is}
 use Rattle.tables.specs.declared.Outcome.the-variants.{Done}
-use Rattle.rules.specs.Rules.{create, long}
+use Rattle.sound.specs.Clauses.{long}
+use Rattle.rules.specs.Rules.{create}
 use Rattle.rules.specs.Ran.{Ran}
 use Rattle.rules.specs.Laws.Ran.{ran-done, pass, there}
 use Rattle.blocks.specs.Pick.{Free}

@@ -9,7 +9,7 @@ use lib.ListN.{length}
 use lib.Dec.{ltb}
 use borrow.Author.Tests.{eq-eqb, ne-eqb, lt-ltb, le-ltb}
 use Rattle.loops.specs.Laws.Every.{all-of}
-use Rattle.tables.specs.State.{none, some, Entry, nowhere, Table}
+use Rattle.tables.specs.State.{none, some, nowhere, Table, rootEntry}
 use Rattle.tables.specs.Update.{both?, pick, upd, upd1}
 use Rattle.tables.specs.Laws.Update.{upd-same, upd-other, upd1-same, upd1-other}
 use Rattle.tables.specs.View.{view}
@@ -17,17 +17,13 @@ use Rattle.tables.specs.Encode.{encode, Is}
 use Rattle.writing.specs.Laws.Stored.{is-then}
 use Rattle.tables.specs.Settle.{meets, apart, clear, openBit, openAt, keep, settle}
 use Rattle.tables.specs.Write.{emptyTable, putHeader, putStructure, putSlot}
-use Rattle.sound.specs.Sound.{allRights}
 use Rattle.rules.specs.Rules.{bootK, bootOn, done, refused}
 use Rattle.rules.specs.Laws.Ran.{pass, fail}
 
 module _ (base end : ℕ) where
-  abbrev pub whole : Entry
-  whole = record { start = base; stop = end; given = 0; rights = allRights }
-
   -- the four writes, one after the other
   abbrev written : Table
-  written = putSlot (putStructure (putHeader (emptyTable base end) 0 0 (some nowhere)) 0 0 (some nowhere)) 0 0 (some whole) true
+  written = putSlot (putStructure (putHeader (emptyTable base end) 0 0 (some nowhere)) 0 0 (some nowhere)) 0 0 (some (rootEntry base end)) true
 
   -- nothing shares a line with a boot's areas
   no-line : (p j : ℕ) → apart (bootK base end .area p j) base end ≡ true
@@ -46,10 +42,10 @@ module _ (base end : ℕ) where
       go : Dec ((p ≡ 0) × (i ≡ 0)) → upd (λ p i. false) 0 0 true p i ≡ openBit (bootK base end .area) (bootK base end .slot p i)
       go (yes z) =
           upd-same (λ p i. false) 0 0 true p i z
-          ∙ rw (upd-same (λ p i. none) 0 0 (some whole) p i z) (sym (all-of 80 _ (λ n h. no-line (n / 5) (n % 5))))
+          ∙ rw (upd-same (λ p i. none) 0 0 (some (rootEntry base end)) p i z) (sym (all-of 80 _ (λ n h. no-line (n / 5) (n % 5))))
       go (no z) =
           upd-other (λ p i. false) 0 0 true p i z
-          ∙ rw (upd-other (λ p i. none) 0 0 (some whole) p i z) refl
+          ∙ rw (upd-other (λ p i. none) 0 0 (some (rootEntry base end)) p i z) refl
 
   no-parents : (p : ℕ) → upd1 {A = ℕ} (λ q. 0) 0 0 p ≡ 0
   no-parents p = go (ℕ-discrete p 0)
@@ -75,9 +71,9 @@ module _ (base end : ℕ) where
 
 -- the words after the four writes
 pub root-words : (base end : ℕ) {a b c d : List ℕ} → Is a (emptyTable base end) → Is b (putHeader (view a) 0 0 (some nowhere)) → Is c (putStructure (view b) 0 0 (some nowhere))
-    → Is d (putSlot (view c) 0 0 (some (whole base end)) true) → d ≡ encode (settle (bootK base end) (λ p r. none))
+    → Is d (putSlot (view c) 0 0 (some (rootEntry base end)) true) → d ≡ encode (settle (bootK base end) (λ p r. none))
 root-words base end w x y z =
-    sym (is-then (λ t. putSlot t 0 0 (some (whole base end)) true)
+    sym (is-then (λ t. putSlot t 0 0 (some (rootEntry base end)) true)
     (is-then (λ t. putStructure t 0 0 (some nowhere)) (is-then (λ t. putHeader t 0 0 (some nowhere)) w x) y) z .encoded)
     ∙ ap encode (written-settled base end)
 

@@ -7,7 +7,7 @@ use native.Mathlib.Omega.{arith}
 use lib.Dec.{eqb}
 use borrow.Author.Tests.{eq-eqb, ne-eqb}
 use Rattle.words.specs.declared.slot_word.SlotFields.{SlotFields}
-use Rattle.tables.specs.State.{Opt, none, some, Entry, Table}
+use Rattle.tables.specs.State.{Opt, none, some, Entry, Table, givenTo}
 use Rattle.tables.specs.Laws.State.{none-of}
 use Rattle.tables.specs.Update.{upd, upd1}
 use Rattle.tables.specs.Laws.Update.{row-same}
@@ -24,7 +24,7 @@ use Rattle.tables.specs.Search.{child, hasChild}
 use Rattle.tables.specs.Settle.{settled}
 use Rattle.settling.specs.Laws.Settled.{settled-is}
 use Rattle.tables.specs.declared.Outcome.the-variants.{Done, Refused}
-use Rattle.rules.specs.Rules.{givenTo, ungive, delete}
+use Rattle.rules.specs.Rules.{ungive, delete}
 use Rattle.services.specs.Zeroed.{zeroRecords}
 use Rattle.services.specs.Laws.Zeroed.{zero-one}
 use Rattle.rules.specs.Ran.{Ran}

@@ -14,9 +14,9 @@ use Rattle.tables.specs.State.{none, Entry}
 use Rattle.tables.specs.View.{view}
 use Rattle.tables.specs.Spelling.{ZeroWords}
 use Rattle.tables.specs.Laws.Spelling.{zero-areas, zero-regions, zero-blanks, zero-slots}
-use Rattle.tables.specs.Laws.ZeroWord.{no-area, no-entry, not-open, blank-regions, no-region}
+use Rattle.tables.specs.Laws.ZeroWord.{no-area, not-open, blank-regions}
 use Rattle.tables.specs.ZeroRecord.{zeroRecord}
-use Rattle.tables.specs.Laws.ZeroRecord.{zero-record-means}
+use Rattle.tables.specs.Laws.ZeroRecord.{zero-area, zero-record-means, zero-entry, zero-region}
 use Rattle.tables.specs.Search.{present}
 use Rattle.tables.specs.Settle.{openBit, openAt}
 use Rattle.memory.specs.ByteRecords.{HeaderTells}
@@ -36,15 +36,12 @@ module _ (l : List ℕ) (p : ℕ) (z : zeroRecord l p ≡ true) where
   words = zero-record-means l p .0 z
 
   area-none : (j : ℕ) → view l .k .area p j ≡ none
-  area-none j = no-area l p j (λ _. zero-areas l p words j)
-
-  slot-none : (i : ℕ) → view l .k .slot p i ≡ none
-  slot-none i = no-entry l p i (λ _. zero-slots l p words i)
+  area-none j = zero-area l p z (omega arith) j
 
   -- a test of every entry passes
   no-entries : (f : ℕ → Entry → Bool) → all 32 (λ i. when (f i) (view l .k .slot p i)) ≡ true
   unfolding when
-  no-entries f = all-of 32 (λ i. when (f i) (view l .k .slot p i)) (λ i h. rw (slot-none i) refl)
+  no-entries f = all-of 32 (λ i. when (f i) (view l .k .slot p i)) (λ i h. rw (zero-entry l p z i) refl)
 
   pub absent-s3 : s3 l p ≡ true
   absent-s3 = s3-means l p .1 (record {
@@ -65,11 +62,11 @@ module _ (l : List ℕ) (p : ℕ) (z : zeroRecord l p ≡ true) where
 
   pub absent-s5 : s5 l (view l .k) p ≡ true
   unfolding s5 s5Slot
-  absent-s5 = all-of 32 (s5Slot l (view l .k) p) (λ i h. rw (slot-none i) (eq-eqb _ 0 (zero-slots l p words i h)))
+  absent-s5 = all-of 32 (s5Slot l (view l .k) p) (λ i h. rw (zero-entry l p z i) (eq-eqb _ 0 (zero-slots l p words i h)))
 
   pub absent-s6 : s6 (view l .k) p ≡ true
   unfolding s6 apartE when
-  absent-s6 = all-of 32 (λ i. all i (λ j. apartE (view l .k .slot p i) (view l .k .slot p j))) (λ i h. rw (slot-none i) (all-true i))
+  absent-s6 = all-of 32 (λ i. all i (λ j. apartE (view l .k .slot p i) (view l .k .slot p j))) (λ i h. rw (zero-entry l p z i) (all-true i))
 
   pub absent-s7 : (p ≡ 0 → ⊥) → s7 (view l .k) p ≡ true
   unfolding s7 s7Given present
@@ -81,14 +78,14 @@ module _ (l : List ℕ) (p : ℕ) (z : zeroRecord l p ≡ true) where
 
   pub absent-s9 : s9 (view l) p ≡ true
   unfolding s9 openAt openBit
-  absent-s9 = all-of 32 (λ i. Bool·beq (view l .opened p i) (openAt (view l .k) p i)) (λ i h. rw (slot-none i, not-open l p i (λ _ b. zero-slots l p words i b)) refl)
+  absent-s9 = all-of 32 (λ i. Bool·beq (view l .opened p i) (openAt (view l .k) p i)) (λ i h. rw (zero-entry l p z i, not-open l p i (λ _ b. zero-slots l p words i b)) refl)
 
   pub absent-s10 : s10 (view l) p ≡ true
   unfolding s10 s10Names s10Once when
   absent-s10 =
       and-true _ _
-      (all-of 8 (s10Names (view l) p) (λ r h. rw (no-region l p r (zero-regions l p words)) refl))
-      (all-of 8 (λ r. all r (s10Once (view l) p r)) (λ r h. rw (no-region l p r (zero-regions l p words)) (all-true r)))
+      (all-of 8 (s10Names (view l) p) (λ r h. rw (zero-region l p z r) refl))
+      (all-of 8 (λ r. all r (s10Once (view l) p r)) (λ r h. rw (zero-region l p z r) (all-true r)))
 
   pub absent-s11 : (p ≡ 0 → ⊥) → s11 (view l .k) p ≡ true
   unfolding s11 s11Within s11Equal

@@ -4,18 +4,13 @@ use mathlib.Core.Logic.{_⊎_, inl, inr}
 use Prim.Native.Nat.{ℕ, _≤_}
 use native.Mathlib.Decide.{ℕ-discrete}
 use native.Mathlib.Omega.{arith}
-use Rattle.loops.specs.Climb.{Reaches, at-root, by-step}
 use Rattle.loops.specs.Laws.Climb.{Steps, no-step, one-step, steps-one, reaches→steps}
 use Rattle.tables.specs.State.{some, Entry, K}
 use Rattle.tables.specs.Laws.State.{same-at}
 use Rattle.tables.specs.Lines.{In, Holds}
 use Rattle.sound.specs.Core.{Core}
 use Rattle.sound.specs.Properties.{Above, itself, higher}
-use Rattle.sound.specs.Laws.Properties.{parent-holds, siblings-one, holder-present}
-
-root-above : {up : ℕ → ℕ} {n p : ℕ} → Reaches up n p → Above up 0 p
-root-above (at-root z) = itself z
-root-above (by-step r) = higher (root-above r)
+use Rattle.sound.specs.Laws.Properties.{root-above, parent-holds, siblings-one, holder-present}
 
 module _ {k : K} (h : Core k) {l : ℕ} where
   -- x is r, or the way from x up to r comes through a child of r that has the line

@@ -16,7 +16,7 @@ use Rattle.tables.specs.declared.Outcome.{Outcome}
 use Rattle.tables.specs.declared.Outcome.the-variants.{Done, Refused}
 use Rattle.sound.specs.Clauses.{sound}
 use Rattle.sound.specs.Laws.List.{sound-means}
-use Rattle.sound.specs.Holders.{givenTo, givenBy, heir, deepest, trail, holdersOf, inMemory, holdersOutcome, holdersBytes, Writes, Listed}
+use Rattle.sound.specs.Holders.{receiver, givenBy, heir, deepest, trail, holdersOf, inMemory, holdersOutcome, holdersBytes, Writes, Listed}
 
 -- ── the exits of the descent ──
 module _ (k : K) (l p n : ℕ) where
@@ -51,11 +51,11 @@ module _ (k : K) (l p : ℕ) where
   heir-none q = rw q refl
 
   pub heir-given : (i : ℕ) (f : SlotFields) → lowest 32 (holdsAt k p l) ≡ some i → k .slot p i ≡ entryIn f → f .present ≡ true → f .given .0 ≡ heir k l p
-  unfolding heir givenBy givenTo entryIn
+  unfolding heir givenBy receiver entryIn
   heir-given i f q e h = rw (q, e, h) refl
 
   pub heir-empty : (i : ℕ) (f : SlotFields) → lowest 32 (holdsAt k p l) ≡ some i → k .slot p i ≡ entryIn f → f .present ≡ false → 0 ≡ heir k l p
-  unfolding heir givenBy givenTo entryIn
+  unfolding heir givenBy receiver entryIn
   heir-empty i f q e h = rw (q, e, h) refl
 
 -- at p with so many steps left, the descent comes to the same partition as from the root

@@ -11,7 +11,7 @@ use borrow.Author.Tests.{eqb-true, eq-eqb, ne-eqb}
 use Rattle.loops.specs.Every.{all}
 use Rattle.loops.specs.Laws.Every.{all-at, all-of, bool-ext}
 use Rattle.words.specs.declared.Rights.{Rights}
-use Rattle.tables.specs.State.{Opt, none, some, Entry, K}
+use Rattle.tables.specs.State.{Opt, none, some, Entry, K, allRights}
 use Rattle.tables.specs.Laws.State.{not-none, same-at}
 use Rattle.tables.specs.View.{view}
 use Rattle.tables.specs.Laws.View.{slot-bounds, area-bounds, region-bounds}
@@ -19,12 +19,12 @@ use Rattle.tables.specs.Laws.ZeroWord.{not-open}
 use Rattle.tables.specs.Lines.{Clear}
 use Rattle.tables.specs.Search.{isSome}
 use Rattle.tables.specs.Settle.{openBit, openAt}
-use Rattle.sound.specs.Sound.{Granted, OneGrant, Sub, allRights, S5, S9, S10, S11}
+use Rattle.sound.specs.Sound.{Granted, OneGrant, Sub, S5, S9, S10, S11}
 use Rattle.sound.specs.Clauses.{when, grants, full, within, s9, s10Names, s10Once, s10, s11Within, oneGrant, sameRights, s11Equal, s11}
 use Rattle.sound.specs.Laws.Means.{and-means}
 use Rattle.sound.specs.Laws.MeansEntries.{root-or-means, grants-means, Slots32, every-means, one-grant-means, slots32}
 use Rattle.sound.specs.Laws.Tests.{and-says, and-true, then-says, then-true, not-says, not-of, when-says, when-true, every-says, every-true}
-use Rattle.sound.specs.Laws.Opens.{open-clear}
+use Rattle.sound.specs.Laws.Meets.{open-clear}
 
 -- ── S9 ──
 pub beq-means : (a b : Bool) → (Bool·beq a b ≡ true) ↔ (a ≡ b)

@@ -24,7 +24,7 @@ region-lines h p r i e l u v x =
     record { i = i; e = e; entry = record { at = v; opened = o .opened }; holds = x }
 
 -- ── lines and the tree ──
-root-above : {up : ℕ → ℕ} {n p : ℕ} → Reaches up n p → Above up 0 p
+pub root-above : {up : ℕ → ℕ} {n p : ℕ} → Reaches up n p → Above up 0 p
 root-above (at-root z) = itself z
 root-above (by-step r) = higher (root-above r)
 

@@ -2,13 +2,13 @@
 use mathlib.Core.Path.{_≡_, refl, ap, sym, _∙_}
 use mathlib.Core.Bool.{Bool, true, false}
 use mathlib.Core.List.{List}
-use mathlib.Core.Logic.{_⊎_, inl, inr, _↔_}
+use mathlib.Core.Logic.{_⊎_, inl, inr}
 use Prim.Native.Nat.{ℕ, _/_, _%_, _≤_, _<_}
 use native.Mathlib.Decide.{ℕ-discrete}
 use native.Mathlib.Omega.{arith}
 use lib.Dec.{ltb}
 use borrow.Author.Tests.{ltb-true, ltb-false}
-use Rattle.loops.specs.Laws.Every.{bool-ext, all-at, all-of}
+use Rattle.loops.specs.Laws.Every.{bool-ext}
 use Rattle.tables.specs.State.{Opt, none, some, Entry, Area, Table}
 use Rattle.tables.specs.Laws.State.{some-inj, not-none}
 use Rattle.tables.specs.Update.{both?, upd, upd1}
@@ -18,31 +18,23 @@ use Rattle.tables.specs.Encode.{encode, Is}
 use Rattle.tables.specs.Write.{putSlot, putRegion, putCurrent}
 use Rattle.tables.specs.Kept.{keepRegions}
 use Rattle.tables.specs.Lines.{InA}
-use Rattle.tables.specs.Settle.{apart, clear, openBit, openAt, keep, settle, settled}
-use Rattle.sound.specs.Laws.Meets.{apart-means}
-use Rattle.sound.specs.Laws.Opens.{open-clear}
+use Rattle.tables.specs.Settle.{clear, openBit, openAt, keep, settle, settled}
+use Rattle.sound.specs.Laws.Meets.{clear-means, open-clear}
 use Rattle.sound.specs.Whole.{Right}
 
 -- ── ranges that share no line with an area ──
 module _ (area : ℕ → ℕ → Opt Area) where
-  clear-means : (a b : ℕ) → (clear area a b ≡ true) ↔ ((n : ℕ) → n < 80 → (x : Area) (l : ℕ) → area (n / 5) (n % 5) ≡ some x → InA l x → a ≤ l → l < b → ⊥)
-  unfolding clear
-  clear-means a b = (
-    λ q n h. apart-means (area (n / 5) (n % 5)) a b .0 (all-at 80 (λ n. apart (area (n / 5) (n % 5)) a b) q n h),
-    λ f. all-of 80 (λ n. apart (area (n / 5) (n % 5)) a b) (λ n h. apart-means (area (n / 5) (n % 5)) a b .1 (f n h)),
-  )
-
   -- a part of one
   pub clear-part : (a b c d : ℕ) → clear area a d ≡ true → a ≤ b → c ≤ d → clear area b c ≡ true
-  clear-part a b c d q s t = clear-means b c .1 (λ n h x l u i v w. clear-means a d .0 q n h x l u i (omega arith) (omega arith))
+  clear-part a b c d q s t = clear-means area b c .1 (λ n h x l u i v w. clear-means area a d .0 q n h x l u i (omega arith) (omega arith))
 
   -- two that touch, as one
   pub clear-both : (a b c : ℕ) → clear area a b ≡ true → clear area b c ≡ true → clear area a c ≡ true
-  clear-both a b c q r = clear-means a c .1 (λ n h x l u i v w. go n h x l u i v w (ltb l b) refl)
+  clear-both a b c q r = clear-means area a c .1 (λ n h x l u i v w. go n h x l u i v w (ltb l b) refl)
     where
       go : (n : ℕ) → n < 80 → (x : Area) (l : ℕ) → area (n / 5) (n % 5) ≡ some x → InA l x → a ≤ l → l < c → (y : Bool) → ltb l b ≡ y → ⊥
-      go n h x l u i v w true e = clear-means a b .0 q n h x l u i v (ltb-true l b e)
-      go n h x l u i v w false e = clear-means b c .0 r n h x l u i (ltb-false l b e) w
+      go n h x l u i v w true e = clear-means area a b .0 q n h x l u i v (ltb-true l b e)
+      go n h x l u i v w false e = clear-means area b c .0 r n h x l u i (ltb-false l b e) w
 
 -- the open bits are those of S9, and no region names a slot that is not open: nothing is left to settle
 pub record Settled (t : Table) : Type 0 where

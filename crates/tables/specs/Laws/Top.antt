@@ -24,3 +24,7 @@ module _ {l : List ℕ} {n : ℕ} (h : Top l n) (p : ℕ) (a : n ≤ p) where
   pub top-absent : present (view l .k) p ≡ false
   unfolding present
   top-absent = rw (top-area 0) refl
+
+-- .. of words that are equal
+pub top-at : {a b : List ℕ} {n : ℕ} → a ≡ b → Top b n → Top a n
+top-at e h = rw e h

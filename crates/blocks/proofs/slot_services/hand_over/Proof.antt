@@ -1,10 +1,9 @@
 use native.Mathlib.Omega.{arith}
-use Rattle.tables.specs.State.{Table, some}
+use Rattle.tables.specs.State.{Table, some, rangeOf}
 use Rattle.tables.specs.View.{entryOf}
 use Rattle.tables.specs.Laws.Encode.{is-canon}
 use Rattle.tables.specs.Write.{putSlot}
 use Rattle.writing.specs.Laws.Stored.{is-then}
-use Rattle.rules.specs.Rules.{rangeOf}
 use borrow.Author.Needs.{needs}
 use Rattle.blocks.proofs.slot_services.hand_over.Statement.{statement}
 use Rattle.blocks.proofs.slot_services.hand_over.Tie as tie

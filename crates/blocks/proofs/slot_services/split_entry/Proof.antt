@@ -1,9 +1,8 @@
-use Rattle.tables.specs.State.{Table, some}
+use Rattle.tables.specs.State.{Table, some, startingAt}
 use Rattle.tables.specs.View.{entryOf}
 use Rattle.tables.specs.Laws.Encode.{is-canon}
 use Rattle.tables.specs.Write.{putSlot}
 use Rattle.writing.specs.Laws.Stored.{is-then}
-use Rattle.rules.specs.Rules.{startingAt}
 use borrow.Author.Needs.{needs}
 use Rattle.blocks.proofs.slot_services.split_entry.Statement.{statement}
 use Rattle.blocks.proofs.slot_services.split_entry.Tie as tie

@@ -3,7 +3,7 @@ use mathlib.Core.List.{List}
 use Prim.Native.Nat.{ℕ}
 use native.Mathlib.Omega.{arith}
 use borrow.Author.Needs.{needs}
-use Rattle.tables.specs.Laws.Top.{top-16}
+use Rattle.tables.specs.Laws.Top.{top-at}
 use Rattle.runs.specs.declared.listing.Plan.{Plan}
 use Rattle.runs.specs.Listing.{planOf, marksIn}
 use Rattle.board.specs.Board.{resultOf}
@@ -19,6 +19,6 @@ plan-bytes-spec =
     (tie.spec
     (λ c. ready-none _ _ _ (λ z. omega (arith, z)))
     (λ c κs. (omega arith, refl))
-    (λ c κs. (top-16 _, c .before .before .before .before .before .before .pre))
+    (λ c κs. (top-at (c .before .before .load .ensures .0) (c .before .before .load .ensures .1), c .before .before .before .before .before .before .pre))
     (λ c κs. subst (λ (p : Plan). Small (p .outcome)) (sym (c .plan-of .ensures .0)) (plan-answers _ _))
     (λ c. ready-plan _ _ _ (c .before .before .before .before .before .before .if1 .left) (c .before .plan-of .ensures .0 ∙ ap (λ (l : List ℕ). planOf l (c .before .before .before .before .before .before .before .before .args .size)) (c .before .before .before .before .load .ensures .0)) (c .before .plan-of .ensures .1 ∙ ap (λ (l : List ℕ). marksIn l (c .before .before .before .before .before .before .before .before .args .marks .now)) (c .before .before .before .before .load .ensures .0)) (c .answer-word .ensures)))

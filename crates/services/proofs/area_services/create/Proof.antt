@@ -3,7 +3,8 @@ use borrow.Author.Tests.{lt-leb}
 use Rattle.tables.specs.Laws.Encode.{is-canon}
 use Rattle.tables.specs.Laws.Search.{lowest-some}
 use Rattle.tables.specs.Laws.Answers.{which-is}
-use Rattle.rules.specs.Rules.{create, long}
+use Rattle.sound.specs.Clauses.{long}
+use Rattle.rules.specs.Rules.{create}
 use Rattle.rules.specs.Laws.Ran.{ran-refused, fail, there, missing}
 use Rattle.blocks.specs.Laws.Pick.{picked-no, picked-is}
 use Rattle.services.specs.Laws.AreaExits.{created}

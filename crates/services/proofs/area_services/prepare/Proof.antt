@@ -4,7 +4,8 @@ use Rattle.tables.specs.Laws.Encode.{is-canon}
 use Rattle.tables.specs.Laws.Search.{lowest-some}
 use Rattle.settling.specs.Laws.Settled.{settled-is}
 use Rattle.tables.specs.Laws.Answers.{structure-is}
-use Rattle.rules.specs.Rules.{prepare, long}
+use Rattle.sound.specs.Clauses.{long}
+use Rattle.rules.specs.Rules.{prepare}
 use Rattle.rules.specs.Laws.Ran.{ran-refused, ran-done, pass, fail, there, missing}
 use Rattle.blocks.specs.Laws.Pick.{picked-no, picked-is}
 use native.Mathlib.Omega.{arith}

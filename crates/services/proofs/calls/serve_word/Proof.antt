@@ -1,6 +1,8 @@
 use mathlib.Core.Path.{sym, _∙_}
-use Rattle.rules.specs.Laws.Ran.{ran-refused, ran-as}
-use Rattle.rules.specs.Laws.Calls.{read-small, read-serves, read-refuses}
+use Rattle.sound.specs.Laws.List.{sound-means}
+use Rattle.sound.specs.Laws.Whole.{sound-right}
+use Rattle.sound.specs.Laws.Canonical.{sound-canon}
+use Rattle.rules.specs.Laws.Calls.{read-small, answers-served, answers-unread}
 use borrow.Author.Needs.{needs}
 use Rattle.services.proofs.calls.serve_word.Statement.{statement}
 use Rattle.services.proofs.calls.serve_word.Tie as tie
@@ -10,8 +12,14 @@ serve-word-spec =
     tie.close
     (tie.spec
     (λ c κs. search needs)
+    (λ c κs. search needs)
+    (λ c κs. search needs)
     (λ c. search needs)
-    (λ c κs. (c .before .before .before .before .before .pre .0, read-small _ (sym (c .before .before .before .before .read .ensures) ∙ c .before .before .read2 .given .1), c .before .before .before .before .before .pre .1))
+    (λ c κs.
+    let h = sound-means _ .0 (c .before .before .before .before .before .before .before .before .before .before .pre) in
+    let canon = sound-canon (c .before .before .before .before .before .before .before .before .fits2 .ensures) h in
+    (canon, read-small _ (sym (c .before .before .before .before .read .ensures) ∙ c .before .before .read2 .given .1), sound-right canon h))
+    (λ c κs. search needs)
     (λ c. search needs)
-    (λ c. ran-as (read-serves _ _ (sym (c .before .before .before .before .before .read .ensures) ∙ c .before .before .before .read2 .given .1)) (c .serve .ensures))
-    (λ c. ran-refused (read-refuses _ _ (sym (c .before .before .before .read .ensures) ∙ c .before .read3 .given .1))))
+    (λ c. answers-served _ _ (c .before .before .before .before .before .before .before .before .before .before .before .before .before .before .pre) (c .before .before .before .before .before .before .before .before .before .before .first .ensures .current) (sym (c .before .before .before .before .before .before .before .before .read .ensures) ∙ c .before .before .before .before .before .before .read2 .given .1) (c .before .before .before .serve .ensures) (c .either .ensures))
+    (λ c. answers-unread _ _ (c .before .before .before .before .before .before .before .before .before .pre) (c .before .before .before .before .before .first .ensures .current) (sym (c .before .before .before .read .ensures) ∙ c .before .read3 .given .1)))

@@ -11,13 +11,13 @@ unused-spec =
     tie.close
     (tie.spec
     (λ c κs. search needs)
-    (λ c. rw (← c .before .in-order .ensures, not-true (c .before .in-order .result) (c .if1 .taken)) refl)
+    (λ c. rw (← c .before .either .ensures, not-true (c .before .either .result) (c .if1 .taken)) refl)
     (λ c κs. search needs)
-    (λ c. rw (← c .before .before .before .before .in-order .ensures, not-false (c .before .before .before .before .in-order .result) (c .before .before .before .if1 .left), ← c .before .in-order2 .ensures, not-true (c .before .in-order2 .result) (c .if2 .taken)) refl)
+    (λ c. rw (← c .before .before .before .before .either .ensures, not-false (c .before .before .before .before .either .result) (c .before .before .before .if1 .left), ← c .before .either2 .ensures, not-true (c .before .either2 .result) (c .if2 .taken)) refl)
     (λ c κs. search needs)
-    (λ c. rw (← c .before .before .before .before .before .before .before .in-order .ensures, not-false (c .before .before .before .before .before .before .before .in-order .result) (c .before .before .before .before .before .before .if1 .left), ← c .before .before .before .before .in-order2 .ensures, not-false (c .before .before .before .before .in-order2 .result) (c .before .before .before .if2 .left), ← c .before .in-order3 .ensures, not-true (c .before .in-order3 .result) (c .if3 .taken)) refl)
+    (λ c. rw (← c .before .before .before .before .before .before .before .either .ensures, not-false (c .before .before .before .before .before .before .before .either .result) (c .before .before .before .before .before .before .if1 .left), ← c .before .before .before .before .either2 .ensures, not-false (c .before .before .before .before .either2 .result) (c .before .before .before .if2 .left), ← c .before .either3 .ensures, not-true (c .before .either3 .result) (c .if3 .taken)) refl)
     (λ c κs. search needs)
     (λ c κs. search needs)
-    (λ c. rw (← c .before .before .no-rights .ensures, ← c .before .before .before .before .before .before .before .before .before .before .before .in-order .ensures, not-false (c .before .before .before .before .before .before .before .before .before .before .before .in-order .result) (c .before .before .before .before .before .before .before .before .before .before .if1 .left), ← c .before .before .before .before .before .before .before .before .in-order2 .ensures, not-false (c .before .before .before .before .before .before .before .before .in-order2 .result) (c .before .before .before .before .before .before .before .if2 .left), ← c .before .before .before .before .before .in-order3 .ensures, not-false (c .before .before .before .before .before .in-order3 .result) (c .before .before .before .before .if3 .left), ← c .before .in-order4 .ensures, not-true (c .before .in-order4 .result) (c .if4 .taken)) refl)
+    (λ c. rw (← c .before .before .no-rights .ensures, ← c .before .before .before .before .before .before .before .before .before .before .before .either .ensures, not-false (c .before .before .before .before .before .before .before .before .before .before .before .either .result) (c .before .before .before .before .before .before .before .before .before .before .if1 .left), ← c .before .before .before .before .before .before .before .before .either2 .ensures, not-false (c .before .before .before .before .before .before .before .before .either2 .result) (c .before .before .before .before .before .before .before .if2 .left), ← c .before .before .before .before .before .either3 .ensures, not-false (c .before .before .before .before .before .either3 .result) (c .before .before .before .before .if3 .left), ← c .before .either4 .ensures, not-true (c .before .either4 .result) (c .if4 .taken)) refl)
     (λ c κs. search needs)
-    (λ c. rw (← c .before .before .before .before .no-rights .ensures, ← c .before .before .before .before .before .before .before .before .before .before .before .before .before .in-order .ensures, not-false (c .before .before .before .before .before .before .before .before .before .before .before .before .before .in-order .result) (c .before .before .before .before .before .before .before .before .before .before .before .before .if1 .left), ← c .before .before .before .before .before .before .before .before .before .before .in-order2 .ensures, not-false (c .before .before .before .before .before .before .before .before .before .before .in-order2 .result) (c .before .before .before .before .before .before .before .before .before .if2 .left), ← c .before .before .before .before .before .before .before .in-order3 .ensures, not-false (c .before .before .before .before .before .before .before .in-order3 .result) (c .before .before .before .before .before .before .if3 .left), ← c .before .before .before .in-order4 .ensures, not-false (c .before .before .before .in-order4 .result) (c .before .before .if4 .left)) (c .in-order5 .ensures)))
+    (λ c. rw (← c .before .before .before .before .no-rights .ensures, ← c .before .before .before .before .before .before .before .before .before .before .before .before .before .either .ensures, not-false (c .before .before .before .before .before .before .before .before .before .before .before .before .before .either .result) (c .before .before .before .before .before .before .before .before .before .before .before .before .if1 .left), ← c .before .before .before .before .before .before .before .before .before .before .either2 .ensures, not-false (c .before .before .before .before .before .before .before .before .before .before .either2 .result) (c .before .before .before .before .before .before .before .before .before .if2 .left), ← c .before .before .before .before .before .before .before .either3 .ensures, not-false (c .before .before .before .before .before .before .before .either3 .result) (c .before .before .before .before .before .before .if3 .left), ← c .before .before .before .either4 .ensures, not-false (c .before .before .before .either4 .result) (c .before .before .if4 .left)) (c .either5 .ensures)))
