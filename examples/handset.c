@@ -49,7 +49,10 @@ static void print_holders(uint32_t line)
     printf("line %u is held by", (unsigned)line);
     for (uint32_t i = 0; i < answer.first; i++)
         printf(" %u", (unsigned)list[i]);
-    puts(answer.refusal == ULAVREPIT_DONE ? "" : " nobody: it is not the kernel's");
+    if (answer.refusal == ULAVREPIT_DONE)
+        printf(", found in %u slot words (at most %u)\n", (unsigned)answer.second, (unsigned)ULAVREPIT_LOOKS);
+    else
+        puts(" nobody: it is not the kernel's");
 }
 
 /* The reader starts a helper in its own memory, from its first line on: then it can't be deleted, but cleared out. */

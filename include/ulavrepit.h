@@ -27,7 +27,8 @@ enum {
     ULAVREPIT_LAST_LINE = 134217727, /* the highest number that a boot may name as its end */
     ULAVREPIT_AREA_LINES = 16,       /* a block that is to serve the kernel has so many lines or more */
     ULAVREPIT_HOLDERS_BYTES = 16,    /* a list for holders has so many bytes or more */
-    ULAVREPIT_RUNS = 512             /* no sound table has more runs */
+    ULAVREPIT_RUNS = 512,            /* no sound table has more runs */
+    ULAVREPIT_LOOKS = 512            /* no listing of holders looks at more slot words */
 };
 
 /* Rights of an entry, to be added up. */
@@ -90,7 +91,13 @@ uint64_t ulavrepit_call(uint8_t *table, uint64_t table_len, uint64_t word, uint6
 
 /*
  * Who holds a line: the first n bytes of the list become the partitions' numbers, root first, and the rest
- * stay. First is n, second 0. A partition that is not listed cannot reach the line.
+ * stay. First is n. A partition that is not listed cannot reach the line.
+ *
+ * Second is how many slot words the listing looked at, to size the time of a fault handler: the record of each of
+ * the n holders is searched once, from slot 0 up to the slot whose entry holds the line, that slot and empty ones
+ * counted. It is n or more, and at most ULAVREPIT_LOOKS, which is reached by a chain of 16 partitions with the line
+ * in the last slot of each. A line in low slots, and few levels, make it small. Beside it stands, in every call, the
+ * reading and checking of the whole table, which does not depend on the line.
  */
 uint64_t ulavrepit_holders(const uint8_t *table, uint64_t table_len, uint64_t line,
                            uint8_t *list, uint64_t list_len, uint64_t *second);

@@ -174,8 +174,23 @@ static void make_x(void)
         call_word_on(table, session[i]);
 }
 
+/* Slot words from slot 0 to the one whose entry holds the line, in the record of p; 32 if none does. */
+static uint64_t words_to(unsigned p, uint64_t line)
+{
+    uint64_t words = 0;
+    while (words < 32) {
+        unsigned at = slot_at(p, (unsigned)words++);
+        if (get(table, at, E_PRESENT) == 1 && get(table, at, E_START) <= line && line < get(table, at, E_END))
+            break;
+    }
+    return words;
+}
+
 static bool holders_are(uint64_t line, const char *expected, unsigned n)
 {
+    uint64_t sum = 0;
+    for (unsigned i = 0; i < n; i++)
+        sum += words_to((unsigned)expected[i], line);
     uint8_t list[20];
     uint64_t second = UNTOUCHED;
     memset(list, 0xee, sizeof list);
@@ -184,7 +199,15 @@ static bool holders_are(uint64_t line, const char *expected, unsigned n)
     for (unsigned i = 0; i < sizeof list; i++)
         if (list[i] != (i < n ? (uint8_t)expected[i] : 0xee))
             return false;
-    return second == 0;
+    return second == sum;
+}
+
+static uint64_t sum_for(uint64_t line)
+{
+    uint8_t list[SECOND_HOLDERS];
+    uint64_t second = UNTOUCHED;
+    second_holders(table, SECOND_BYTES, line, list, sizeof list, &second);
+    return second;
 }
 
 static bool holders_refused(uint64_t line, uint64_t list_len, unsigned refusal)
@@ -311,6 +334,7 @@ static void test_list(void)
     check(is_refused(COLLECT, 0, 0, 0, 0, 0, 15), "B, collect P 0 structure 0: 15");
     make_x();
     check(holders_are(300, "\0\1", 2), "X, holders of 300: 0, 1");
+    check(sum_for(300) == 5, "X, holders of 300: 4 and 1 words looked at");
     check(holders_refused(1024, 16, 7), "X, holders of 1024: 7");
     check(is_done(TAKE, 0, 3, 0, 0, 0, 0, 0), "X, take slot 3: done");
     make_x();
@@ -807,6 +831,39 @@ static void test_clear_out_of_a_chain(void)
     for (unsigned p = 1; p < 16; p++)
         good = good && is_blank(p);
     check(good && holders_are(1999, "\0", 1), "clear out of a chain of 15: 15");
+}
+
+/* A chain of 16 partitions with 32 entries each, the last lines in slot 31 of each. */
+static bool make_farthest(void)
+{
+    uint32_t line = 0;
+    bool good = boot_to(0, 8000);
+    for (unsigned p = 0; p < 16; p++) {
+        if (p > 0)
+            good = good && is_done(CREATE, 0, 3, 0, 0, 0, p, 0) && goes(PREPARE, p, 4, 0, 0, 0) &&
+                   is_done(GIVE, p, 31, 0, 7, 0, 0, 0) && goes(SWITCH, p, 0, 0, 0, 0);
+        for (unsigned s = 0; s < 31; s++) {
+            line += 16;
+            good = good && is_done(CUT, 0, s, 0, 0, line, s + 1, 0) && (s > 2 || goes(PREPARE, p, s, 0, 0, 0));
+        }
+    }
+    return good;
+}
+
+static void test_how_far(void)
+{
+    make_b();
+    check(sum_for(300) == 1 && goes(CUT, 0, 0, 0, 0, 512) && sum_for(511) == 1 && sum_for(512) == 2,
+          "holders: the slot found is counted, and those before it");
+    check(goes(CUT, 0, 1, 0, 0, 600) && goes(MERGE, 0, 0, 1, 0, 0) && sum_for(599) == 1 && sum_for(600) == 3,
+          "empty slots are counted");
+    make_x();
+    check(goes(PREPARE, 0, 1, 0, 0, 0) && sum_for(600) == 2 && goes(DELETE, 1, 0, 0, 0, 0) && sum_for(300) == 4,
+          "the sum is that of the holders, and of no other");
+    check(make_farthest() && holders_are(7999, "\0\1\2\3\4\5\6\7\10\11\12\13\14\15\16\17", 16) && sum_for(7999) == 512,
+          "a chain of 16, the line in slot 31 of each: 512");
+    check(sum_for(0) == 1 && sum_for(495) == 31 && sum_for(496) == 33 && sum_for(7935) == 511,
+          "each search of the chain adds its own");
 }
 
 /* ======================= 4. The clauses of soundness ======================= */
@@ -1843,6 +1900,7 @@ int main(void)
     test_clear_out_of_one();
     test_clear_out_of_a_branch();
     test_clear_out_of_a_chain();
+    test_how_far();
     test_clauses();
     test_generated();
     printf("%u passed, %u failed\n", passed, failed);

@@ -4,6 +4,7 @@
  * A line for each check; the exit status says only that the program came to its end.
  */
 #include "check.h"
+#include "farthest.h"
 #include "lent.h"
 #include "session.h"
 
@@ -90,12 +91,29 @@ static bool holders_refused(uint64_t line, uint64_t list_len, unsigned number)
     return answer.refusal == number && answer.caller == 0;
 }
 
-/* The list begins with these names, and its other bytes are as they were. */
+/*
+ * The list begins with these names, and its other bytes are as they were. The second value is the sum over them of
+ * the slot words up to the first entry that holds the line.
+ */
 static bool holders_are(uint64_t line, uint64_t list_len, const char *names, uint32_t count)
 {
+    uint64_t looked = 0;
+    for (uint32_t i = 0; i < count; i++)
+        for (unsigned slot = 0; slot < ULAVREPIT_SLOTS; slot++) {
+            ulavrepit_entry entry = ulavrepit_unpack_entry(table_word(now.table, slot_at((unsigned)names[i], slot)));
+            looked++;
+            if (entry.present && entry.start <= line && line < entry.end)
+                break;
+        }
     ulavrepit_answer answer = holders_len(sizeof now.table, line, list_len);
-    return answer.refusal == 0 && answer.caller == 0 && answer.first == count && answer.second == 0 &&
+    return answer.refusal == 0 && answer.caller == 0 && answer.first == count && answer.second == looked &&
            memcmp(now.list, names, count) == 0 && all_painted(now.list + count, LIST - count);
+}
+
+/* The second value alone. */
+static uint64_t looked_for(uint64_t line)
+{
+    return holders_len(sizeof now.table, line, 16).second;
 }
 
 static bool runs_refused(uint64_t list_len, unsigned number)
@@ -159,6 +177,7 @@ static void test_printed_list(void)
     check(done(ulavrepit_cut(0, 257), 1, 0), "B, cut slot 0 at 257: done, slot 1");
     check(make_b() && done(ulavrepit_load(0, 0, 7), 0, 0), "B, load slot 0 in region 7: done");
     check(make_x() && holders_are(300, 16, "\0\1", 2), "X, holders of 300: 0, 1");
+    check(looked_for(300) == 5, "X, holders of 300: 4 and 1 slot words looked at");
     check(holders_refused(1024, 16, 7), "X, holders of 1024: 7");
     check(refused(ulavrepit_take(1), 6), "X, take slot 1: 6");
     check(refused(ulavrepit_create(0), 5), "X, create from slot 0: 5");
@@ -221,6 +240,27 @@ static void test_holders(void)
     check(holders_refused(300, 16, 1) && holders_refused(1024, 0, 1) && holders_refused(300, 0, 1),
           "holders of a table not sound: 1 before 7 and 17");
     check(refused(ulavrepit_find(0, 300), 1) && refused(0, 1), "a call on a table not sound: 1 before 2");
+}
+
+/* Request 106: the second value of holders. */
+static void test_how_far(void)
+{
+    static uint64_t words[FARTHEST_CALLS];
+    check(make_b() && looked_for(300) == 1 && done(ulavrepit_cut(0, 512), 1, 0) && done(ulavrepit_cut(1, 600), 2, 0) &&
+              done(ulavrepit_merge(0, 1), 0, 0) && looked_for(599) == 1 && looked_for(600) == 3,
+          "the slot found is counted, and so are empty ones before it");
+    bool good = boot_is(0, FARTHEST_END, 0);
+    farthest_session(words);
+    for (unsigned i = 0; i < FARTHEST_CALLS; i++)
+        good = good && call_len(sizeof now.table, words[i]).refusal == 0;
+    check(good && holders_are(FARTHEST_END - 1, 16, "\0\1\2\3\4\5\6\7\10\11\12\13\14\15\16\17", 16) &&
+              looked_for(FARTHEST_END - 1) == ULAVREPIT_LOOKS,
+          "a chain of 16 with the line in slot 31 of each: 512, the most");
+    ulavrepit_answer answer = ulavrepit_holders_answer(now.table, sizeof now.table, FARTHEST_END, now.list, 16);
+    check(answer.refusal == 7 && answer.second == 0 && holders_refused(FARTHEST_END, 16, 7),
+          "refused, the struct's second value is 0, and *second stays");
+    check(done(ulavrepit_find(15, FARTHEST_END - 1), 31, table_word(now.table, slot_at(15, 31))),
+          "find answers slot and word, as ever");
 }
 
 static void test_runs(void)
@@ -442,6 +482,7 @@ int main(void)
     test_lengths();
     test_boot();
     test_holders();
+    test_how_far();
     test_runs();
     test_refusals();
     test_rights();

@@ -10,6 +10,7 @@
  */
 #include "check.h"
 #include "damage.h"
+#include "farthest.h"
 #include "lent.h"
 #include "most_runs.h"
 #include "steer.h"
@@ -25,6 +26,7 @@ static dice chance;
 static bool same_so_far = true;
 static unsigned long calls, accepted, damaged, odd, listings, boots;
 static unsigned long most_runs, short_lists;
+static uint64_t most_looked; /* by one listing of holders */
 static unsigned long cells[LAST_SERVICE + 1][18]; /* by service, or unload, and refusal number */
 static unsigned long missed[REGION_MISSES];       /* refused with 2, by what was wrong */
 static unsigned long cleared[SECOND_PARTITIONS];  /* clear outs, by the number of partitions removed */
@@ -103,15 +105,21 @@ static unsigned call_both(uint64_t word)
     return (unsigned)(their & 0xff);
 }
 
-static void list_both(uint64_t line)
+static void list_len_both(uint64_t line, uint64_t list_len)
 {
-    uint64_t list_len = percent(&chance, 90) ? ULAVREPIT_HOLDERS_BYTES : below(&chance, LIST + 1);
     paint_numbers();
     lent before = ours;
     uint64_t our = ulavrepit_holders(ours.table, sizeof ours.table, line, ours.list, list_len, &ours.second);
     uint64_t their = second_holders(theirs.table, sizeof theirs.table, line, theirs.list, list_len, &theirs.second);
     compare("holders", line, our, their, &before);
     listings++;
+    if ((their & 0xff) == 0 && theirs.second > most_looked)
+        most_looked = theirs.second;
+}
+
+static void list_both(uint64_t line)
+{
+    list_len_both(line, percent(&chance, 90) ? ULAVREPIT_HOLDERS_BYTES : below(&chance, LIST + 1));
 }
 
 /* Into a list that is long enough, or just so, or one record too short. */
@@ -252,6 +260,18 @@ static void hand_over_most_runs(void)
     read_state();
 }
 
+/* A chain of 16 in which a listing looks at 512 slot words, made by calls; a listing after each. */
+static void go_farthest(void)
+{
+    static uint64_t words[FARTHEST_CALLS];
+    farthest_session(words);
+    boot_both(0, FARTHEST_END);
+    for (unsigned i = 0; i < FARTHEST_CALLS; i++) {
+        unsound_sessions += call_both(words[i]) == 1;
+        list_len_both(FARTHEST_END - 1, ULAVREPIT_HOLDERS_BYTES);
+    }
+}
+
 static void session(unsigned long last)
 {
     mood m = (mood)below(&chance, MOODS);
@@ -294,8 +314,8 @@ static void print_cells(void)
     printf("# .. S11 by unlike rights inside one grant, by partition:");
     for (unsigned p = 1; p < SECOND_PARTITIONS; p++)
         printf(" %u: %lu%s", p, unlike[p], p < SECOND_PARTITIONS - 1 ? "," : "\n");
-    printf("# the longest chain: %u levels below the root; the most runs: %lu; lists too short: %lu\n", deepest, most_runs,
-           short_lists);
+    printf("# the longest chain: %u levels below the root; the most runs: %lu; lists too short: %lu; slot words looked at by\n"
+           "# one listing of holders: up to %" PRIu64 "\n", deepest, most_runs, short_lists, most_looked);
     printf("# %lu boots, %lu calls in sessions, %lu of them accepted, %lu listings, %lu odd tables, %lu damaged tables\n",
            boots, calls, accepted, listings, odd, damaged);
 }
@@ -361,6 +381,7 @@ int main(int count, char **words)
     chance = seeded(strtoull(words[1], NULL, 10));
     paint(&ours);
     paint(&theirs);
+    go_farthest();
     while (calls < last && same_so_far)
         session(last);
     print_cells();
@@ -374,6 +395,7 @@ int main(int count, char **words)
     check(every_branch_cleared(), "branches of 1 to 15 partitions were cleared out");
     check(deepest == SECOND_PARTITIONS - 1, "chains of 15 levels below the root were met");
     check(most_runs == MOST_RUNS && short_lists >= last / 100, "324 runs, and lists too short, were met");
+    check(most_looked == ULAVREPIT_LOOKS, "a listing of holders that looks at 512 slot words was met");
     check(accepted > calls / 2, "more than half of the calls were accepted");
     check(calls >= last && damaged >= last / 4, "as many calls as asked for, and a damaged table for every four");
     return 0;

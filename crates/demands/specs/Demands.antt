@@ -7,21 +7,21 @@ use mathlib.Core.Path.{_≡_}
 use mathlib.Core.Bool.{true, cond}
 use mathlib.Core.List.{List, [], _∷_}
 use mathlib.Core.Logic.{_↔_}
-use Prim.Native.Nat.{ℕ, suc, _-_, _/_, _%_, _^_, _≤_, _<_}
+use Prim.Native.Nat.{ℕ, suc, _+_, _-_, _/_, _%_, _^_, _≤_, _<_}
 use lib.Dec.{eqb}
 use lib.ListN.{length, getD}
 use Rattle.loops.specs.Count.{count}
 use Rattle.words.specs.Kind.{RoundTrips, fieldsIn}
 use Rattle.words.specs.Words.{first, header, structure, regions, slot, call, boot}
-use Rattle.tables.specs.State.{Opt, none, some, Table}
+use Rattle.tables.specs.State.{Opt, none, some, Entry, Table}
 use Rattle.tables.specs.View.{view}
 use Rattle.tables.specs.Encode.{encode}
 use Rattle.memory.specs.Bytes.{bytesOf}
-use Rattle.tables.specs.Lines.{Holds}
+use Rattle.tables.specs.Lines.{In, Holds}
 use Rattle.tables.specs.WayUp.{over}
 use Rattle.sound.specs.Sound.{Sound}
 use Rattle.sound.specs.Properties.{Isolated}
-use Rattle.sound.specs.Holders.{holdersOf}
+use Rattle.sound.specs.Holders.{holdersOf, sumOver, looksOf}
 use Rattle.rules.specs.Rules.{done, bootOn}
 use Rattle.isolation.specs.Ladder.{Ladder, finish, must, there, least, Least, Answers}
 use Rattle.isolation.specs.Boot.{bootLadder}
@@ -88,7 +88,7 @@ holdersLadder t m size =
     must 1 (Sound t)
     (must 7 ((view t .k .base ≤ m) × (m < view t .k .stop))
     (must 17 (16 ≤ size)
-    (finish (length (holdersOf (view t .k) m)) 0 (view t))))
+    (finish (length (holdersOf (view t .k) m)) (looksOf (view t .k) m) (view t))))
 
 -- Each longest run of lines with the same holders, in rising order, where Holder p l says that p holds line l: the runs go from base to end, the lines of
 -- a run have the same holders, those of the next one have others, and deepest is the last name in the list of each line's holders.
@@ -146,14 +146,28 @@ pub record Changed (l : Ladder) (value second : ℕ) (c : List ℕ) : Type 1 whe
   -- vertical sharing, horizontal isolation of two different children, kernel data isolation, regions loaded only from own accessible blocks
   pub isolated : Isolated (view (handed c))
 
+-- How many slot words the search of p's record for line m looks at, in the table t: slots 0 up to the lowest whose entry has the line, empty ones counted,
+-- or 32 if none has it.
+pub data LooksAt (t : List ℕ) (m p : ℕ) : ℕ → Type 0 where
+  found : (i : ℕ) → Least 32 (λ j. (e : Entry) × (view t .k .slot p j ≡ some e) × In m e) i → LooksAt t m p (i + 1)
+  not-found : ((i : ℕ) → i < 32 → (e : Entry) × (view t .k .slot p i ≡ some e) × In m e → ⊥) → LooksAt t m p 32
+
+-- the sum of such searches, one for each of these names
+pub record Looked (t : List ℕ) (m : ℕ) (names : List ℕ) (sum : ℕ) : Type 0 where
+  pub words : ℕ → ℕ
+  pub looks : (p : ℕ) → LooksAt t m p (words p)
+  pub sum-is : sum ≡ sumOver words names
+  pub few : sum ≤ 512
+
 -- the holders, written into a list: the first bytes are their names, root first, each the parent of the next, each once, and no other list is so; the rest
--- stays
-pub record HoldersWritten (Holder : ℕ → Type 0) (up : ℕ → ℕ) (list : List ℕ) (number : ℕ) (after : List ℕ) : Type 0 where
+-- stays; and how far was looked for them in the table t
+pub record HoldersWritten (t : List ℕ) (m : ℕ) (Holder : ℕ → Type 0) (up : ℕ → ℕ) (list : List ℕ) (number second : ℕ) (after : List ℕ) : Type 0 where
   pub names : List ℕ
   pub listing : Lists Holder up names
   pub only : (hs : List ℕ) → Lists Holder up hs → hs ≡ names
   pub number-is : number ≡ length names
   pub bytes : after ≡ over names list
+  pub looked : Looked t m names second
 
 -- the runs, written into a list: likewise
 pub record RunsWritten (Runs : List Run → Type 0) (list : List Run) (number : ℕ) (after : List Run) : Type 0 where
@@ -193,7 +207,7 @@ pub record DemandTwo : Type 1 where
   pub calls : (base end : ℕ) {b : List ℕ} {r : ℕ} {c : List ℕ} → BootLent b base end r c → Accepted r → {g h : Ledger} {ws d : List ℕ} → Called c g ws d h
       → Isolated (view (handed d))
   pub holders : {b : List ℕ} {m : ℕ} {list : List ℕ} {s r : ℕ} {after : List ℕ} {s′ : ℕ} → ListLent b m list s r after s′ → Accepted r
-      → HoldersWritten (λ p. Holds (view (handed b) .k .slot) p m) (view (handed b) .k .parent) list (firstIn r) after × (s′ ≡ 0)
+      → HoldersWritten (handed b) m (λ p. Holds (view (handed b) .k .slot) p m) (view (handed b) .k .parent) list (firstIn r) s′ after
   pub runs : {b : List ℕ} {list : List Run} {r : ℕ} {after : List Run} → Handed b list r after → Accepted r
       → RunsWritten (TableRuns (handed b)) list (firstIn r) after
   pub packed-words : PackedWords
@@ -204,9 +218,9 @@ pub record DemandTwo : Type 1 where
 
 -- the ledger g of base to end says what holders and runs do, handed the table's bytes d
 pub record Tells (base end : ℕ) (g : Ledger) (d : List ℕ) : Type 0 where
-  -- a line of base to end: holders is done, with the ledger's names and their number
+  -- a line of base to end: holders is done, with the ledger's names, their number and the sum of their searches
   pub holders : {m : ℕ} {list : List ℕ} {s r : ℕ} {after : List ℕ} {s′ : ℕ} → ListLent d m list s r after s′ → base ≤ m → m < end → 16 ≤ length list
-      → Accepted r × HoldersWritten (λ p. g .stands p m ≡ true) (g .parent) list (firstIn r) after × (firstIn r ≡ count 16 (λ p. g .stands p m)) × (s′ ≡ 0)
+      → Accepted r × HoldersWritten (handed d) m (λ p. g .stands p m ≡ true) (g .parent) list (firstIn r) s′ after × (firstIn r ≡ count 16 (λ p. g .stands p m))
   -- two different children of one parent never stand for one line
   pub siblings : (m p q : ℕ) → (p ≡ 0 → ⊥) → (q ≡ 0 → ⊥) → g .parent p ≡ g .parent q → g .stands p m ≡ true → g .stands q m ≡ true → p ≡ q
   -- any other line: nobody stands for it, and holders refuses with 7

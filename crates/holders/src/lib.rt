@@ -1,59 +1,100 @@
 ghost use mathlib.Core.Path.{_≡_};
+ghost use mathlib.Core.Bool.{true};
 ghost use Prim.Native.Nat.{_≤_, _<_};
 ghost use lib.ListN.{length};
 ghost use Rattle.tables.specs.View.{view};
+ghost use Rattle.tables.specs.Search.{lookFor};
 ghost use Rattle.tables.specs.Top.{Top};
-ghost use Rattle.sound.specs.Holders.{heir, deepest, Listed, Writes};
+ghost use Rattle.sound.specs.Clauses.{sound};
+ghost use Rattle.sound.specs.Holders.{heir, deepest, looksOf, Listed, Writes};
 
-// Who holds a line: listed from the root down.
+// Who holds a line: listed from the root down; and how many slot words the searches for it looked at.
 use decide::is_sound;
 use tables::Found;
 use tables::Outcome;
 use words::Line;
 use words::Partition;
 
-// whom p gave its entry that holds the line; 0 is nobody
-fn heir(t: &[u64; 641], l: Line, p: Partition) -> Partition
-    requires { ⌜ p .0 < 16 ⌝ }
-    ensures { λ r. ⌜ (r .0 ≡ heir (view (now (t .entry)) .k) (l .0) (p .0)) × (r .0 < 16) ⌝ }
-{
-    let found = tables::search::holding_slot(t, p, l);
-    let Found::At(i) = found else {
-        return Partition(0);
-    };
-    let f = tables::read::entry(t, p, i);
-    if f.present {
-        return f.given;
-    }
-    Partition(0)
+// One step down: whom a partition gave its entry that holds the line (0 is nobody), and how many slot words the search looked at.
+struct Step {
+    heir: Partition,
+    count: u32,
 }
 
-// the deepest holder of the line: from the root down along what is given
-fn deepest_holder(t: &[u64; 641], l: Line) -> Partition
-    ensures { λ r. ⌜ (r .0 ≡ deepest (view (now (t .entry)) .k) (l .0) 0 15) × (r .0 < 16) ⌝ }
+// The way down at its end: the deepest holder, and the sum of the searches of all holders.
+struct Descent {
+    deepest: Partition,
+    count: u32,
+}
+
+// the step from p
+fn look(t: &[u64; 641], l: Line, p: Partition) -> Step
+    requires { ⌜ p .0 < 16 ⌝ }
+    ensures { λ r. ⌜ (r .heir .0 ≡ heir (view (now (t .entry)) .k) (l .0) (p .0)) × (r .heir .0 < 16) × (r .count ≡ lookFor (view (now (t .entry)) .k) (l .0) (p .0) .count) ⌝ }
+{
+    let looked = tables::search::holding_slot(t, p, l);
+    let count = looked.count;
+    let found = looked.found;
+    let Found::At(i) = found else {
+        return Step {
+            heir: Partition(0),
+            count: count,
+        };
+    };
+    let f = tables::read::entry(t, p, i);
+    let heir = f.given;
+    if f.present {
+        return Step {
+            heir: heir,
+            count: count,
+        };
+    }
+    Step {
+        heir: Partition(0),
+        count: count,
+    }
+}
+
+// From the root down along what is given. The deepest holder's own search is counted too: the one that finds no heir, or, 15 steps down, one more.
+fn descend(t: &[u64; 641], l: Line) -> Descent
+    requires { ⌜ sound (now t) ≡ true ⌝ }
+    ensures { λ r. ⌜ (r .deepest .0 ≡ deepest (view (now (t .entry)) .k) (l .0) 0 15) × (r .deepest .0 < 16) × (r .count ≡ looksOf (view (now (t .entry)) .k) (l .0)) ⌝ }
 {
     let mut p = Partition(0);
+    let mut count = 0u32;
     let mut left = 15u32;
     while left > 0 {
-        let g = heir(t, l, p);
-        if g.0 == 0 {
-            return p;
+        let step = look(t, l, p);
+        let sum = count + step.count;
+        let heir = step.heir;
+        if heir.0 == 0 {
+            return Descent {
+                deepest: p,
+                count: sum,
+            };
         }
-        p = g;
+        p = heir;
+        count = sum;
         left -= 1;
     }
-    p
+    let last = tables::search::holding_slot(t, p, l);
+    Descent {
+        deepest: p,
+        count: count + last.count,
+    }
 }
 
 // Writes the holders of a line of memory; the list has room for all.
-fn write_holders(t: &[u64; 641], l: Line, list: &mut [u8]) -> usize
-    requires { ⌜ 16 ≤ length (now list) ⌝ }
+fn write_holders(t: &[u64; 641], l: Line, list: &mut [u8]) -> Outcome
+    requires { ⌜ (sound (now t) ≡ true) × (16 ≤ length (now list)) ⌝ }
     ensures { λ r. ⌜ Writes (view (now (t .entry)) .k) (l .0) (now (list .entry)) r (now (list .exit)) ⌝ }
 {
-    let p = deepest_holder(t, l);
+    let d = descend(t, l);
+    let p = d.deepest;
     let mut way = 0u64;
     tables::climb::climb(t, p, 15, &mut way);
-    tables::climb::write_way(way, list)
+    let n = tables::climb::write_way(way, list);
+    Outcome::Done(n as u64, d.count as u64)
 }
 
 // Holders of a line of a table that stands in an array: `holders` without its length and its copy.
@@ -74,11 +115,11 @@ pub fn holders_table(t: &[u64; 641], top: u32, line: u64, list: &mut [u8]) -> Ou
     if list.len() < 16 {
         return Outcome::Refused(17);
     }
-    let n = write_holders(t, Line(line as u32), list);
-    Outcome::Done(n as u64, 0)
+    write_holders(t, Line(line as u32), list)
 }
 
-// The partitions with an entry that holds the line: their number, and their numbers in the first bytes, root first.
+// The partitions with an entry that holds the line: their number, and their numbers in the first bytes, root first. The second value is the
+// sum over them of the slot words that the search of each looked at, at most 512.
 // Refused: 1 not a sound table of 641 words, 7 a line outside base to end, 17 a list under 16 bytes.
 pub fn holders(t: &[u64], line: u64, list: &mut [u8]) -> Outcome
     ensures { λ r. ⌜ Listed (now (t .entry)) line (now (list .entry)) r (now (list .exit)) ⌝ }

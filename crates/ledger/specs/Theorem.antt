@@ -1,5 +1,5 @@
 -- DEMAND 3: a ledger kept by hand from an accepted boot always equals the listing of holders, for each line, after any list of calls.
-use mathlib.Core.Path.{_≡_, refl, sym}
+use mathlib.Core.Path.{_≡_, refl, ap, sym}
 use mathlib.Core.Bool.{true, false}
 use mathlib.Core.List.{List}
 use mathlib.Core.Logic.{Iff·symm}
@@ -18,7 +18,7 @@ use Rattle.sound.specs.Sound.{Sound}
 use Rattle.sound.specs.Laws.Core.{sound-core}
 use Rattle.sound.specs.Laws.Properties.{holder-present, held-range}
 use Rattle.sound.specs.Laws.List.{sound-means}
-use Rattle.sound.specs.Holders.{holdersOf, inMemory, Listed}
+use Rattle.sound.specs.Holders.{holdersOf, looksOf, inMemory, Listed}
 use Rattle.sound.specs.Laws.Holders.{below-base, from-end, in-memory, listed-one, listed-outside, listed-done}
 use Rattle.rules.specs.Rules.{done, bootOn}
 use Rattle.isolation.specs.Whole.{afterAll, from-boot-sound}
@@ -32,9 +32,9 @@ use Rattle.ledger.specs.Laws.Listing.{holders-list}
 pub record Demand3 (base end : ℕ) (g : Ledger) (t : List ℕ) : Type 0 where
   -- the partitions of the ledger for a line, and no other, are listed: root first, each in the ledger's tree the parent of the next, each once
   pub listing : (m : ℕ) → base ≤ m → m < end → Lists (λ p. g .stands p m ≡ true) (g .parent) (holdersOf (view t .k) m)
-  -- holders is done with their number, and the first bytes become their names
+  -- holders is done with their number and the sum of their searches, and the first bytes become their names
   pub answer : {m : ℕ} {before after : List ℕ} {r : Outcome} → base ≤ m → m < end → 16 ≤ length before → Listed t m before r after
-      → (r ≡ Done (count 16 (λ p. g .stands p m)) 0) × (after ≡ over (holdersOf (view t .k) m) before)
+      → (r ≡ Done (count 16 (λ p. g .stands p m)) (looksOf (view t .k) m)) × (after ≡ over (holdersOf (view t .k) m) before)
   -- a line that is not in base to end has nobody in the ledger, and is refused
   pub nobody : (p m : ℕ) → g .stands p m ≡ true → (base ≤ m) × (m < end)
   pub outside : {m : ℕ} {before after : List ℕ} {r : Outcome} → ((base ≤ m) × (m < end) → ⊥) → Listed t m before r after → (r ≡ Refused 7) × (after ≡ before)
@@ -66,7 +66,7 @@ module _ {base end : ℕ} {g : Ledger} {t : List ℕ} (h : Sound t) (s : Keeps b
     answer = λ {m} a b c x.
         let e = number m a b in
         let i = in-memory (view t .k) m (rw (s .base-is) a) (rw (s .end-is) b) in
-        listed-one x (listed-done (sound-means t .1 h) i c (record { number = sym e; bytes = refl; few = rw (← e) (lists m a b .few) }));
+        listed-one x (listed-done (sound-means t .1 h) i c (record { outcome = ap (λ (n : ℕ). Done n (looksOf (view t .k) m)) (sym e); bytes = refl }));
     nobody = λ p m q. rw (s .base-is, s .end-is) at (held-range (sound-core t h) (s .holders p m .0 q));
     outside = λ {m} n x. listed-one x (listed-outside (sound-means t .1 h) (not-in-memory m n));
   }

@@ -18,7 +18,7 @@ use Rattle.tables.specs.Update.{upd, upd1}
 use Rattle.tables.specs.View.{view}
 use Rattle.tables.specs.Encode.{encode, slotWord}
 use Rattle.tables.specs.Write.{withSlot, withArea, withCurrent}
-use Rattle.tables.specs.Search.{lowest, isSome, child, hasChild, absentChild, noStructure, free, holdsAt}
+use Rattle.tables.specs.Search.{lowest, isSome, child, hasChild, absentChild, noStructure, free, lookFor}
 use Rattle.tables.specs.Settle.{settle}
 use Rattle.sound.specs.Clauses.{sound, has, long, within, oneGrant}
 
@@ -214,7 +214,7 @@ readRegion t p r =
 unfoldable pub find : Table → ℕ → ℕ → Result
 find t p l =
     check 3 (ownOrChild (t .k) p)
-    (need 7 (lowest 32 (holdsAt (t .k) p l)) λ i.
+    (need 7 (lookFor (t .k) l p .slot) λ i.
     done i (slotWord (t .k .slot p i) (t .opened p i)) (settle (t .k) (t .region)))
 
 -- ── 13 switch: P parent or child; 3; current = P; 0, 0 ──

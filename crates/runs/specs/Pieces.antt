@@ -7,7 +7,7 @@ use Prim.Native.Nat.{ℕ, zero, suc, _+_, _≤_, _<_, min}
 use lib.Dec.{eqb}
 use Rattle.tables.specs.State.{Opt, none, some, Entry, K}
 use Rattle.tables.specs.Lines.{Holds}
-use Rattle.tables.specs.Search.{lowest, holdsAt}
+use Rattle.tables.specs.Search.{lookFor}
 use Rattle.sound.specs.Holders.{heir, deepest}
 use Rattle.runs.specs.declared.pieces.Hop.{Hop}
 use Rattle.runs.specs.Runs.{deepestAt}
@@ -22,7 +22,7 @@ endBy k l p none = l + 1
 endBy k l p (some i) = endOf l (k .slot p i)
 
 unfoldable pub endAt : K → ℕ → ℕ → ℕ
-endAt k l p = endBy k l p (lowest 32 (holdsAt k p l))
+endAt k l p = endBy k l p (lookFor k l p .slot)
 
 -- from p down along what is given, at most n steps: the lowest of b and these ends
 unfoldable pub nearest : K → ℕ → ℕ → ℕ → ℕ → ℕ

@@ -1,13 +1,13 @@
 -- Who holds a line: root first, each the parent of the next.
 use mathlib.Core.Path.{_≡_}
 use mathlib.Core.Bool.{Bool, cond, _&&_}
-use mathlib.Core.List.{List}
+use mathlib.Core.List.{List, [], _∷_}
 use lib.ListN.{length}
 use lib.Dec.{leb, ltb, eqb}
-use Prim.Native.Nat.{ℕ, zero, suc, _≤_}
+use Prim.Native.Nat.{ℕ, zero, suc, _+_}
 use Rattle.tables.specs.State.{Opt, none, some, Entry, K}
 use Rattle.tables.specs.View.{view}
-use Rattle.tables.specs.Search.{lowest, holdsAt}
+use Rattle.tables.specs.Search.{lookFor}
 use Rattle.tables.specs.WayUp.{wayUp, over}
 use Rattle.tables.specs.declared.Outcome.{Outcome}
 use Rattle.tables.specs.declared.Outcome.the-variants.{Done, Refused}
@@ -25,7 +25,7 @@ givenBy k p (some i) = receiver (k .slot p i)
 
 -- whom p gave its entry that holds line l
 unfoldable pub heir : K → ℕ → ℕ → ℕ
-heir k l p = givenBy k p (lowest 32 (holdsAt k p l))
+heir k l p = givenBy k p (lookFor k l p .slot)
 
 -- from p down along what is given, at most n steps: the deepest holder
 unfoldable pub deepest : K → ℕ → ℕ → ℕ → ℕ
@@ -39,24 +39,30 @@ trail k p n = wayUp (k .parent) n p
 unfoldable pub holdersOf : K → ℕ → List ℕ
 holdersOf k l = trail k (deepest k l 0 15) 15
 
+-- ── how far the listing looks: the sum over the holders, each of the search of its own record ──
+unfoldable pub sumOver : (ℕ → ℕ) → List ℕ → ℕ
+sumOver f [] = 0
+sumOver f (x ∷ xs) = f x + sumOver f xs
+
+unfoldable pub looksOf : K → ℕ → ℕ
+looksOf k l = sumOver (λ p. lookFor k l p .count) (holdersOf k l)
+
 -- ── what holders answers, and the bytes after it ──
 unfoldable pub inMemory : K → ℕ → Bool
 inMemory k l = leb (k .base) l && ltb l (k .stop)
 
 unfoldable pub holdersOutcome : List ℕ → ℕ → ℕ → Outcome
 holdersOutcome t l size =
-    cond (sound t) (cond (inMemory (view t .k) l) (cond (leb 16 size) (Done (length (holdersOf (view t .k) l)) 0) (Refused 17)) (Refused 7)) (Refused 1)
+    cond (sound t) (cond (inMemory (view t .k) l) (cond (leb 16 size) (Done (length (holdersOf (view t .k) l)) (looksOf (view t .k) l)) (Refused 17)) (Refused 7)) (Refused 1)
 
 unfoldable pub holdersBytes : List ℕ → ℕ → List ℕ → List ℕ
 holdersBytes t l bytes =
     cond (sound t) (cond (inMemory (view t .k) l) (cond (leb 16 (length bytes)) (over (holdersOf (view t .k) l) bytes) bytes) bytes) bytes
 
--- ── the exits of heir ──
 -- the holders of line l, written
-pub record Writes (k : K) (l : ℕ) (before : List ℕ) (r : ℕ) (after : List ℕ) : Type 0 where
-  pub number : r ≡ length (holdersOf k l)
+pub record Writes (k : K) (l : ℕ) (before : List ℕ) (r : Outcome) (after : List ℕ) : Type 0 where
+  pub outcome : r ≡ Done (length (holdersOf k l)) (looksOf k l)
   pub bytes : after ≡ over (holdersOf k l) before
-  pub few : r ≤ 16
 
 -- what holders promises: its outcome, and every byte of the list
 pub record Listed (t : List ℕ) (l : ℕ) (before : List ℕ) (r : Outcome) (after : List ℕ) : Type 0 where

@@ -15,3 +15,4 @@ pub mod Chain
 pub mod Whole
 pub mod Settled
 pub mod Holders
+pub mod Looks

@@ -58,3 +58,18 @@ holds l (some e) = leb (e .start) l && ltb l (e .stop)
 -- slot i of p holds line l
 abbrev pub holdsAt : K → ℕ → ℕ → ℕ → Bool
 holdsAt k p l i = holds l (k .slot p i)
+
+-- ── the search of one record for a line ──
+-- how many slot words it looked at: slots 0 up to the one found, empty ones counted, or 32 if none
+unfoldable pub lookedAt : Opt ℕ → ℕ
+lookedAt none = 32
+lookedAt (some i) = i + 1
+
+-- what it answers: the slot that was found, and that count
+pub record Looking : Type 0 where
+  pub slot : Opt ℕ
+  pub count : ℕ
+
+-- the search of p for line l: the lowest slot that holds it
+abbrev pub lookFor : K → ℕ → ℕ → Looking
+lookFor k l p = record { slot = lowest 32 (holdsAt k p l); count = lookedAt (lowest 32 (holdsAt k p l)) }

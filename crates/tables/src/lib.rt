@@ -22,6 +22,12 @@ pub enum Found {
     Nothing,
 }
 
+// What the search of a record for a line answers: the slot, and how many slot words it looked at.
+pub struct Looked {
+    pub found: Found,
+    pub count: u32,
+}
+
 // What a search for a partition answers.
 pub enum Which {
     Number(Partition),

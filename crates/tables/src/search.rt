@@ -3,9 +3,10 @@ ghost use Prim.Native.Nat.{_*_, _≤_, _<_};
 ghost use Rattle.loops.specs.Bit.{bitOf};
 ghost use Rattle.loops.specs.Map.{mapFrom, mapOf};
 ghost use Rattle.tables.specs.View.{view};
-ghost use Rattle.tables.specs.Search.{lowest, present, child, hasChild, absentChild, noStructure, isNone, free, holds, holdsAt};
-ghost use Rattle.tables.specs.Answers.{foundOf, whichOf, structureOf};
+ghost use Rattle.tables.specs.Search.{lowest, present, child, hasChild, absentChild, noStructure, isNone, free, holds, lookFor};
+ghost use Rattle.tables.specs.Answers.{foundOf, lookedOf, whichOf, structureOf};
 use crate::Found;
+use crate::Looked;
 use crate::Structure;
 use crate::Which;
 use words::Line;
@@ -148,17 +149,25 @@ fn holds_line(t: &[u64; 641], p: Partition, i: Slot, l: Line) -> bool
     l.0 < f.end.0
 }
 
-// the lowest slot of p whose entry holds the line
-pub fn holding_slot(t: &[u64; 641], p: Partition, l: Line) -> Found
+// The lowest slot of p whose entry holds the line, and how many slot words were looked at: slots 0 up to that one, those without an entry
+// and those of absent structures counted, or all 32 where none holds it.
+pub fn holding_slot(t: &[u64; 641], p: Partition, l: Line) -> Looked
     requires { ⌜ p .0 < 16 ⌝ }
-    ensures { λ r. ⌜ r ≡ foundOf (lowest 32 (holdsAt (view (now (t .entry)) .k) (p .0) (l .0))) ⌝ }
+    ensures { λ r. ⌜ r ≡ lookedOf (lookFor (view (now (t .entry)) .k) (l .0) (p .0)) ⌝ }
 {
     let mut s = 0u32;
     while s < 32 {
+        let looked = s + 1;
         if holds_line(t, p, Slot(s), l) {
-            return Found::At(Slot(s));
+            return Looked {
+                found: Found::At(Slot(s)),
+                count: looked,
+            };
         }
-        s += 1;
+        s = looked;
     }
-    Found::Nothing
+    Looked {
+        found: Found::Nothing,
+        count: 32,
+    }
 }

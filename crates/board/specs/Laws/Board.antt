@@ -24,7 +24,7 @@ use Rattle.sound.specs.Clauses.{sound}
 use Rattle.sound.specs.Laws.List.{sound-means}
 use Rattle.shape.specs.Laws.Absent.{header-tells}
 use Rattle.sound.specs.Laws.Holders.{wrong-length, holders-few, listed-unsound, listed-copy}
-use Rattle.sound.specs.Holders.{inMemory, holdersOf, holdersOutcome, Listed}
+use Rattle.sound.specs.Holders.{inMemory, holdersOf, looksOf, holdersOutcome, Listed}
 use Rattle.rules.specs.Rules.{Result, done, refused, check, callOn, bootK, bootOn, wordsAfter}
 use Rattle.rules.specs.Ran.{outcomeOf, Ran}
 use Rattle.rules.specs.Laws.Ran.{ran-refused, ran-as, refused-done, done-first, refused-number}
@@ -180,7 +180,7 @@ module _ (t : List ℕ) (l size : ℕ) where
   unfolding holdersOutcome
   holders-first {v} {w} q = go (sound t) (inMemory (view t .k) l) (leb 16 size) q
     where
-      go : (x y z : Bool) → cond x (cond y (cond z (Done (length (holdersOf (view t .k) l)) 0) (Refused 17)) (Refused 7)) (Refused 1) ≡ Done v w → v < 32
+      go : (x y z : Bool) → cond x (cond y (cond z (Done (length (holdersOf (view t .k) l)) (looksOf (view t .k) l)) (Refused 17)) (Refused 7)) (Refused 1) ≡ Done v w → v < 32
       go true true true q = let e = done-first q in omega (arith, holders-few (view t .k) l)
       go true true false q = absurd (refused-done q)
       go true false z q = absurd (refused-done q)
@@ -190,7 +190,7 @@ module _ (t : List ℕ) (l size : ℕ) where
   unfolding holdersOutcome
   holders-number {n} q = go (sound t) (inMemory (view t .k) l) (leb 16 size) q
     where
-      go : (x y z : Bool) → cond x (cond y (cond z (Done (length (holdersOf (view t .k) l)) 0) (Refused 17)) (Refused 7)) (Refused 1) ≡ Refused n → n < 18
+      go : (x y z : Bool) → cond x (cond y (cond z (Done (length (holdersOf (view t .k) l)) (looksOf (view t .k) l)) (Refused 17)) (Refused 7)) (Refused 1) ≡ Refused n → n < 18
       go true true true q = absurd (refused-done (sym q))
       go true true false q = let e = refused-number q in omega arith
       go true false z q = let e = refused-number q in omega arith

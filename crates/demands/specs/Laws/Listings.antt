@@ -1,6 +1,6 @@
 -- Holders and runs: each number of theirs exactly under its condition, for every table; and what they list.
 use mathlib.Core.Path.{_≡_, refl, sym, _∙_}
-use mathlib.Core.Bool.{Bool, true, false, cond}
+use mathlib.Core.Bool.{Bool, true, false, cond, false≢true}
 use mathlib.Core.List.{List}
 use mathlib.Core.Logic.{_↔_, Iff·trans, Iff·symm}
 use Prim.Native.Nat.{ℕ, suc, _-_, _≤_, _<_}
@@ -8,9 +8,11 @@ use native.Mathlib.Omega.{arith}
 use lib.Dec.{leb}
 use lib.ListN.{length}
 use borrow.Author.Tests.{leb-true, le-leb}
-use Rattle.tables.specs.State.{K, Table}
+use Rattle.tables.specs.State.{Opt, none, some, K, Table}
 use Rattle.tables.specs.View.{view}
 use Rattle.tables.specs.Lines.{Holds}
+use Rattle.tables.specs.Search.{lowest, holdsAt, lookedAt, lookFor}
+use Rattle.tables.specs.Laws.Search.{lowest-some, lowest-none}
 use Rattle.tables.specs.declared.Outcome.the-variants.{Done, Refused}
 use Rattle.tables.specs.WayUp.{over}
 use Rattle.sound.specs.Sound.{Sound}
@@ -18,7 +20,9 @@ use Rattle.sound.specs.Laws.Core.{sound-core}
 use Rattle.sound.specs.Clauses.{sound}
 use Rattle.sound.specs.Laws.Means.{le-means, lt-means, and-means}
 use Rattle.sound.specs.Laws.List.{sound-means}
-use Rattle.sound.specs.Holders.{holdersOf, inMemory, holdersOutcome, holdersBytes}
+use Rattle.sound.specs.Laws.MeansEntries.{holds-means}
+use Rattle.sound.specs.Laws.Looks.{looks-few}
+use Rattle.sound.specs.Holders.{holdersOf, looksOf, inMemory, holdersOutcome, holdersBytes}
 use Rattle.rules.specs.Rules.{Result, done, refused, check}
 use Rattle.rules.specs.Ran.{outcomeOf}
 use Rattle.isolation.specs.Ladder.{Answers, finished, Ends}
@@ -30,7 +34,7 @@ use Rattle.runs.specs.Laws.OneList.{longest-one}
 use Rattle.ledger.specs.Lists.{Lists, nth}
 use Rattle.ledger.specs.Laws.Lists.{lists-same, one-list}
 use Rattle.ledger.specs.Laws.Listing.{holders-list}
-use Rattle.demands.specs.Demands.{holdersLadder, LongestRuns, TableRuns, runsLadder}
+use Rattle.demands.specs.Demands.{holdersLadder, LooksAt, found, not-found, Looked, LongestRuns, TableRuns, runsLadder}
 
 -- ── the runs, where the holders' lists are known ──
 module _ {Holder : ℕ → ℕ → Type 0} {up : ℕ → ℕ} (k : K) (range : k .base < k .stop)
@@ -90,6 +94,26 @@ module _ {t : List ℕ} (s : Sound t) where
   pub table-runs-only : (rs : List Run) → TableRuns t rs → rs ≡ runsOf (view t .k)
   table-runs-only = runs-only (view t .k) (sound-core t s .s1) table-lists
 
+-- ── how far the listing of holders looks ──
+module _ (t : List ℕ) (m : ℕ) where
+  looks-at : (p : ℕ) → LooksAt t m p (lookFor (view t .k) m p .count)
+  unfolding lookedAt
+  looks-at p = go (lowest 32 (holdsAt (view t .k) p m)) refl
+    where
+      go : (o : Opt ℕ) → lowest 32 (holdsAt (view t .k) p m) ≡ o → LooksAt t m p (lookedAt o)
+      go none q = not-found (λ i b x. false≢true (sym (lowest-none 32 (holdsAt (view t .k) p m) q i b) ∙ holds-means m (view t .k .slot p i) .1 x))
+      go (some i) q =
+          let f = lowest-some 32 (holdsAt (view t .k) p m) i q in
+          found i (record {
+            below = f .below;
+            here = holds-means m (view t .k .slot p i) .0 (f .holds);
+            before = λ j b x. false≢true (sym (f .before j b) ∙ holds-means m (view t .k .slot p j) .1 x);
+          })
+
+  pub holders-looked : Looked t m (holdersOf (view t .k) m) (looksOf (view t .k) m)
+  unfolding looksOf
+  holders-looked = record { words = λ p. lookFor (view t .k) m p .count; looks = looks-at; sum-is = refl; few = looks-few (view t .k) m }
+
 -- what a list is afterwards: written when done, as before when refused
 abbrev pub leaves : {A : Type 0} → A → A → Result → A
 leaves before written (done v w t) = written
@@ -102,7 +126,7 @@ module _ (t : List ℕ) (m : ℕ) (list : List ℕ) where
       check 1 (sound t)
       (check 7 (inMemory (view t .k) m)
       (check 17 (leb 16 (length list))
-      (done (length (holdersOf (view t .k) m)) 0 (view t))))
+      (done (length (holdersOf (view t .k) m)) (looksOf (view t .k) m) (view t))))
 
   pub holders-exact : Answers (holdersLadder t m (length list)) holdersResult
   unfolding inMemory
@@ -115,21 +139,21 @@ module _ (t : List ℕ) (m : ℕ) (list : List ℕ) where
   pub holders-by : (holdersOutcome t m (length list) ≡ outcomeOf holdersResult)
       × (holdersBytes t m list ≡ leaves list (over (holdersOf (view t .k) m) list) holdersResult)
   unfolding holdersOutcome holdersBytes check outcomeOf
-  holders-by = go (sound t) (inMemory (view t .k) m) (leb 16 (length list)) (length (holdersOf (view t .k) m)) (over (holdersOf (view t .k) m) list)
+  holders-by = go (sound t) (inMemory (view t .k) m) (leb 16 (length list)) (length (holdersOf (view t .k) m)) (looksOf (view t .k) m) (over (holdersOf (view t .k) m) list)
     where
-      go : (x y z : Bool) (n : ℕ) (l : List ℕ)
-          → (cond x (cond y (cond z (Done n 0) (Refused 17)) (Refused 7)) (Refused 1) ≡ outcomeOf (check 1 x (check 7 y (check 17 z (done n 0 (view t))))))
-          × (cond x (cond y (cond z l list) list) list ≡ leaves list l (check 1 x (check 7 y (check 17 z (done n 0 (view t))))))
-      go true true true n l = (refl, refl)
-      go true true false n l = (refl, refl)
-      go true false z n l = (refl, refl)
-      go false y z n l = (refl, refl)
+      go : (x y z : Bool) (n s : ℕ) (l : List ℕ)
+          → (cond x (cond y (cond z (Done n s) (Refused 17)) (Refused 7)) (Refused 1) ≡ outcomeOf (check 1 x (check 7 y (check 17 z (done n s (view t))))))
+          × (cond x (cond y (cond z l list) list) list ≡ leaves list l (check 1 x (check 7 y (check 17 z (done n s (view t))))))
+      go true true true n s l = (refl, refl)
+      go true true false n s l = (refl, refl)
+      go true false z n s l = (refl, refl)
+      go false y z n s l = (refl, refl)
 
-  -- what is done was done of a sound table, with the number of holders
+  -- what is done was done of a sound table, with the number of holders and the sum of their searches
   pub holders-done : {v w : ℕ} {t′ : Table} → holdersResult ≡ done v w t′
-      → Sound t × ((view t .k .base ≤ m) × (m < view t .k .stop)) × (v ≡ length (holdersOf (view t .k) m)) × (w ≡ 0)
+      → Sound t × ((view t .k .base ≤ m) × (m < view t .k .stop)) × (v ≡ length (holdersOf (view t .k) m)) × (w ≡ looksOf (view t .k) m)
   unfolding Ends
-  holders-done = ends (λ v w _. Sound t × ((view t .k .base ≤ m) × (m < view t .k .stop)) × (v ≡ length (holdersOf (view t .k) m)) × (w ≡ 0)) holders-exact
+  holders-done = ends (λ v w _. Sound t × ((view t .k .base ≤ m) × (m < view t .k .stop)) × (v ≡ length (holdersOf (view t .k) m)) × (w ≡ looksOf (view t .k) m)) holders-exact
       (λ s i _. (s, i, refl, refl))
 
 -- ── runs: 1, 17 ──

@@ -30,7 +30,7 @@ use Rattle.demands.specs.Demands.{refusalIn, firstIn, Accepted, Answered
 use Rattle.demands.specs.Laws.Lowest.{past, none-left}
 use Rattle.demands.specs.Laws.Rising.{holders-rises, runs-rises}
 use Rattle.demands.specs.Laws.Results.{reads-back, answered, accepted-done}
-use Rattle.demands.specs.Laws.Listings.{runs-are, runs-only, table-lists, table-runs, table-runs-only, leaves, holdersResult, holders-exact, holders-by, holders-done, runsResult, runs-exact, runs-by, runs-done}
+use Rattle.demands.specs.Laws.Listings.{runs-are, runs-only, table-lists, table-runs, table-runs-only, holders-looked, leaves, holdersResult, holders-exact, holders-by, holders-done, runsResult, runs-exact, runs-by, runs-done}
 
 nobody-calls : 0 < 2 ^ 8
 nobody-calls = omega arith
@@ -63,22 +63,21 @@ module _ {b : List ℕ} {m : ℕ} {list : List ℕ} {s r : ℕ} {after : List �
 
   -- done: the number and every byte, where the names are those of a listing
   pub holders-told : Accepted r → {Holder : ℕ → Type 0} {up : ℕ → ℕ} → (Sound (handed b) → k .base ≤ m → m < k .stop → Lists Holder up (holdersOf k m))
-      → HoldersWritten Holder up list (firstIn r) after × (s′ ≡ 0)
+      → HoldersWritten (handed b) m Holder up list (firstIn r) s′ after
   unfolding secondAfter outcomeOf
   holders-told q lists =
       let (w, t, z) = accepted-done (holders-rises (handed b) m (length list)) nobody-calls result (holders-exact (handed b) m list) word q in
-      let (f, (i, j), v, y) = holders-done (handed b) m list z in (
-        record {
-          names = holdersOf k m;
-          listing = lists f i j;
-          only = λ hs x. one-list x (lists f i j);
-          number-is = v;
-          bytes = bytes-by ∙ ap (leaves list (over (holdersOf k m) list)) z;
-        },
-        second-by ∙ ap (λ (x : Result). secondAfter s (outcomeOf x)) z ∙ y,
-      )
+      let (f, (i, j), v, y) = holders-done (handed b) m list z in
+      record {
+        names = holdersOf k m;
+        listing = lists f i j;
+        only = λ hs x. one-list x (lists f i j);
+        number-is = v;
+        bytes = bytes-by ∙ ap (leaves list (over (holdersOf k m) list)) z;
+        looked = rw (second-by ∙ ap (λ (x : Result). secondAfter s (outcomeOf x)) z ∙ y) (holders-looked (handed b) m);
+      }
 
-  pub holders-written : Accepted r → HoldersWritten (λ p. Holds (k .slot) p m) (k .parent) list (firstIn r) after × (s′ ≡ 0)
+  pub holders-written : Accepted r → HoldersWritten (handed b) m (λ p. Holds (k .slot) p m) (k .parent) list (firstIn r) s′ after
   holders-written q = holders-told q (λ f. table-lists f m)
 
 -- ── runs ──
@@ -169,8 +168,7 @@ module _ {base end : ℕ} {g : Ledger} (d : List ℕ) (f : Sound (handed d)) (kn
         let e = h .result ∙ ap (resultOf 0) o in
         let (i, _, j) = reads-back 0 0 (count 16 (λ p. g .stands p m)) (omega arith) (omega arith) in
         let q : Accepted r = rw e i in
-        let (u, v) = holders-told h q (λ _ _ _. known .listing m a b) in
-        (q, u, rw e j, v);
+        (q, holders-told h q (λ _ _ _. known .listing m a b), rw e j);
     siblings = λ m p q a b u i j.
         let (x, y) = known .nobody p m i in
         let w = known .listing m x y in

@@ -20,6 +20,6 @@ holders-table-spec =
     (λ c. let f = c .before .before .before .before .first .ensures in listed-outside (passed (c .before .before .before .before .before .before .is-sound .ensures) (c .before .before .before .before .before .if1 .left)) (from-end _ _ (omega arith) (omega arith)))
     (λ c. let f = c .before .before .before .before .before .first .ensures in listed-short (passed (c .before .before .before .before .before .before .before .is-sound .ensures) (c .before .before .before .before .before .before .if1 .left)) (in-memory _ _ (omega arith) (omega arith)) (omega arith))
     (λ c. search needs)
-    (λ c κs. search needs)
+    (λ c κs. (passed (c .before .before .before .before .before .before .before .before .is-sound .ensures) (c .before .before .before .before .before .before .before .if1 .left), omega arith))
     (λ c. search needs)
     (λ c. let f = c .before .before .before .before .before .before .before .before .before .first .ensures in listed-done (passed (c .before .before .before .before .before .before .before .before .before .before .before .is-sound .ensures) (c .before .before .before .before .before .before .before .before .before .before .if1 .left)) (in-memory _ _ (omega arith) (omega arith)) (omega arith) (c .before .before .write-holders .ensures)))

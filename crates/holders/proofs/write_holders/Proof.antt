@@ -7,12 +7,13 @@ pub write-holders-spec : {M : Type 1} → statement M
 write-holders-spec =
     tie.close
     (tie.spec
+    (λ c κs. c .before .pre .0)
     (λ c κs. search needs)
-    (λ c κs. search needs)
-    (λ c κs. search needs)
+    (λ c κs. c .before .before .before .before .before .before .pre .1)
+    (λ c. search needs)
     (λ c. search needs)
     (λ c.
-    let d = c .before .before in
+    let d = c .before .before .before in
     let e = d .before .before in
-    let p = e .before .before .deepest-holder .ensures in
-    writes-from _ (p .0) (p .1) (e .climb .ensures .names) (d .write-way .ensures)))
+    let p = e .before .before .before .descend .ensures in
+    writes-from _ (p .0) (p .1) (e .climb .ensures .names) (d .write-way .ensures) (p .2)))

@@ -1,5 +1,5 @@
 -- The exits of the descent to the deepest holder, and of holders; there are at most 16; and two results are equal.
-use mathlib.Core.Path.{_≡_, refl, ap, sym, subst, _∙_}
+use mathlib.Core.Path.{_≡_, refl, ap, ap₂, sym, subst, _∙_}
 use mathlib.Core.Bool.{Bool, true, false}
 use mathlib.Core.List.{List}
 use lib.ListN.{length}
@@ -16,7 +16,7 @@ use Rattle.tables.specs.declared.Outcome.{Outcome}
 use Rattle.tables.specs.declared.Outcome.the-variants.{Done, Refused}
 use Rattle.sound.specs.Clauses.{sound}
 use Rattle.sound.specs.Laws.List.{sound-means}
-use Rattle.sound.specs.Holders.{receiver, givenBy, heir, deepest, trail, holdersOf, inMemory, holdersOutcome, holdersBytes, Writes, Listed}
+use Rattle.sound.specs.Holders.{receiver, givenBy, heir, deepest, trail, holdersOf, looksOf, inMemory, holdersOutcome, holdersBytes, Writes, Listed}
 
 -- ── the exits of the descent ──
 module _ (k : K) (l p n : ℕ) where
@@ -58,30 +58,23 @@ module _ (k : K) (l p : ℕ) where
   unfolding heir givenBy receiver entryIn
   heir-empty i f q e h = rw (q, e, h) refl
 
--- at p with so many steps left, the descent comes to the same partition as from the root
-pub record Descending (k : K) (l p left : ℕ) : Type 0 where
-  pub within : left ≤ 15
-  pub small : p < 16
-  pub comes : deepest k l p left ≡ deepest k l 0 15
-
 -- there are at most 16
 pub holders-few : (k : K) (l : ℕ) → length (holdersOf k l) ≤ 16
 unfolding holdersOf trail
 holders-few k l = way-few (k .parent) 15 (deepest k l 0 15)
 
-pub writes-one : {k : K} {l : ℕ} {before : List ℕ} {r s : ℕ} {a b : List ℕ} → Writes k l before r a → Writes k l before s b → (r ≡ s) × (a ≡ b)
-writes-one x y = (x .number ∙ sym (y .number), x .bytes ∙ sym (y .bytes))
+pub writes-one : {k : K} {l : ℕ} {before : List ℕ} {r s : Outcome} {a b : List ℕ} → Writes k l before r a → Writes k l before s b → (r ≡ s) × (a ≡ b)
+writes-one x y = (x .outcome ∙ sym (y .outcome), x .bytes ∙ sym (y .bytes))
 
--- .. from the climb of the deepest, which the word w tells
-pub writes-from : (t : List ℕ) {l p w r : ℕ} {before after : List ℕ} → p ≡ deepest (view t .k) l 0 15 → p < 16
-    → w ≡ digits (wayUp (view t .k .parent) 15 p) 0 → WayWritten w before r after → Writes (view t .k) l before r after
+-- .. from the climb of the deepest, which the word w tells, and the sum of the searches
+pub writes-from : (t : List ℕ) {l p w r c : ℕ} {before after : List ℕ} → p ≡ deepest (view t .k) l 0 15 → p < 16
+    → w ≡ digits (wayUp (view t .k .parent) 15 p) 0 → WayWritten w before r after → c ≡ looksOf (view t .k) l → Writes (view t .k) l before (Done r c) after
 unfolding holdersOf trail
-writes-from t {l} {p} {w} {r} {before} q b u h =
+writes-from t {l} {p} {w} {r} {c} {before} q b u h s =
     let e : wayIn w ≡ holdersOf (view t .k) l = ap wayIn u ∙ way-told t 15 p b (omega arith) (omega arith) ∙ ap (λ (x : ℕ). trail (view t .k) x 15) q in
     record {
-      number = h .number ∙ ap length e;
+      outcome = ap₂ Done (h .number ∙ ap length e) s;
       bytes = h .bytes ∙ ap (λ (hs : List ℕ). over hs before) e;
-      few = omega (arith, h .number, ap length e, holders-few (view t .k) l);
     }
 
 -- two results are equal: the outcome, and every byte of the list
@@ -102,10 +95,10 @@ module _ {t : List ℕ} {l : ℕ} {before : List ℕ} where
   unfolding holdersOutcome holdersBytes
   listed-short q n h = record { outcome = rw (q, n, lt-leb 16 (length before) h) refl; bytes = rw (q, n, lt-leb 16 (length before) h) refl }
 
-  pub listed-done : {r : ℕ} {after : List ℕ} → sound t ≡ true → inMemory (view t .k) l ≡ true → 16 ≤ length before → Writes (view t .k) l before r after → Listed t l before (Done r 0) after
+  pub listed-done : {r : Outcome} {after : List ℕ} → sound t ≡ true → inMemory (view t .k) l ≡ true → 16 ≤ length before → Writes (view t .k) l before r after → Listed t l before r after
   unfolding holdersOutcome holdersBytes
   listed-done q n h w = record {
-    outcome = rw (q, n, le-leb 16 (length before) h) (ap (λ (x : ℕ). Done x 0) (w .number));
+    outcome = rw (q, n, le-leb 16 (length before) h) (w .outcome);
     bytes = rw (q, n, le-leb 16 (length before) h) (w .bytes);
   }
 

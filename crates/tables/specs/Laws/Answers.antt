@@ -4,11 +4,13 @@ use Prim.Native.Nat.{ℕ}
 use Rattle.tables.specs.State.{Opt, none, some}
 use Rattle.tables.specs.declared.Found.{Found}
 use Rattle.tables.specs.declared.Found.the-variants.{At, Nothing}
+use Rattle.tables.specs.declared.Looked.{Looked}
 use Rattle.tables.specs.declared.Structure.{Structure}
 use Rattle.tables.specs.declared.Structure.the-variants.{Index, Full}
 use Rattle.tables.specs.declared.Which.{Which}
 use Rattle.tables.specs.declared.Which.the-variants.{Number, Nobody}
-use Rattle.tables.specs.Answers.{foundOf, whichOf, structureOf}
+use Rattle.tables.specs.Search.{Looking}
+use Rattle.tables.specs.Answers.{foundOf, lookedOf, whichOf, structureOf}
 
 -- what has a way back is told by its value
 told : {A B : Type 0} {f : A → B} (back : B → A) → ((a : A) → back (f a) ≡ a) → (a : A) {b : B} → b ≡ f a → a ≡ back b
@@ -27,6 +29,16 @@ found-is = told foundIn back
     back : (o : Opt ℕ) → foundIn (foundOf o) ≡ o
     back none = refl
     back (some i) = refl
+
+-- .. and the count
+module _ (o : Looking) {r : Looked} (q : r ≡ lookedOf o) where
+  pub looked-slot : {f : Found} → r .found ≡ f → o .slot ≡ foundIn f
+  unfolding lookedOf
+  looked-slot z = found-is (o .slot) (ap (λ (x : Looked). x .found) q) ∙ ap foundIn z
+
+  pub looked-count : r .count ≡ o .count
+  unfolding lookedOf
+  looked-count = ap (λ (x : Looked). x .count) q
 
 -- ── a partition ──
 abbrev pub whichIn : Which → Opt ℕ

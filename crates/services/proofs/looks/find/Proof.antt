@@ -1,7 +1,7 @@
 use mathlib.Core.Path.{sym, _∙_}
 use borrow.Author.Tests.{not-true, not-false}
 use Rattle.tables.specs.Laws.Search.{lowest-some}
-use Rattle.tables.specs.Laws.Answers.{found-is}
+use Rattle.tables.specs.Laws.Answers.{looked-slot}
 use Rattle.tables.specs.Laws.Encode.{canon-is}
 use Rattle.sound.specs.Laws.Settled.{right-settled, settled-words}
 use Rattle.rules.specs.Rules.{find}
@@ -20,7 +20,7 @@ find-spec =
     (λ c κs. search needs)
     (λ c. search needs)
     (λ c. search needs)
-    (λ c. ran-refused (pass 3 (sym (c .before .before .before .before .own-or-child .ensures) ∙ not-false _ (c .before .before .before .if1 .left)) (missing 7 _ (found-is _ (sym (c .enum-told .given .1) ∙ c .before .before .holding-slot .ensures)))))
-    (λ c κs. record { canon = c .before .before .before .before .before .before .pre .0; inP = c .before .before .before .before .before .before .pre .1; inI = lowest-some 32 _ _ (found-is _ (sym (c .before .found .given .1) ∙ c .before .before .before .holding-slot .ensures)) .below })
+    (λ c. ran-refused (pass 3 (sym (c .before .before .before .before .own-or-child .ensures) ∙ not-false _ (c .before .before .before .if1 .left)) (missing 7 _ (looked-slot _ (c .before .before .holding-slot .ensures) (c .enum-told .given .1)))))
+    (λ c κs. record { canon = c .before .before .before .before .before .before .pre .0; inP = c .before .before .before .before .before .before .pre .1; inI = lowest-some 32 _ _ (looked-slot _ (c .before .before .before .holding-slot .ensures) (c .before .found .given .1)) .below })
     (λ c. search needs)
-    (λ c. ran-done (pass 3 (sym (c .before .before .before .before .before .before .before .own-or-child .ensures) ∙ not-false _ (c .before .before .before .before .before .before .if1 .left)) (there 7 _ _ (found-is _ (sym (c .before .before .before .found .given .1) ∙ c .before .before .before .before .before .holding-slot .ensures)) (second-is (sym (c .before .entry-word .ensures))))) (settled-words (canon-is (c .before .before .before .before .before .before .before .before .pre .0)) (right-settled (c .before .before .before .before .before .before .before .before .pre .2)))))
+    (λ c. ran-done (pass 3 (sym (c .before .before .before .before .before .before .before .own-or-child .ensures) ∙ not-false _ (c .before .before .before .before .before .before .if1 .left)) (there 7 _ _ (looked-slot _ (c .before .before .before .before .before .holding-slot .ensures) (c .before .before .before .found .given .1)) (second-is (sym (c .before .entry-word .ensures))))) (settled-words (canon-is (c .before .before .before .before .before .before .before .before .pre .0)) (right-settled (c .before .before .before .before .before .before .before .before .pre .2)))))

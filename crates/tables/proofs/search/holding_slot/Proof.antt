@@ -1,14 +1,20 @@
 use mathlib.Core.Path.{ap, sym, _∙_}
 use Prim.Native.Nat.{_-_}
 use Rattle.loops.specs.Laws.Scan.{Seeking, seek-start, seek-hit, seek-on, seek-end}
-use Rattle.tables.specs.State.{none, some}
+use Rattle.tables.specs.State.{Opt, none, some}
 use Rattle.tables.specs.View.{view}
-use Rattle.tables.specs.Search.{lowest, holdsAt}
-use Rattle.tables.specs.Answers.{foundOf}
+use Prim.Native.Nat.{ℕ}
+use Rattle.tables.specs.Search.{lowest, holdsAt, lookedAt}
+use Rattle.tables.specs.Answers.{foundOf, lookedOf}
+use Rattle.tables.specs.declared.Looked.{Looked}
 use native.Mathlib.Omega.{arith}
 use borrow.Author.Needs.{needs}
 use Rattle.tables.proofs.search.holding_slot.Statement.{statement}
 use Rattle.tables.proofs.search.holding_slot.Tie as tie
+
+-- the answer, by the slot
+abbrev answer : Opt ℕ → Looked
+answer o = lookedOf (record { slot = o; count = lookedAt o })
 
 abbrev Inv-loop : tie.InvT-loop
 Inv-loop t p l s₀ s = Seeking (holdsAt (view t .k) (p .0) (l .0)) some none 32 s
@@ -17,16 +23,16 @@ abbrev μ-loop : tie.MeasureT-loop
 μ-loop t p l s₀ s = 32 - s
 
 pub holding-slot-spec : {M : Type 1} → statement M
-unfolding lowest foundOf
+unfolding lowest foundOf lookedAt lookedOf
 holding-slot-spec =
     tie.close
     (tie.spec
     Inv-loop
     μ-loop
     (λ c. seek-start)
-    (λ c κs. search needs)
-    (λ c. ap foundOf (seek-hit (c .before .before .before .loop .inv) (omega arith) (sym (c .before .holds-line .ensures) ∙ c .if1 .taken)))
     (λ c. search needs)
+    (λ c κs. search needs)
+    (λ c. ap answer (seek-hit (c .before .before .before .loop .inv) (omega arith) (sym (c .before .holds-line .ensures) ∙ c .if1 .taken)))
     (λ c. search needs)
     (λ c. seek-on (c .before .before .before .loop .inv) (omega arith) (sym (c .before .holds-line .ensures) ∙ c .if1 .left))
-    (λ c. ap foundOf (seek-end (c .before .loop .inv) (omega arith))))
+    (λ c. ap answer (seek-end (c .before .loop .inv) (omega arith))))
