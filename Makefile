@@ -1,11 +1,11 @@
 # make test:    the one test command. It proves every crate and runs the host tests; its last line is 'N passed, M failed'.
 # make run:     runs the program tally on the session that document 01 prints; SESSION=file on another.
 # make lib:     proves the library and puts it, with its header, into build/.
-# make example: builds and runs examples/handset.c with it.
+# make example: builds and runs examples/handset.c with it; make lines: examples/lines.c.
 # make bench:   the library against the second program, as quotients of their times, where x86-64 is only emulated also of their instructions.
 # make arm, arm-run, arm-bench: the library for Cortex-M, the example on an emulated board, instructions counted there (arm/arm.mk).
 # make soak:    compares the library with the second program for MINUTES=10 from SEED=1 on, memory checked.
-.PHONY: test run lib example bench soak
+.PHONY: test run lib example lines bench soak
 
 test:
 	@tests/gate
@@ -28,6 +28,9 @@ build/ulavrepit.h: include/ulavrepit.h
 
 example: lib
 	@bash -c '. tests/lib.sh && target_cc -std=c99 -O2 -Ibuild -o build/handset examples/handset.c build/libulavrepit.a && run_x86 build/handset'
+
+lines: lib
+	@bash -c '. tests/lib.sh && target_cc -std=c99 -O2 -Ibuild -o build/lines examples/lines.c build/libulavrepit.a && run_x86 build/lines'
 
 bench: lib
 	@bench/run

@@ -77,7 +77,7 @@ FNR == 1 {
     # C finds its arguments and its answer in the same registers only for these types.
     text = $0
     gsub(/ noundef| %a[0-9]+/, "", text)
-    if (text !~ /^define i64 @ulavrepit_[a-z]+\(((ptr|i64)(, )?)*\) #[0-9]+ \{$/) refuse("another type than i64 and pointers in a function for C")
+    if (text !~ /^define i64 @ulavrepit_[a-z_]+\(((ptr|i64)(, )?)*\) #[0-9]+ \{$/) refuse("another type than i64 and pointers in a function for C")
     for (i = 1; i <= count; i++) if (kind_taken(f, i) != "plain") refuse("a pointer in memory of C")
     next
 }

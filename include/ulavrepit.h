@@ -28,7 +28,8 @@ enum {
     ULAVREPIT_AREA_LINES = 16,       /* a block that is to serve the kernel has so many lines or more */
     ULAVREPIT_HOLDERS_BYTES = 16,    /* a list for holders has so many bytes or more */
     ULAVREPIT_RUNS = 512,            /* no sound table has more runs */
-    ULAVREPIT_LOOKS = 512            /* no listing of holders looks at more slot words */
+    ULAVREPIT_LOOKS = 512,           /* no listing of holders looks at more slot words */
+    ULAVREPIT_ENGINE_LINES = 2048    /* the line engine takes memory of so many lines or fewer */
 };
 
 /* Rights of an entry, to be added up. */
@@ -71,7 +72,8 @@ enum {
     ULAVREPIT_REFUSED_IN_PIECES = 14,     /* the child has no open, not-given entry of exactly that range */
     ULAVREPIT_REFUSED_IN_USE = 15,        /* P has a child; the structure has an entry, or is the root's first */
     ULAVREPIT_REFUSED_REGION = 16,        /* T above 7; S already in another region */
-    ULAVREPIT_REFUSED_LIST = 17           /* the list is too short */
+    ULAVREPIT_REFUSED_LIST = 17,          /* the list is too short */
+    ULAVREPIT_REFUSED_ENGINE = 21         /* the line engine alone gives it, and no other number */
 };
 
 /* ---- the library ---- */
@@ -112,6 +114,39 @@ typedef struct {
  * length is counted in records; those past them stay. First is n.
  */
 uint64_t ulavrepit_runs(const uint8_t *table, uint64_t table_len, ulavrepit_run *list, uint64_t list_len);
+
+/* ---- the line engine ---- */
+
+/*
+ * Who holds which line once more, in the plainest way: n masks of 16 bits, which you lend. Mask i is that of line
+ * base + i, its bit p says whether partition p holds it; masks past the lines of base to end stay. It knows nothing of
+ * slots. Drive it by what ulavrepit_call accepts: then each mask names exactly the partitions that holders lists.
+ * docs/LINES.md has it in one page.
+ *
+ * Each answers 0, or 21 and writes nothing: if base is not below end, the lines are more than 2,048, the masks are
+ * fewer than the lines, a child is not 1 to 15, or not base <= from < to <= end. Of members, bit 0 and the bits from 16
+ * on must be clear, else 21; 0 is done and changes nothing.
+ *
+ * Child, lines and members are to be known before the call: once it is accepted, the given of the entry that take
+ * names is 0, and the records of those who go by delete or clear out are zero.
+ */
+
+/* Boot: the root alone holds every line. */
+uint64_t ulavrepit_engine_start(uint16_t *masks, uint64_t n, uint64_t base, uint64_t end);
+
+/* Give: the child holds the lines of the entry too, from to to, to excluded. */
+uint64_t ulavrepit_engine_give(uint16_t *masks, uint64_t n, uint64_t base, uint64_t end, uint64_t child, uint64_t from,
+                               uint64_t to);
+
+/* Take: the child that had them, the given of the entry before the call, holds its lines no more. */
+uint64_t ulavrepit_engine_take(uint16_t *masks, uint64_t n, uint64_t base, uint64_t end, uint64_t child, uint64_t from,
+                               uint64_t to);
+
+/*
+ * Delete and clear out: who goes holds no line. Bit p of members is partition p: of delete P alone, of clear out P and
+ * every partition below it, by the parents before the call.
+ */
+uint64_t ulavrepit_engine_strike(uint16_t *masks, uint64_t n, uint64_t base, uint64_t end, uint64_t members);
 
 /* ---- the same, with a struct for an answer ---- */
 

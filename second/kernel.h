@@ -27,7 +27,8 @@ enum {
     SECOND_LAST_LINE = 134217727,
     SECOND_AREA_LINES = 16, /* an area has so many lines or more */
     SECOND_HOLDERS = 16,    /* a buffer for holders has so many bytes or more */
-    SECOND_RUNS = 512       /* no sound table has more runs */
+    SECOND_RUNS = 512,      /* no sound table has more runs */
+    SECOND_ENGINE_LINES = 2048
 };
 
 typedef struct {
@@ -40,6 +41,12 @@ uint64_t second_holders(const uint8_t *table, uint64_t table_len, uint64_t line,
                         uint8_t *list, uint64_t list_len, uint64_t *second);
 uint64_t second_runs(const uint8_t *table, uint64_t table_len,
                      second_run *list, uint64_t list_len);
+
+/* The ledger by masks, bit p for partition p, one a line: 0, or refused 21 and nothing is written. */
+uint64_t second_engine_start(uint16_t *masks, uint64_t n, uint64_t base, uint64_t end);
+uint64_t second_engine_give(uint16_t *masks, uint64_t n, uint64_t base, uint64_t end, uint64_t child, uint64_t from, uint64_t to);
+uint64_t second_engine_take(uint16_t *masks, uint64_t n, uint64_t base, uint64_t end, uint64_t child, uint64_t from, uint64_t to);
+uint64_t second_engine_strike(uint16_t *masks, uint64_t n, uint64_t base, uint64_t end, uint64_t members);
 
 /* ---- For tests: the table read into plain structs, and its soundness. ---- */
 

@@ -1884,6 +1884,51 @@ static void test_generated(void)
     check(most_removed >= 5, "branches of five partitions were cleared out");
 }
 
+/* ---- The line engine, request 110. ---- */
+
+static uint16_t masks[SECOND_ENGINE_LINES + 8];
+
+static void paint_masks(void)
+{
+    for (unsigned i = 0; i < SECOND_ENGINE_LINES + 8; i++)
+        masks[i] = 0xa5a5;
+}
+
+static bool masks_are(unsigned from, unsigned to, uint16_t mask)
+{
+    bool good = true;
+    for (unsigned i = from; i < to; i++)
+        good = good && masks[i] == mask;
+    return good;
+}
+
+static void test_engine(void)
+{
+    const uint64_t most = UINT64_C(0xffffffffffffffff);
+    paint_masks();
+    check(second_engine_start(masks, 8, 5, 5) == 21 && second_engine_start(masks, 8, 6, 5) == 21 &&
+              second_engine_start(masks, 8, 0, 9) == 21 && second_engine_start(masks, 2056, 0, 2049) == 21 &&
+              second_engine_start(masks, 8, 0, most) == 21 && masks_are(0, 2056, 0xa5a5),
+          "engine: 21 for memory that it doesn't take, nothing written");
+    check(second_engine_start(masks, 2056, most - 2048, most) == 0 && masks_are(0, 2048, 1) && masks_are(2048, 2056, 0xa5a5),
+          "engine: start takes 2,048 lines anywhere, masks past them stay");
+    paint_masks();
+    check(second_engine_start(masks, 10, 100, 108) == 0 && second_engine_give(masks, 10, 100, 108, 3, 102, 105) == 0 &&
+              second_engine_give(masks, 10, 100, 108, 15, 104, 108) == 0 && masks_are(0, 2, 1) && masks_are(2, 4, 9) &&
+              masks[4] == 0x8009 && masks_are(5, 8, 0x8001) && masks_are(8, 10, 0xa5a5),
+          "engine: give enters the child from to to, to excluded");
+    check(second_engine_give(masks, 10, 100, 108, 0, 102, 105) == 21 && second_engine_give(masks, 10, 100, 108, 16, 102, 105) == 21 &&
+              second_engine_take(masks, 10, 100, 108, 3, 105, 105) == 21 && second_engine_take(masks, 10, 100, 108, 3, 99, 105) == 21 &&
+              second_engine_take(masks, 10, 100, 108, 3, 102, 109) == 21 && second_engine_strike(masks, 10, 100, 108, 1) == 21 &&
+              second_engine_strike(masks, 10, 100, 108, 0x10000) == 21 && second_engine_strike(masks, 7, 100, 108, 8) == 21 &&
+              masks_are(2, 4, 9) && masks_are(5, 8, 0x8001),
+          "engine: 21 for a child that isn't 1 to 15 and for no block of that memory");
+    check(second_engine_take(masks, 10, 100, 108, 3, 102, 104) == 0 && masks_are(0, 4, 1) && masks[4] == 0x8009 &&
+              second_engine_strike(masks, 10, 100, 108, 0) == 0 && masks[4] == 0x8009 &&
+              second_engine_strike(masks, 10, 100, 108, 0x8008) == 0 && masks_are(0, 8, 1) && masks_are(8, 10, 0xa5a5),
+          "engine: take and strike clear, all members at once");
+}
+
 int main(void)
 {
     test_tally();
@@ -1903,6 +1948,7 @@ int main(void)
     test_how_far();
     test_clauses();
     test_generated();
+    test_engine();
     printf("%u passed, %u failed\n", passed, failed);
     return failed == 0 ? 0 : 1;
 }

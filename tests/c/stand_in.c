@@ -25,3 +25,23 @@ uint64_t ulavrepit_runs(const uint8_t *table, uint64_t table_len, ulavrepit_run 
 {
     return second_runs(table, table_len, (second_run *)list, list_len);
 }
+
+uint64_t ulavrepit_engine_start(uint16_t *masks, uint64_t n, uint64_t base, uint64_t end)
+{
+    return second_engine_start(masks, n, base, end);
+}
+
+uint64_t ulavrepit_engine_give(uint16_t *masks, uint64_t n, uint64_t base, uint64_t end, uint64_t child, uint64_t from, uint64_t to)
+{
+    return second_engine_give(masks, n, base, end, child, from, to);
+}
+
+uint64_t ulavrepit_engine_take(uint16_t *masks, uint64_t n, uint64_t base, uint64_t end, uint64_t child, uint64_t from, uint64_t to)
+{
+    return second_engine_take(masks, n, base, end, child, from, to);
+}
+
+uint64_t ulavrepit_engine_strike(uint16_t *masks, uint64_t n, uint64_t base, uint64_t end, uint64_t members)
+{
+    return second_engine_strike(masks, n, base, end, members);
+}

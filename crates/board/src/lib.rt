@@ -5,6 +5,7 @@ ghost use Rattle.board.specs.Board.{handed, packed, Lent, CallLent, List
 
 // The functions for the board's firmware, which is C. include/ulavrepit.h declares them.
 pub mod lists;
+pub mod masks;
 
 use tables::Outcome;
 use words::Partition;

@@ -1,4 +1,4 @@
--- WHAT A BRANCH CAN'T TOUCH (02, request 112), over the C function that a supplier's module calls. Statements only; BranchProof.antt has the proofs.
+-- WHAT A BRANCH CAN'T TOUCH (02, request 112), over the C function that a supplier's module calls. Statements only; Laws/BranchProof.antt has the proofs.
 -- Beside and Untouched (untouched/specs) speak of words: those that the bytes are.
 use mathlib.Core.Path.{_≡_}
 use mathlib.Core.List.{List}

@@ -28,7 +28,7 @@ use Rattle.isolation.specs.Boot.{bootLadder}
 use Rattle.isolation.specs.Exact.{callLadder}
 use Rattle.runs.specs.declared.Run.{Run}
 use Rattle.runs.specs.Runs.{runsOf, On, Chain, nth as run, over as runsOver}
-use Rattle.ledger.specs.Ledger.{Ledger, opening, apply, accepted, linesNamed}
+use Rattle.ledger.specs.Ledger.{Ledger, opening, Event, nothing, apply, accepted, linesNamed}
 use Rattle.ledger.specs.Lists.{Lists, nth}
 use Rattle.board.specs.Board.{handed, packed, Lent, CallLent, ListLent}
 use Rattle.board.specs.Lists.{Handed}
@@ -178,10 +178,14 @@ pub record RunsWritten (Runs : List Run → Type 0) (list : List Run) (number : 
   pub fits : length runs ≤ length list
   pub records : after ≡ runsOver runs list
 
--- a call entered in a ledger by its result word: a refused one changes nothing; `accepted` (ledger/specs/Ledger) says what others do, by their caller, their
--- first value and the lines of the entry that they name, all that is read of the table
+-- the event of a call, by its result word: a refused one is none; `accepted` (ledger/specs/Ledger) says what others are, by their caller, their first value
+-- and the lines of the entry that they name, all that is read of the table
+abbrev pub happened : List ℕ → ℕ → ℕ → Ledger → Event
+happened b w r g = cond (eqb (refusalIn r) 0) (accepted g (fieldsIn call w) (callerIn r) (firstIn r) (linesNamed (handed b) w)) nothing
+
+-- .. entered in a ledger
 abbrev pub entered : List ℕ → ℕ → ℕ → Ledger → Ledger
-entered b w r g = cond (eqb (refusalIn r) 0) (apply (accepted g (fieldsIn call w) (callerIn r) (firstIn r) (linesNamed (handed b) w)) g) g
+entered b w r g = apply (happened b w r g) g
 
 -- calls of the words ws, one after the other, each handed the bytes that the one before it left, take the table from b to d, and a ledger from g to h
 pub data Called : List ℕ → Ledger → List ℕ → List ℕ → Ledger → Type 0 where

@@ -36,7 +36,7 @@ module _ (base end : ℕ) {b : List ℕ} {r : ℕ} {c : List ℕ} (h : BootLent 
 
   -- an accepted one
   module _ (q : Accepted r) where
-    booted : (t : Table) × (bootOn (handed b) base end ≡ done (firstIn r) 0 t)
+    pub booted : (t : Table) × (bootOn (handed b) base end ≡ done (firstIn r) 0 t)
     unfolding Ends
     booted =
         let (w, t, z) = accepted-done (boot-rises (handed b) base end) (omega arith) (bootOn (handed b) base end) (boot-exact (handed b) base end) (h .result) q in
@@ -46,7 +46,7 @@ module _ (base end : ℕ) {b : List ℕ} {r : ℕ} {c : List ℕ} (h : BootLent 
     unfolding bytesAfter
     bytes-booted = h .bytes ∙ ap (bytesAfter b) (booted .1)
 
-    start : handed c ≡ encode (booted .0)
+    pub start : handed c ≡ encode (booted .0)
     start = ap handed bytes-booted ∙ handed-of (boot-right (handed b) base end (booted .1))
 
     boot-changed : Changed (bootLadder (handed b) base end) (firstIn r) 0 c

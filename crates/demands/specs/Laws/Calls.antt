@@ -8,6 +8,8 @@ use native.Mathlib.Omega.{arith}
 use lib.Dec.{eqb}
 use lib.ListN.{length}
 use borrow.Author.Tests.{ne-eqb}
+use Rattle.words.specs.Kind.{fieldsIn}
+use Rattle.words.specs.Words.{call}
 use Rattle.tables.specs.State.{Table}
 use Rattle.tables.specs.View.{view}
 use Rattle.tables.specs.Encode.{encode}
@@ -31,10 +33,10 @@ use Rattle.isolation.specs.Ladder.{Ladder, Answers}
 use Rattle.isolation.specs.Exact.{callLadder}
 use Rattle.isolation.specs.Laws.Exact.{call-exact}
 use Rattle.isolation.specs.Whole.{call-right, afterAll}
-use Rattle.ledger.specs.Ledger.{Ledger, apply, eventOf, noted, answerOn, linesNamed, keptOn}
+use Rattle.ledger.specs.Ledger.{Ledger, Event, apply, eventOf, noted, answerOn, linesNamed, keptOn}
 use Rattle.board.specs.Board.{handed, resultOf, secondAfter, bytesAfter, CallLent}
 use Rattle.board.specs.Laws.Board.{handed-is}
-use Rattle.demands.specs.Demands.{Bytes, refusalIn, callerIn, firstIn, Accepted, fails, Answered, Changed, entered, Called, no-call, one-call}
+use Rattle.demands.specs.Demands.{Bytes, refusalIn, callerIn, firstIn, Accepted, fails, Answered, Changed, happened, entered, Called, no-call, one-call}
 use Rattle.demands.specs.Laws.Lowest.{applies-range, past}
 use Rattle.demands.specs.Laws.Rising.{word-rises, call-rises}
 use Rattle.demands.specs.Laws.Results.{read, answered, accepted-done}
@@ -99,22 +101,31 @@ module _ {b : List ℕ} {w s r : ℕ} {c : List ℕ} {s′ : ℕ} (small : Words
       go true q e = (λ z. absurd (one-unsound .0 z (sound-means (handed b) .0 q)), λ _. e)
       go false q e = (λ _. e, λ n. absurd (n (one-unsound .1 (λ s. false≢true (sym q ∙ sound-means (handed b) .1 s)))))
 
+  -- an accepted call is done by the rule
+  pub call-done : Accepted r → (y : ℕ) × (t : Table) × (callOn (handed b) w ≡ done (firstIn r) y t)
+  call-done = accepted-done (call-rises (handed b) w) caller-byte (callOn (handed b) w) exact (h .table .result)
+
   pub call-changed : Accepted r → Changed (callLadder (handed b) w) (firstIn r) s′ c
   unfolding bytesAfter secondAfter outcomeOf
   call-changed q =
-      let (y, t, z) = accepted-done (call-rises (handed b) w) caller-byte (callOn (handed b) w) exact (h .table .result) q in
+      let (y, t, z) = call-done q in
       let e : s′ ≡ y = h .second ∙ ap (λ (x : Result). secondAfter s (outcomeOf x)) z in
       changed (subst (Answers (callLadder (handed b) w)) (z ∙ ap (λ (x : ℕ). done (firstIn r) x t) (sym e)) exact) (call-right (handed b) w small z) (h .table .bytes ∙ ap (bytesAfter b) z)
 
-  -- the ledger is kept by the result word as by the rule
-  call-noted : (g : Ledger) → entered b w r g ≡ noted w (answerOn (handed b) w) (linesNamed (handed b) w) g
-  unfolding noted eventOf apply outcomeOf
-  call-noted g = go (callOn (handed b) w) exact (h .table .result)
+  -- the event is told by the result word as by the rule
+  pub call-event : (g : Ledger) → happened b w r g ≡ eventOf g (fieldsIn call w) (callerOf (handed b)) (outcomeOf (callOn (handed b) w)) (linesNamed (handed b) w)
+  unfolding eventOf outcomeOf
+  call-event g = go (callOn (handed b) w) exact (h .table .result)
     where
       go : (x : Result) → Answers (callLadder (handed b) w) x → r ≡ resultOf (callerOf (handed b)) (outcomeOf x)
-          → entered b w r g ≡ noted w (record { caller = record { 0 = callerOf (handed b) }; outcome = outcomeOf x }) (linesNamed (handed b) w) g
+          → happened b w r g ≡ eventOf g (fieldsIn call w) (callerOf (handed b)) (outcomeOf x) (linesNamed (handed b) w)
       go (done v y t) a e = let ((i, k), j) = read (call-rises (handed b) w) caller-byte (done v y t) a e in rw (i, k, j) refl
       go (refused n) a e = let ((i, k, j), _) = read (call-rises (handed b) w) caller-byte (refused n) a e in rw (i, ne-eqb n 0 (omega arith)) refl
+
+  -- so the ledger is kept as by the rule
+  pub call-noted : (g : Ledger) → entered b w r g ≡ noted w (answerOn (handed b) w) (linesNamed (handed b) w) g
+  unfolding noted
+  call-noted g = ap (λ (e : Event). apply e g) (call-event g)
 
 -- the words after it are read in the bytes after it, and are good words again
 module _ {b : List ℕ} {w s r : ℕ} {c : List ℕ} {s′ : ℕ} (good : Good (handed b)) (h : CallLent b w s r c s′) where

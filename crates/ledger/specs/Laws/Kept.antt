@@ -107,7 +107,7 @@ module _ {base end : ℕ} {g : Ledger} {t : Table} (h : Right t) (s : Keeps base
       rw z (kept refl refl (s .tree) λ p l. Iff·trans (or-means (s .holders p l) (at-lines c p l (ok .entry .at))) (Iff·symm (give-holds (h .core) ok p l)))
 
   -- the caller's child that stands for the lines of an entry which take may have back is the one that the entry is given to: it has them, and no other child has
-  child-for : {i j : ℕ} {e f : Entry} → TakeOk (t .k) i j e f → lowest 16 (childFor g (t .k .current) (lines i)) ≡ some (e .given)
+  pub child-for : {i j : ℕ} {e f : Entry} → TakeOk (t .k) i j e f → lowest 16 (childFor g (t .k .current) (lines i)) ≡ some (e .given)
   unfolding childFor linesOf
   child-for {j = j} {e} {f} ok =
       let c = given-child (h .core) (t .k .current) _ e (ok .at) (ok .given) in

@@ -1,0 +1,4 @@
+pub mod Masks
+pub mod Marking
+pub mod Exits
+pub mod Exact

@@ -1,0 +1,1 @@
+// What the two engines say of each other is stated and proved in specs/.
