@@ -1,4 +1,4 @@
--- The exits of merge.
+-- Merge in code: when two entries may be joined, what is asked of those read, the table after it.
 use mathlib.Core.Path.{_≡_}
 use mathlib.Core.Bool.{Bool, true, false, _||_}
 use mathlib.Core.List.{List}

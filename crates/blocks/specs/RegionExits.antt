@@ -1,4 +1,4 @@
--- The exits of the services of regions.
+-- A slot that another region names.
 use mathlib.Core.Bool.{Bool, not, _&&_}
 use Prim.Native.Nat.{ℕ}
 use lib.Dec.{eqb}

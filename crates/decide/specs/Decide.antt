@@ -1,4 +1,4 @@
--- The exits of the decision: one pass over the partitions.
+-- The decision in code: what is known before the pass over the partitions, and what it answers.
 use mathlib.Core.Path.{_≡_}
 use mathlib.Core.Bool.{Bool, true}
 use mathlib.Core.List.{List}

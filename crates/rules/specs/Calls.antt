@@ -14,7 +14,7 @@ use Rattle.rules.specs.Reads.{standsAfter}
 unfoldable pub callerOf : List ℕ → ℕ
 callerOf l = cond (sound l) (view l .k .current) 0
 
--- the answer: the caller beside the outcome of the rule, and whether it only reads; and every word afterwards
+-- the answer: the caller beside the outcome of the rule, and whether it stands; and every word afterwards
 pub record Answers (before : List ℕ) (w : ℕ) (r : Answer) (after : List ℕ) : Type 0 where
   pub caller : r .caller .0 ≡ callerOf before
   pub ran : Ran (callOn before w) before (r .outcome) after

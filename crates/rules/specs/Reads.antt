@@ -1,4 +1,4 @@
--- The calls that leave every word of the table as it was, whatever they answer.
+-- Calls after which the table stands by their service or by what they are, whatever they answer: every word is as it was.
 use mathlib.Core.Bool.{Bool, true, cond, _||_}
 use mathlib.Core.List.{List}
 use Prim.Native.Nat.{ℕ}

@@ -1,4 +1,4 @@
--- The exits of clear out: the branch of a partition is cleared, its own record first and then the branches of its children, one by one.
+-- Clear out in code: the branch of a partition is cleared, its own record first and then the branches of its children, one by one.
 use mathlib.Core.Path.{_≡_}
 use mathlib.Core.Bool.{Bool}
 use mathlib.Core.List.{List}

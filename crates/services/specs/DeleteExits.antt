@@ -1,4 +1,4 @@
--- The exits of delete.
+-- Delete in code: the table after each step.
 use Prim.Native.Nat.{ℕ}
 use Rattle.tables.specs.State.{Table}
 use Rattle.tables.specs.Update.{upd1}

@@ -2,7 +2,7 @@ ghost use Rattle.rules.specs.Rules.{bootOn};
 ghost use Rattle.rules.specs.Ran.{Ran};
 ghost use Rattle.rules.specs.Calls.{Answers};
 
-// The services in code, each proved equal to its rule.
+// The services in code but for those on a block, each proved equal to its rule; a call and a boot.
 pub mod area_services;
 pub mod boot_service;
 pub mod calls;

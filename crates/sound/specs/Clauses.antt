@@ -183,7 +183,7 @@ unfoldable pub s11 : K → ℕ → Bool
 s11 k p = cond (eqb p 0) (all 32 (λ i. when (λ e. full (e .rights)) (k .slot p i))) (s11Within k p && s11Equal k p)
 
 -- ── all clauses at all partitions ──
--- the test of clause n of the eleven at partition p; S1, and S3 of word 0, are looked at with partition 0
+-- the test of clause n, from 1 to 11, at partition p; S1, and S3 of word 0, are looked at with partition 0
 unfoldable pub clauseAt : List ℕ → ℕ → ℕ → Bool
 clauseAt l n p =
     cond (eqb n 1) (not (eqb p 0) || s1 (view l .k))

@@ -1,4 +1,4 @@
--- Soundness without words, open bits and regions: what the theory of the services is proved over. A sound table has it, and it has the clauses' parts.
+-- Soundness without words, open bits and regions: what the theory of the services is proved over.
 use mathlib.Core.Path.{_≡_}
 use mathlib.Core.Logic.{_⊎_, _↔_}
 use Prim.Native.Nat.{ℕ, _+_, _/_, _≤_, _<_}

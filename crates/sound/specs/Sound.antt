@@ -124,7 +124,7 @@ pub record S11 (k : K) (p : ℕ) : Type 0 where
   pub child : (p ≡ 0 → ⊥) → (i j : ℕ) (e f : Entry) → k .slot p i ≡ some e → Granted k p e j f → Sub (e .rights) (f .rights)
   pub equal : (p ≡ 0 → ⊥) → (i m : ℕ) (e f : Entry) → k .slot p i ≡ some e → k .slot p m ≡ some f → OneGrant k p e f → e .rights ≡ f .rights
 
--- Clause n of the eleven at partition p. S1, and S3 of word 0, are looked at with partition 0.
+-- Clause n, from 1 to 11, at partition p. S1, and S3 of word 0, are looked at with partition 0.
 abbrev pub Clause : List ℕ → ℕ → ℕ → Type 0
 Clause l n p =
     cond (eqb n 1) (p ≡ 0 → S1 (view l .k))

@@ -1,4 +1,4 @@
--- The code's answers to searches, and back: each answer says which number was found.
+-- The code's answers to searches.
 use Prim.Native.Nat.{ℕ}
 use Rattle.tables.specs.State.{Opt, none, some}
 use Rattle.tables.specs.Search.{Looking}

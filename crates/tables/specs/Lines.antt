@@ -1,4 +1,4 @@
--- What the tests of ranges say of lines: an entry is open exactly if it shares no line with an area.
+-- What it is to have a line, to hold one, to be clear of all areas.
 use mathlib.Core.Path.{_≡_}
 use Prim.Native.Nat.{ℕ, _≤_, _<_}
 use Rattle.tables.specs.State.{Opt, some, Entry, Area}

@@ -1,4 +1,4 @@
--- The words of a table by what they hold: of word 0, and of each partition its header, structures, regions, two words that hold nothing, and slots.
+-- A record of zero words.
 use mathlib.Core.Path.{_≡_}
 use mathlib.Core.List.{List}
 use Prim.Native.Nat.{ℕ, _<_}

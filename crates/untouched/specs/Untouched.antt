@@ -1,5 +1,5 @@
--- WHAT A BRANCH CAN'T TOUCH (02, request 112). Statements only: Theorem.antt and TwoLists.antt prove them, docs/BRANCH.md says them in plain sentences.
--- Under (services) is the branch: q is k or a descendant of it. Above (sound): q is k or above it. Both go by the tree of one table.
+-- WHAT A BRANCH CAN'T TOUCH (02, request 112). Statements only: Laws/Theorem.antt and Laws/TwoLists.antt prove them, docs/BRANCH.md says them in plain sentences.
+-- Under (rules) is the branch: q is k or a descendant of it. Above (sound): q is k or above it. Both go by the tree of one table.
 use mathlib.Core.Path.{_≡_}
 use mathlib.Core.Bool.{Bool}
 use mathlib.Core.List.{List, [], _∷_}

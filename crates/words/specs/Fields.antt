@@ -1,4 +1,4 @@
--- What the layers above may know of the fields of each kind of word: no layout is unfolded there.
+-- Fields of a call word that fit their bits; a region that is not loaded.
 use mathlib.Core.Bool.{false}
 use Prim.Native.Nat.{_^_, _<_}
 use Rattle.words.specs.Words.{slot}

@@ -1,4 +1,4 @@
--- Of each kind of word: which fields are in range, and that it is lawful, so that both round trips of Kind hold of it.
+-- A mark's line and its holder, and the mark of the two.
 use Prim.Native.Nat.{ℕ}
 use Rattle.words.specs.Kind.{fieldsIn, wordOf}
 use Rattle.words.specs.Words.{mark}

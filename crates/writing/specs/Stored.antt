@@ -1,4 +1,4 @@
--- The table that the words are after each write.
+-- The area from one line to another.
 use Rattle.words.specs.declared.Line.{Line}
 use Rattle.tables.specs.State.{Area}
 
