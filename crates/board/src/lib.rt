@@ -1,69 +1,27 @@
-ghost use mathlib.Core.Path.{_≡_};
-ghost use Prim.Native.Nat.{_^_, _<_};
+ghost use Rattle.shapes.specs.declared.Board.the-variants.{V7};
 ghost use Rattle.rules.specs.Rules.{bootOn};
-ghost use Rattle.board.specs.Board.{handed, packed, Lent, CallLent, ListLent};
+ghost use Rattle.face.specs.Face.{handed, Lent, CallLent, ListLent};
 
-// The functions for the board's firmware, which is C. include/ulavrepit.h declares them.
+// The library for ARMv7-M: the functions that its firmware calls, which is C. include/ulavrepit.h declares them; `face` has them for every board.
 pub mod lists;
 pub mod masks;
 
-use tables::Outcome;
-use words::Partition;
+use shapes::Board;
 
-// What C gets: bits 16 to 31 are zero.
-fn packed(refusal: u64, caller: Partition, first: u64) -> u64
-    requires { ⌜ (refusal < 2 ^ 8) × (caller .0 < 16) × (first < 2 ^ 32) ⌝ }
-    ensures { λ r. ⌜ r ≡ packed refusal (caller .0) first ⌝ }
-{
-    refusal + (0x100 * caller.0 as u64 + 0x1_0000_0000 * first)
-}
-
-// Boot: `services::boot` on bytes.
 #[no_mangle]
 pub extern "C" fn ulavrepit_boot(table: &mut [u8], base: u64, end: u64) -> u64
     ensures { λ r. ⌜ Lent 0 (bootOn (handed (now (table .entry))) base end) (now (table .entry)) r (now (table .exit)) ⌝ }
 {
-    if table.len() != 5128 {
-        return packed(1, Partition(0), 0);
-    }
-    let mut a = [0u64; 641];
-    let outcome = services::boot_service::boot_table(&mut a, base, end);
-    match outcome {
-        Outcome::Done(first, _) => {
-            memory::store_root(&a, table);
-            packed(0, Partition(0), first)
-        }
-        Outcome::Refused(n) => packed(n, Partition(0), 0),
-    }
+    face::boot_bytes(table, base, end)
 }
 
-// A call: `services::call` on bytes. The second value is written only when it is done, the bytes only where it does more than read.
 #[no_mangle]
 pub extern "C" fn ulavrepit_call(table: &mut [u8], word: u64, second: &mut u64) -> u64
-    ensures { λ r. ⌜ CallLent (now (table .entry)) word (now (second .entry)) r (now (table .exit)) (now (second .exit)) ⌝ }
+    ensures { λ r. ⌜ CallLent V7 (now (table .entry)) word (now (second .entry)) r (now (table .exit)) (now (second .exit)) ⌝ }
 {
-    if table.len() != 5128 {
-        return packed(1, Partition(0), 0);
-    }
-    let mut a = [0u64; 641];
-    let top = memory::load(table, &mut a);
-    let answer = services::calls::call_table(&mut a, top, word);
-    let caller = answer.caller;
-    let stands = answer.stands;
-    let outcome = answer.outcome;
-    match outcome {
-        Outcome::Done(first, value) => {
-            if !stands {
-                memory::store(&a, table);
-            }
-            *second = value;
-            packed(0, caller, first)
-        }
-        Outcome::Refused(n) => packed(n, caller, 0),
-    }
+    face::call_bytes(Board::V7, table, word, second)
 }
 
-// Holders: `holders::holders` on bytes. The second value is written only when it is done.
 #[no_mangle]
 pub extern "C" fn ulavrepit_holders(
     table: &[u8],
@@ -71,19 +29,7 @@ pub extern "C" fn ulavrepit_holders(
     list: &mut [u8],
     second: &mut u64,
 ) -> u64
-    ensures { λ r. ⌜ ListLent (now (table .entry)) line (now (list .entry)) (now (second .entry)) r (now (list .exit)) (now (second .exit)) ⌝ }
+    ensures { λ r. ⌜ ListLent V7 (now (table .entry)) line (now (list .entry)) (now (second .entry)) r (now (list .exit)) (now (second .exit)) ⌝ }
 {
-    if table.len() != 5128 {
-        return packed(1, Partition(0), 0);
-    }
-    let mut a = [0u64; 641];
-    let top = memory::load(table, &mut a);
-    let outcome = holders::holders_table(&a, top, line, list);
-    match outcome {
-        Outcome::Done(first, value) => {
-            *second = value;
-            packed(0, Partition(0), first)
-        }
-        Outcome::Refused(n) => packed(n, Partition(0), 0),
-    }
+    face::holders_bytes(Board::V7, table, line, list, second)
 }

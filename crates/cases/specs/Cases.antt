@@ -1,5 +1,5 @@
 -- 01's "A session printed whole" and "Checked by the prover, and by a run": one list, `cases`, and a single statement over it, `every-case`.
--- The checker computes every case by the rules that the contracts cite: callOn, bootOn, wordsAfter, holdersOutcome, holdersBytes.
+-- The checker computes every case by the rules that the contracts cite: callOn, bootOn, wordsAfter, holdersOutcome, holdersBytes; on ARMv7-M.
 use mathlib.Core.Path.{_≡_, refl, ap₂}
 use mathlib.Core.Bool.{Bool, true, false, _&&_, and-eq-true-iff, false≢true}
 use mathlib.Core.List.{List, [], _∷_, _++_, map}
@@ -15,6 +15,7 @@ use Rattle.loops.specs.Carry.{done as carried}
 use Rattle.loops.specs.Count.{sum}
 use Rattle.words.specs.Kind.{wordOf}
 use Rattle.words.specs.Words.{first, header, structure, regions, slot, call}
+use Rattle.shapes.specs.declared.Board.the-variants.{V7}
 use Rattle.tables.specs.State.{Opt, none, some, Entry, entry, allRights, Area}
 use Rattle.tables.specs.View.{view, viewK, entryIn, headerArea, structureArea, areaIn, nth, named, inside, parentAt, firstWord, recordWord, areaWordAt, regionsWordAt, blankWordAt, slotWordAt}
 use Rattle.tables.specs.Encode.{encode, slotWord, headerWord, structureWord, regionFor, regionsWord, partWord, wordFor}
@@ -64,17 +65,17 @@ word9 p s u r = word 9 p s u 0 + r * 2 ^ 43
 
 -- on the words l the call word w is done, with these values
 abbrev pub gives : List ℕ → ℕ → ℕ → ℕ → Case
-gives l w v₁ v₂ = (shown (callOn l w), 0 ∷ v₁ ∷ v₂ ∷ [])
+gives l w v₁ v₂ = (shown (callOn V7 l w), 0 ∷ v₁ ∷ v₂ ∷ [])
 
 -- .. is refused, with this number
 abbrev pub refuses : List ℕ → ℕ → ℕ → Case
-refuses l w n = (shown (callOn l w), n ∷ 0 ∷ 0 ∷ [])
+refuses l w n = (shown (callOn V7 l w), n ∷ 0 ∷ 0 ∷ [])
 
 -- call words one after the other: what each shows, and the words after the last
 abbrev pub run : List ℕ → List ℕ → List ℕ × List ℕ
 run l [] = ([], l)
 run l (w ∷ ws) =
-    let r = callOn l w in
+    let r = callOn V7 l w in
     let z = run (wordsAfter l r) ws in
     (shown r ++ z .0, z .1)
 
@@ -172,10 +173,10 @@ casesOf B (lines, X) =
     -- * B, collect P 0 structure 0: 15
     ∷ refuses B (word 4 0 0 0 0) 15
     -- * X, holders of 300: 0, 1. Two holders; their numbers are the first two bytes, the rest stay. Slot 3 of 0 and slot 0 of 1: 5 slot words looked at
-    ∷ (told (holdersOutcome X 300 16), 0 ∷ 2 ∷ 5 ∷ [])
-    ∷ (holdersBytes X 300 (replicate 16 255), 0 ∷ 1 ∷ replicate 14 255)
+    ∷ (told (holdersOutcome V7 X 300 16), 0 ∷ 2 ∷ 5 ∷ [])
+    ∷ (holdersBytes V7 X 300 (replicate 16 255), 0 ∷ 1 ∷ replicate 14 255)
     -- X, holders of 1024: 7
-    ∷ (told (holdersOutcome X 1024 16), 7 ∷ 0 ∷ 0 ∷ [])
+    ∷ (told (holdersOutcome V7 X 1024 16), 7 ∷ 0 ∷ 0 ∷ [])
     -- * X, take slot 3: done; * slot 1: 6
     ∷ gives X (word 6 0 3 0 0) 0 0
     ∷ refuses X (word 6 0 1 0 0) 6

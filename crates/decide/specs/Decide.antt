@@ -4,6 +4,7 @@ use mathlib.Core.Bool.{Bool, true}
 use mathlib.Core.List.{List}
 use Prim.Native.Nat.{ℕ}
 use Rattle.loops.specs.Every.{all}
+use Rattle.shapes.specs.declared.Board.{Board}
 use Rattle.tables.specs.View.{view}
 use Rattle.settling.specs.Areas.{AreasOf, Parted}
 use Rattle.sound.specs.Clauses.{s6, sound}
@@ -20,6 +21,6 @@ pub record CanDecide (l o c : List ℕ) (n : ℕ) (s e : List ℕ) : Type 0 wher
   pub orders : Orders (view l .k) o c
 
 -- what it says, and how it leaves the entries
-pub record Decided (l : List ℕ) (r : Bool) (o c : List ℕ) : Type 0 where
-  pub says : r ≡ sound l
+pub record Decided (b : Board) (l : List ℕ) (r : Bool) (o c : List ℕ) : Type 0 where
+  pub says : r ≡ sound b l
   pub orders : r ≡ true → Orders (view l .k) o c

@@ -19,6 +19,7 @@ pub mod order;
 pub mod tiles;
 pub mod used;
 
+use shapes::Board;
 use words::Partition;
 
 // S2 to S5 at p: an absent partition costs only the test that it is zero
@@ -52,6 +53,7 @@ fn shapes_sound(t: &[u64; 641], top: u32) -> bool
 
 // The clauses from S7 on at a present partition, but for areas that share a line.
 fn present_sound(
+    board: Board,
     t: &[u64; 641],
     p: Partition,
     order: &[u8; 512],
@@ -61,7 +63,7 @@ fn present_sound(
     e: &[u32; 80],
 ) -> bool
     requires { ⌜ (p .0 < 16) × (present (view (now t) .k) (p .0) ≡ true) × CanDecide (now t) (now order) (now counts) n (now s) (now e) ⌝ }
-    ensures { λ r. ⌜ r ≡ restAt (now (t .entry)) (p .0) ⌝ }
+    ensures { λ r. ⌜ r ≡ restAt board (now (t .entry)) (p .0) ⌝ }
 {
     if !entries::given_each(t, p) {
         return false;
@@ -76,11 +78,12 @@ fn present_sound(
     if !opening::opens_right(t, p, order, c, n, s, e) {
         return false;
     }
-    opening::regions_right(t, p)
+    opening::regions_right(board, t, p)
 }
 
 // where p is present
 fn partition_sound(
+    board: Board,
     t: &[u64; 641],
     p: Partition,
     order: &[u8; 512],
@@ -90,15 +93,16 @@ fn partition_sound(
     e: &[u32; 80],
 ) -> bool
     requires { ⌜ (p .0 < 16) × CanDecide (now t) (now order) (now counts) n (now s) (now e) ⌝ }
-    ensures { λ r. ⌜ r ≡ s2 (now (t .entry)) (view (now (t .entry)) .k) (p .0) && restAt (now (t .entry)) (p .0) ⌝ }
+    ensures { λ r. ⌜ r ≡ s2 (now (t .entry)) (view (now (t .entry)) .k) (p .0) && restAt board (now (t .entry)) (p .0) ⌝ }
 {
     if !tables::search::is_present(t, p) {
         return true;
     }
-    present_sound(t, p, order, counts, n, s, e)
+    present_sound(board, t, p, order, counts, n, s, e)
 }
 
 fn partitions_sound(
+    board: Board,
     t: &[u64; 641],
     top: u32,
     order: &[u8; 512],
@@ -108,11 +112,11 @@ fn partitions_sound(
     e: &[u32; 80],
 ) -> bool
     requires { ⌜ Top (now t) top × CanDecide (now t) (now order) (now counts) n (now s) (now e) ⌝ }
-    ensures { λ r. ⌜ r ≡ all 16 (λ p. s2 (now (t .entry)) (view (now (t .entry)) .k) p && restAt (now (t .entry)) p) ⌝ }
+    ensures { λ r. ⌜ r ≡ all 16 (λ p. s2 (now (t .entry)) (view (now (t .entry)) .k) p && restAt board (now (t .entry)) p) ⌝ }
 {
     let mut p = 0u32;
     while p < top {
-        if !partition_sound(t, Partition(p), order, counts, n, s, e) {
+        if !partition_sound(board, t, Partition(p), order, counts, n, s, e) {
             return false;
         }
         p += 1;
@@ -121,9 +125,15 @@ fn partitions_sound(
 }
 
 // Exactly the sound tables pass. Of such a table the entries are left in order, for who lists its runs.
-pub fn is_ordered(t: &[u64; 641], top: u32, order: &mut [u8; 512], counts: &mut [u32; 16]) -> bool
+pub fn is_ordered(
+    board: Board,
+    t: &[u64; 641],
+    top: u32,
+    order: &mut [u8; 512],
+    counts: &mut [u32; 16],
+) -> bool
     requires { ⌜ Top (now t) top × (length (now order) ≡ 512) × (length (now counts) ≡ 16) ⌝ }
-    ensures { λ r. ⌜ Decided (now (t .entry)) r (now (order .exit)) (now (counts .exit)) ⌝ }
+    ensures { λ r. ⌜ Decided board (now (t .entry)) r (now (order .exit)) (now (counts .exit)) ⌝ }
 {
     tables::sized(t);
     if !shape::records::first_sound(t) {
@@ -141,15 +151,15 @@ pub fn is_ordered(t: &[u64; 641], top: u32, order: &mut [u8; 512], counts: &mut 
     if !arrange::arrange(t, top, order, counts) {
         return false;
     }
-    partitions_sound(t, top, order, counts, n, &s, &e)
+    partitions_sound(board, t, top, order, counts, n, &s, &e)
 }
 
 // Exactly the sound tables pass.
-pub fn is_sound(t: &[u64; 641], top: u32) -> bool
+pub fn is_sound(board: Board, t: &[u64; 641], top: u32) -> bool
     requires { ⌜ Top (now t) top ⌝ }
-    ensures { λ r. ⌜ r ≡ sound (now (t .entry)) ⌝ }
+    ensures { λ r. ⌜ r ≡ sound board (now (t .entry)) ⌝ }
 {
     let mut order = [0u8; 512];
     let mut counts = [0u32; 16];
-    is_ordered(t, top, &mut order, &mut counts)
+    is_ordered(board, t, top, &mut order, &mut counts)
 }

@@ -5,6 +5,7 @@ ghost use Rattle.tables.specs.Seen.{SeenRegions};
 ghost use Rattle.sound.specs.Clauses.{s9, s10};
 ghost use Rattle.decide.specs.Opening.{Skipped, noneBefore, CanOpen, someLoaded, isOpen, other, others, regionRight};
 use crate::order::entry_at;
+use shapes::Board;
 use tables::read;
 use tables::regions;
 use words::Line;
@@ -133,9 +134,9 @@ fn region_right(t: &[u64; 641], p: Partition, f: RegionsFields, r: u32) -> bool
 }
 
 // S10 of p
-pub fn regions_right(t: &[u64; 641], p: Partition) -> bool
+pub fn regions_right(board: Board, t: &[u64; 641], p: Partition) -> bool
     requires { ⌜ p .0 < 16 ⌝ }
-    ensures { λ r. ⌜ r ≡ s10 (view (now (t .entry))) (p .0) ⌝ }
+    ensures { λ r. ⌜ r ≡ s10 board (view (now (t .entry))) (p .0) ⌝ }
 {
     let f = read::regions(t, p);
     if !some_loaded(f) {

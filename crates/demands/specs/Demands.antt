@@ -1,8 +1,8 @@
 -- THE DEMANDS, in the words in which they were made. This file only states them; Theorem.antt has the proof of each.
 -- They speak of the four functions that C calls, by the promises under which these are proved: BootLent (ulavrepit_boot), CallLent (ulavrepit_call),
--- ListLent (ulavrepit_holders) and Handed (ulavrepit_runs), of board/specs. So CallLent b w s r c s′ reads: lent the table's bytes b, and s in *second, and
--- handed the word w, ulavrepit_call answered r and left c and s′. The functions ask nothing of their caller. What is supposed below of lent memory is one
--- thing: that a byte is below 256.
+-- ListLent (ulavrepit_holders) and Handed (ulavrepit_runs), of face/specs. So CallLent board b w s r c s′ reads: in the library for that board, lent the
+-- table's bytes b, and s in *second, and handed the word w, ulavrepit_call answered r and left c and s′. The functions ask nothing of their caller. What is
+-- supposed below of lent memory is one thing: that a byte is below 256. Each demand is made of the library for every board.
 use mathlib.Core.Path.{_≡_}
 use mathlib.Core.Bool.{true, cond}
 use mathlib.Core.List.{List, [], _∷_}
@@ -13,6 +13,7 @@ use lib.ListN.{length, getD}
 use Rattle.loops.specs.Count.{count}
 use Rattle.words.specs.Kind.{RoundTrips, fieldsIn}
 use Rattle.words.specs.Words.{first, header, structure, regions, slot, call, boot}
+use Rattle.shapes.specs.declared.Board.{Board}
 use Rattle.tables.specs.State.{Opt, none, some, Entry, Table}
 use Rattle.tables.specs.View.{view}
 use Rattle.tables.specs.Encode.{encode}
@@ -30,8 +31,8 @@ use Rattle.runs.specs.declared.Run.{Run}
 use Rattle.runs.specs.Runs.{runsOf, On, Chain, nth as run, over as runsOver}
 use Rattle.ledger.specs.Ledger.{Ledger, opening, Event, nothing, apply, accepted, linesNamed}
 use Rattle.ledger.specs.Lists.{Lists, nth}
-use Rattle.board.specs.Board.{handed, packed, Lent, CallLent, ListLent}
-use Rattle.board.specs.Lists.{Handed}
+use Rattle.face.specs.Face.{handed, packed, Lent, CallLent, ListLent}
+use Rattle.face.specs.Lists.{Handed}
 
 -- ── what is lent, and what C reads out of a result word ──
 abbrev pub Bytes : List ℕ → Type 0
@@ -83,9 +84,9 @@ pub record Answered (l : Ladder) (r : ℕ) (Unchanged : Type 0) : Type 1 where
   pub unchanged : (Accepted r → ⊥) → (firstIn r ≡ 0) × Unchanged
 
 -- the row of holders, of a line and a list of so many bytes: 1, 7, 17; what is written where none applies is said below, in demand 2
-abbrev pub holdersLadder : List ℕ → ℕ → ℕ → Ladder
-holdersLadder t m size =
-    must 1 (Sound t)
+abbrev pub holdersLadder : Board → List ℕ → ℕ → ℕ → Ladder
+holdersLadder board t m size =
+    must 1 (Sound board t)
     (must 7 ((view t .k .base ≤ m) × (m < view t .k .stop))
     (must 17 (16 ≤ size)
     (finish (length (holdersOf (view t .k) m)) (looksOf (view t .k) m) (view t))))
@@ -103,29 +104,29 @@ abbrev pub TableRuns : List ℕ → List Run → Type 0
 TableRuns t rs = LongestRuns (Holds (view t .k .slot)) (view t .k .parent) (view t .k .base) (view t .k .stop) rs
 
 -- the row of runs, of a list of so many records: 1, 17
-abbrev pub runsLadder : List ℕ → ℕ → Ladder
-runsLadder t size =
-    must 1 (Sound t)
+abbrev pub runsLadder : Board → List ℕ → ℕ → Ladder
+runsLadder board t size =
+    must 1 (Sound board t)
     (must 17 ((rs : List Run) → TableRuns t rs → length rs ≤ size)
     (finish (length (runsOf (view t .k))) 0 (view t)))
 
-pub record DemandOne : Type 1 where
+pub record DemandOne (board : Board) : Type 1 where
   -- whatever is handed over gets an answer; the fields below say which, and that the functions promise no other
   pub boot-answers : (base end : ℕ) (b : List ℕ) → (r : ℕ) × (c : List ℕ) × BootLent b base end r c
-  pub call-answers : (b : List ℕ) (w s : ℕ) → (r : ℕ) × (c : List ℕ) × (s′ : ℕ) × CallLent b w s r c s′
-  pub holders-answers : (b : List ℕ) (m : ℕ) (list : List ℕ) (s : ℕ) → (r : ℕ) × (after : List ℕ) × (s′ : ℕ) × ListLent b m list s r after s′
-  pub runs-answers : (b : List ℕ) (list : List Run) → (r : ℕ) × (after : List Run) × Handed b list r after
+  pub call-answers : (b : List ℕ) (w s : ℕ) → (r : ℕ) × (c : List ℕ) × (s′ : ℕ) × CallLent board b w s r c s′
+  pub holders-answers : (b : List ℕ) (m : ℕ) (list : List ℕ) (s : ℕ) → (r : ℕ) × (after : List ℕ) × (s′ : ℕ) × ListLent board b m list s r after s′
+  pub runs-answers : (b : List ℕ) (list : List Run) → (r : ℕ) × (after : List Run) × Handed board b list r after
   pub boot : (base end : ℕ) {b : List ℕ} {r : ℕ} {c : List ℕ} → BootLent b base end r c
       → Answered (bootLadder (handed b) base end) r (c ≡ b)
-  pub call : {b : List ℕ} {w s r : ℕ} {c : List ℕ} {s′ : ℕ} → Bytes b → CallLent b w s r c s′
-      → Answered (callLadder (handed b) w) r ((c ≡ b) × (s′ ≡ s))
+  pub call : {b : List ℕ} {w s r : ℕ} {c : List ℕ} {s′ : ℕ} → Bytes b → CallLent board b w s r c s′
+      → Answered (callLadder board (handed b) w) r ((c ≡ b) × (s′ ≡ s))
   -- holders and runs are lent the table for reading only
-  pub holders : {b : List ℕ} {m : ℕ} {list : List ℕ} {s r : ℕ} {after : List ℕ} {s′ : ℕ} → ListLent b m list s r after s′
-      → Answered (holdersLadder (handed b) m (length list)) r ((after ≡ list) × (s′ ≡ s))
-  pub runs : {b : List ℕ} {list : List Run} {r : ℕ} {after : List Run} → Handed b list r after
-      → Answered (runsLadder (handed b) (length list)) r (after ≡ list)
+  pub holders : {b : List ℕ} {m : ℕ} {list : List ℕ} {s r : ℕ} {after : List ℕ} {s′ : ℕ} → ListLent board b m list s r after s′
+      → Answered (holdersLadder board (handed b) m (length list)) r ((after ≡ list) × (s′ ≡ s))
+  pub runs : {b : List ℕ} {list : List Run} {r : ℕ} {after : List Run} → Handed board b list r after
+      → Answered (runsLadder board (handed b) (length list)) r (after ≡ list)
   -- beside the number of a call stands the caller, as before the call; 0 where refusal 1 is given
-  pub caller : {b : List ℕ} {w s r : ℕ} {c : List ℕ} {s′ : ℕ} → Bytes b → CallLent b w s r c s′
+  pub caller : {b : List ℕ} {w s r : ℕ} {c : List ℕ} {s′ : ℕ} → Bytes b → CallLent board b w s r c s′
       → (refusalIn r ≡ 1 → callerIn r ≡ 0) × ((refusalIn r ≡ 1 → ⊥) → callerIn r ≡ view (handed b) .k .current)
   -- C reads what was packed into a result
   pub reads : (n p v : ℕ) → n < 2 ^ 8 → p < 2 ^ 8 → (refusalIn (packed n p v) ≡ n) × (callerIn (packed n p v) ≡ p) × (firstIn (packed n p v) ≡ v)
@@ -180,17 +181,17 @@ pub record RunsWritten (Runs : List Run → Type 0) (list : List Run) (number : 
 
 -- the event of a call, by its result word: a refused one is none; `accepted` (ledger/specs/Ledger) says what others are, by their caller, their first value
 -- and the lines of the entry that they name, all that is read of the table
-abbrev pub happened : List ℕ → ℕ → ℕ → Ledger → Event
-happened b w r g = cond (eqb (refusalIn r) 0) (accepted g (fieldsIn call w) (callerIn r) (firstIn r) (linesNamed (handed b) w)) nothing
+abbrev pub happened : Board → List ℕ → ℕ → ℕ → Ledger → Event
+happened board b w r g = cond (eqb (refusalIn r) 0) (accepted g (fieldsIn call w) (callerIn r) (firstIn r) (linesNamed board (handed b) w)) nothing
 
 -- .. entered in a ledger
-abbrev pub entered : List ℕ → ℕ → ℕ → Ledger → Ledger
-entered b w r g = apply (happened b w r g) g
+abbrev pub entered : Board → List ℕ → ℕ → ℕ → Ledger → Ledger
+entered board b w r g = apply (happened board b w r g) g
 
 -- calls of the words ws, one after the other, each handed the bytes that the one before it left, take the table from b to d, and a ledger from g to h
-pub data Called : List ℕ → Ledger → List ℕ → List ℕ → Ledger → Type 0 where
-  no-call : {b : List ℕ} {g : Ledger} → Called b g [] b g
-  one-call : {b c d ws : List ℕ} {w s r s′ : ℕ} {g h : Ledger} → CallLent b w s r c s′ → Called c (entered b w r g) ws d h → Called b g (w ∷ ws) d h
+pub data Called (board : Board) : List ℕ → Ledger → List ℕ → List ℕ → Ledger → Type 0 where
+  no-call : {b : List ℕ} {g : Ledger} → Called board b g [] b g
+  one-call : {b c d ws : List ℕ} {w s r s′ : ℕ} {g h : Ledger} → CallLent board b w s r c s′ → Called board c (entered board b w r g) ws d h → Called board b g (w ∷ ws) d h
 
 -- of each kind: a word, read and written, is the same word; fields, written and read, are the same fields
 pub record PackedWords : Type 0 where
@@ -202,17 +203,17 @@ pub record PackedWords : Type 0 where
   pub call : RoundTrips call
   pub boot : RoundTrips boot
 
-pub record DemandTwo : Type 1 where
+pub record DemandTwo (board : Board) : Type 1 where
   pub boot : (base end : ℕ) {b : List ℕ} {r : ℕ} {c : List ℕ} → BootLent b base end r c → Accepted r
       → Changed (bootLadder (handed b) base end) (firstIn r) 0 c
-  pub call : {b : List ℕ} {w s r : ℕ} {c : List ℕ} {s′ : ℕ} → Bytes b → CallLent b w s r c s′ → Accepted r
-      → Changed (callLadder (handed b) w) (firstIn r) s′ c
+  pub call : {b : List ℕ} {w s r : ℕ} {c : List ℕ} {s′ : ℕ} → Bytes b → CallLent board b w s r c s′ → Accepted r
+      → Changed (callLadder board (handed b) w) (firstIn r) s′ c
   -- from an accepted boot the properties stand after any list of calls
-  pub calls : (base end : ℕ) {b : List ℕ} {r : ℕ} {c : List ℕ} → BootLent b base end r c → Accepted r → {g h : Ledger} {ws d : List ℕ} → Called c g ws d h
+  pub calls : (base end : ℕ) {b : List ℕ} {r : ℕ} {c : List ℕ} → BootLent b base end r c → Accepted r → {g h : Ledger} {ws d : List ℕ} → Called board c g ws d h
       → Isolated (view (handed d))
-  pub holders : {b : List ℕ} {m : ℕ} {list : List ℕ} {s r : ℕ} {after : List ℕ} {s′ : ℕ} → ListLent b m list s r after s′ → Accepted r
+  pub holders : {b : List ℕ} {m : ℕ} {list : List ℕ} {s r : ℕ} {after : List ℕ} {s′ : ℕ} → ListLent board b m list s r after s′ → Accepted r
       → HoldersWritten (handed b) m (λ p. Holds (view (handed b) .k .slot) p m) (view (handed b) .k .parent) list (firstIn r) s′ after
-  pub runs : {b : List ℕ} {list : List Run} {r : ℕ} {after : List Run} → Handed b list r after → Accepted r
+  pub runs : {b : List ℕ} {list : List Run} {r : ℕ} {after : List Run} → Handed board b list r after → Accepted r
       → RunsWritten (TableRuns (handed b)) list (firstIn r) after
   pub packed-words : PackedWords
 
@@ -221,22 +222,22 @@ pub record DemandTwo : Type 1 where
 -- equals our listing for each line: root first, each the parent of the next, each once, and no other.
 
 -- the ledger g of base to end says what holders and runs do, handed the table's bytes d
-pub record Tells (base end : ℕ) (g : Ledger) (d : List ℕ) : Type 0 where
+pub record Tells (board : Board) (base end : ℕ) (g : Ledger) (d : List ℕ) : Type 0 where
   -- a line of base to end: holders is done, with the ledger's names, their number and the sum of their searches
-  pub holders : {m : ℕ} {list : List ℕ} {s r : ℕ} {after : List ℕ} {s′ : ℕ} → ListLent d m list s r after s′ → base ≤ m → m < end → 16 ≤ length list
+  pub holders : {m : ℕ} {list : List ℕ} {s r : ℕ} {after : List ℕ} {s′ : ℕ} → ListLent board d m list s r after s′ → base ≤ m → m < end → 16 ≤ length list
       → Accepted r × HoldersWritten (handed d) m (λ p. g .stands p m ≡ true) (g .parent) list (firstIn r) s′ after × (firstIn r ≡ count 16 (λ p. g .stands p m))
   -- two different children of one parent never stand for one line
   pub siblings : (m p q : ℕ) → (p ≡ 0 → ⊥) → (q ≡ 0 → ⊥) → g .parent p ≡ g .parent q → g .stands p m ≡ true → g .stands q m ≡ true → p ≡ q
   -- any other line: nobody stands for it, and holders refuses with 7
   pub nobody : (p m : ℕ) → g .stands p m ≡ true → (base ≤ m) × (m < end)
-  pub outside : {m : ℕ} {list : List ℕ} {s r : ℕ} {after : List ℕ} {s′ : ℕ} → ListLent d m list s r after s′ → ((base ≤ m) × (m < end) → ⊥)
+  pub outside : {m : ℕ} {list : List ℕ} {s r : ℕ} {after : List ℕ} {s′ : ℕ} → ListLent board d m list s r after s′ → ((base ≤ m) × (m < end) → ⊥)
       → (refusalIn r ≡ 7) × (after ≡ list) × (s′ ≡ s)
   -- runs: by the ledger's names, deepest the last of them; refused, with 17, where the list is shorter than those runs
-  pub runs : {list : List Run} {r : ℕ} {after : List Run} → Handed d list r after → Accepted r
+  pub runs : {list : List Run} {r : ℕ} {after : List Run} → Handed board d list r after → Accepted r
       → RunsWritten (LongestRuns (λ p l. g .stands p l ≡ true) (g .parent) base end) list (firstIn r) after
-  pub short : {list : List Run} {r : ℕ} {after : List Run} → Handed d list r after → (Accepted r → ⊥)
+  pub short : {list : List Run} {r : ℕ} {after : List Run} → Handed board d list r after → (Accepted r → ⊥)
       → (refusalIn r ≡ 17) × (after ≡ list) × ((rs : List Run) × LongestRuns (λ p l. g .stands p l ≡ true) (g .parent) base end rs × (length list < length rs))
 
-pub record DemandThree : Type 0 where
-  pub ledger : (base end : ℕ) {b : List ℕ} {r : ℕ} {c : List ℕ} → BootLent b base end r c → Accepted r → {ws d : List ℕ} {g : Ledger} → Called c (opening base end) ws d g
-      → Tells base end g d
+pub record DemandThree (board : Board) : Type 0 where
+  pub ledger : (base end : ℕ) {b : List ℕ} {r : ℕ} {c : List ℕ} → BootLent b base end r c → Accepted r → {ws d : List ℕ} {g : Ledger} → Called board c (opening base end) ws d g
+      → Tells board base end g d

@@ -4,6 +4,7 @@ use mathlib.Core.List.{List}
 use Prim.Native.Nat.{ℕ}
 use native.Mathlib.Omega.{arith}
 use Rattle.words.specs.Trips.{first-trips, header-trips, structure-trips, regions-trips, slot-trips, call-trips, boot-trips}
+use Rattle.shapes.specs.declared.Board.{Board}
 use Rattle.tables.specs.State.{Table}
 use Rattle.tables.specs.View.{view}
 use Rattle.tables.specs.Encode.{encode}
@@ -19,7 +20,7 @@ use Rattle.isolation.specs.Whole.{afterAll, from-boot-sound, from-boot-isolated
 use Rattle.ledger.specs.Ledger.{Ledger, opening, keptOn}
 use Rattle.ledger.specs.Theorem.{demand-3}
 use Rattle.ledger.specs.Laws.LedgerRuns.{runs-demand}
-use Rattle.board.specs.Board.{handed, bytesAfter}
+use Rattle.face.specs.Face.{handed, bytesAfter}
 use Rattle.demands.specs.Demands.{BootLent, firstIn, Accepted, Answered, Changed, Called, Tells, DemandOne, DemandTwo, DemandThree}
 use Rattle.demands.specs.Laws.Rising.{boot-rises}
 use Rattle.demands.specs.Laws.Results.{reads-back, answered, accepted-done}
@@ -53,24 +54,24 @@ module _ (base end : ℕ) {b : List ℕ} {r : ℕ} {c : List ℕ} (h : BootLent 
     boot-changed = changed (subst (Answers (bootLadder (handed b) base end)) (booted .1) (boot-exact (handed b) base end)) (boot-right (handed b) base end (booted .1)) bytes-booted
 
     -- and any list of calls after it: the words are the rules', and so is a ledger kept beside them
-    module _ {g h′ : Ledger} {ws d : List ℕ} (calls : Called c g ws d h′) where
-      both : (handed d ≡ afterAll (encode (booted .0)) ws) × (h′ ≡ keptOn (encode (booted .0)) g ws)
-      both = rw start at (called (subst Good (sym start) (right-good (boot-right (handed b) base end (booted .1)))) calls)
+    module _ {board : Board} {g h′ : Ledger} {ws d : List ℕ} (calls : Called board c g ws d h′) where
+      both : (handed d ≡ afterAll board (encode (booted .0)) ws) × (h′ ≡ keptOn board (encode (booted .0)) g ws)
+      both = rw start at (called (subst (Good board) (sym start) (right-good board (boot-right (handed b) base end (booted .1)))) calls)
 
       calls-isolated : Isolated (view (handed d))
-      calls-isolated = subst (λ (l : List ℕ). Isolated (view l)) (sym (both .0)) (from-boot-isolated (handed b) ws base end (booted .1))
+      calls-isolated = subst (λ (l : List ℕ). Isolated (view l)) (sym (both .0)) (from-boot-isolated board (handed b) ws base end (booted .1))
 
-    boot-tells : {ws d : List ℕ} {g : Ledger} → Called c (opening base end) ws d g → Tells base end g d
-    boot-tells {ws} {d} {g} calls =
+    boot-tells : {board : Board} {ws d : List ℕ} {g : Ledger} → Called board c (opening base end) ws d g → Tells board base end g d
+    boot-tells {board} {ws} {d} {g} calls =
         let (u, v) = both calls in
         let z = booted .1 in
         tells d
-        (rw u (from-boot-sound (handed b) ws base end z))
-        (rw (u, v) (demand-3 (handed b) base end z ws))
-        (rw (u, v) (runs-demand (handed b) base end z ws))
+        (rw u (from-boot-sound board (handed b) ws base end z))
+        (rw (u, v) (demand-3 board (handed b) base end z ws))
+        (rw (u, v) (runs-demand board (handed b) base end z ws))
 
-pub demand-one : DemandOne
-demand-one = record {
+pub demand-one : (board : Board) → DemandOne board
+demand-one board = record {
   boot-answers = λ base end b. (_, _, record { result = refl; bytes = refl });
   call-answers = λ b w s. (_, _, _, record { table = record { result = refl; bytes = refl }; second = refl });
   holders-answers = λ b m list s. (_, _, _, record { result = refl; bytes = refl; second = refl });
@@ -83,8 +84,8 @@ demand-one = record {
   reads = reads-back;
 }
 
-pub demand-two : DemandTwo
-demand-two = record {
+pub demand-two : (board : Board) → DemandTwo board
+demand-two board = record {
   boot = boot-changed;
   call = λ {b} small h. call-changed (handed-small b small) h;
   calls = λ base end h q. calls-isolated base end h q;
@@ -101,5 +102,5 @@ demand-two = record {
   };
 }
 
-pub demand-three : DemandThree
-demand-three = record { ledger = boot-tells }
+pub demand-three : (board : Board) → DemandThree board
+demand-three board = record { ledger = λ base end h q. boot-tells base end h q }

@@ -6,6 +6,7 @@ use mathlib.Core.Logic.{_↔_}
 use Prim.Native.Nat.{ℕ, _-_, _≤_, _<_}
 use native.Mathlib.Omega.{arith}
 use lib.ListN.{length, getD, List·getD-append}
+use Rattle.shapes.specs.declared.Board.{Board}
 use Rattle.tables.specs.View.{view}
 use Rattle.sound.specs.Laws.Core.{sound-core}
 use Rattle.sound.specs.Laws.Properties.{holder-present}
@@ -18,7 +19,7 @@ use Rattle.ledger.specs.Laws.Kept.{Keeps, after-kept, from-boot-kept}
 use Rattle.engine.specs.Engine.{names, startMasks, engineRefusal, Memory, StartLent}
 use Rattle.engine.specs.Laws.Exits.{memory-of}
 use Rattle.engine.specs.Laws.Marking.{between-length, between-from}
-use Rattle.board.specs.Board.{handed, CallLent, ListLent}
+use Rattle.face.specs.Face.{handed, CallLent, ListLent}
 use Rattle.demands.specs.Demands.{BootLent, Accepted, firstIn, HoldersWritten, happened, entered, Called, no-call, one-call, Tells}
 use Rattle.demands.specs.Theorem.{demand-three, booted, start}
 use Rattle.demands.specs.Laws.Calls.{call-done, call-event, call-noted, next}
@@ -32,57 +33,57 @@ unfolding engineRefusal
 driven base end e {ms} y d = (d .answer ∙ ap engineRefusal y, d .masks ∙ ap (λ (x : Bool). cond x (makes base end e ms) ms) y)
 
 -- ── any session ──
-module _ {base end : ℕ} (first : List ℕ) (fit : Memory (length first) base end) where
+module _ (board : Board) {base end : ℕ} (first : List ℕ) (fit : Memory (length first) base end) where
   -- where a session has come to: the bytes of the table, its ledger, the masks
   record Come (b : List ℕ) (g : Ledger) (ms : List ℕ) : Type 0 where
-    good : Good (handed b)
+    good : Good board (handed b)
     keeps : Keeps base end g (view (handed b) .k)
     mirrors : Mirrors base end g ms
     size : length ms ≡ length first
     past : (k : ℕ) → end - base ≤ k → k < length first → getD ms k 0 ≡ getD first k 0
 
-  module _ {b : List ℕ} {g : Ledger} {ms : List ℕ} (t : Come b g ms) {w s r : ℕ} {c : List ℕ} {s′ : ℕ} (here : CallLent b w s r c s′) where
-    follows : Follows base end g ms (happened b w r g)
+  module _ {b : List ℕ} {g : Ledger} {ms : List ℕ} (t : Come b g ms) {w s r : ℕ} {c : List ℕ} {s′ : ℕ} (here : CallLent board b w s r c s′) where
+    follows : Follows base end g ms (happened board b w r g)
     follows =
         let e = call-event (t .good .small) here g in
         let room : Memory (length ms) base end = rw (t .size) fit in
         subst (λ (e : Event). Follows base end g ms e) (sym e) (call-follows (t .good) (t .keeps) room (t .mirrors) w)
 
-    kept : Keeps base end (entered b w r g) (view (handed c) .k)
+    kept : Keeps base end (entered board b w r g) (view (handed c) .k)
     unfolding keptOn afterAll
     kept =
         let (_, q) = next (t .good) here in
-        let k : Keeps base end (noted w (answerOn (handed b) w) (linesNamed (handed b) w) g) (view (wordsAfter (handed b) (callOn (handed b) w)) .k) =
+        let k : Keeps base end (noted w (answerOn board (handed b) w) (linesNamed board (handed b) w) g) (view (wordsAfter (handed b) (callOn board (handed b) w)) .k) =
         after-kept (t .good) (t .keeps) (w ∷ []) in
-        subst (λ (l : List ℕ). Keeps base end (entered b w r g) (view l .k)) (sym q)
-        (subst (λ (x : Ledger). Keeps base end x (view (wordsAfter (handed b) (callOn (handed b) w)) .k)) (sym (call-noted (t .good .small) here g)) k)
+        subst (λ (l : List ℕ). Keeps base end (entered board b w r g) (view l .k)) (sym q)
+        (subst (λ (x : Ledger). Keeps base end x (view (wordsAfter (handed b) (callOn board (handed b) w)) .k)) (sym (call-noted (t .good .small) here g)) k)
 
-    come-on : {q : ℕ} {ns : List ℕ} → Drives base end (happened b w r g) ms q ns → Come c (entered b w r g) ns
+    come-on : {q : ℕ} {ns : List ℕ} → Drives base end (happened board b w r g) ms q ns → Come c (entered board b w r g) ns
     come-on d =
-        let e = happened b w r g in
+        let e = happened board b w r g in
         let f = follows in
         let (_, z) = driven base end e (f .right) d in
         let (k, q) = next (t .good) here in
         record {
-          good = subst Good (sym q) k;
+          good = subst (Good board) (sym q) k;
           keeps = kept;
-          mirrors = subst (Mirrors base end (entered b w r g)) (sym z) (f .mirrors);
+          mirrors = subst (Mirrors base end (entered board b w r g)) (sym z) (f .mirrors);
           size = ap length z ∙ makes-size base end e ms ∙ t .size;
           past = λ k x y. ap (λ (ns : List ℕ). getD ns k 0) z ∙ makes-past base end e ms (f .right) k x (rw (t .size) y) ∙ t .past k x y;
         }
 
-  comes : {b ws d ms last : List ℕ} {g h : Ledger} → Come b g ms → Both base end b g ms ws d h last → Come d h last
+  comes : {b ws d ms last : List ℕ} {g h : Ledger} → Come b g ms → Both board base end b g ms ws d h last → Come d h last
   comes t no-turn = t
   comes t (one-turn here d more) = comes (come-on t here d) more
 
 -- the table's part of a session
-table-part : {base end : ℕ} {b ws d ms last : List ℕ} {g h : Ledger} → Both base end b g ms ws d h last → Called b g ws d h
+table-part : {board : Board} {base end : ℕ} {b ws d ms last : List ℕ} {g h : Ledger} → Both board base end b g ms ws d h last → Called board b g ws d h
 table-part no-turn = no-call
 table-part (one-turn here d more) = one-call here (table-part more)
 
 -- ── what is so where it has come to ──
-module _ {base end : ℕ} (first : List ℕ) (fit : Memory (length first) base end) {b : List ℕ} {g : Ledger} {ms : List ℕ} (t : Come first fit b g ms) (tells : Tells base end g b) where
-  module _ {m : ℕ} {list : List ℕ} {s r : ℕ} {after : List ℕ} {s′ : ℕ} (x : ListLent b m list s r after s′) (lo : base ≤ m) (hi : m < end) (long : 16 ≤ length list) where
+module _ (board : Board) {base end : ℕ} (first : List ℕ) (fit : Memory (length first) base end) {b : List ℕ} {g : Ledger} {ms : List ℕ} (t : Come board first fit b g ms) (tells : Tells board base end g b) where
+  module _ {m : ℕ} {list : List ℕ} {s r : ℕ} {after : List ℕ} {s′ : ℕ} (x : ListLent board b m list s r after s′) (lo : base ≤ m) (hi : m < end) (long : 16 ≤ length list) where
     written : HoldersWritten (handed b) m (λ p. g .stands p m ≡ true) (g .parent) list (firstIn r) s′ after
     written = let (_, w, _) = tells .holders x lo hi long in w
 
@@ -108,7 +109,7 @@ module _ {base end : ℕ} (first : List ℕ) (fit : Memory (length first) base e
         let n : p < 16 = core .s2-range p 0 a v .0 in
         rw (name i u) n
 
-  side-by-side : SideBySide base end b g first ms
+  side-by-side : SideBySide board base end b g first ms
   side-by-side = record {
     holders = mask-lists;
     partitions = few;
@@ -118,17 +119,17 @@ module _ {base end : ℕ} (first : List ℕ) (fit : Memory (length first) base e
         let (_, _, z) = call-done (t .good .small) here a in
         let (e, at, y) = take-event (t .good) (t .keeps) w six z in
         (e, at, call-event (t .good .small) here g ∙ y);
-    next = λ {r = r} here {q} d. driven base end (happened b _ r g) (follows first fit t here .right) d .0;
+    next = λ {r = r} here {q} d. driven base end (happened board b _ r g) (follows board first fit t here .right) d .0;
   }
 
 -- ── from boot ──
-module _ (base end : ℕ) {b : List ℕ} {r : ℕ} {c : List ℕ} (h : BootLent b base end r c) (a : Accepted r) where
-  boot-good : Good (handed c)
-  boot-good = subst Good (sym (start base end h a)) (right-good (boot-right (handed b) base end (booted base end h a .1)))
+module _ (board : Board) (base end : ℕ) {b : List ℕ} {r : ℕ} {c : List ℕ} (h : BootLent b base end r c) (a : Accepted r) where
+  boot-good : Good board (handed c)
+  boot-good = subst (Good board) (sym (start base end h a)) (right-good board (boot-right (handed b) base end (booted base end h a .1)))
 
   boot-keeps : Keeps base end (opening base end) (view (handed c) .k)
   unfolding keptOn afterAll
-  boot-keeps = subst (λ (l : List ℕ). Keeps base end (opening base end) (view l .k)) (sym (start base end h a)) (from-boot-kept (handed b) (booted base end h a .1) [])
+  boot-keeps = subst (λ (l : List ℕ). Keeps base end (opening base end) (view l .k)) (sym (start base end h a)) (from-boot-kept board (handed b) (booted base end h a .1) [])
 
   module _ (few : end - base ≤ 2048) (first : List ℕ) (room : end - base ≤ length first) where
     memory : Memory (length first) base end
@@ -144,7 +145,7 @@ module _ (base end : ℕ) {b : List ℕ} {r : ℕ} {c : List ℕ} (h : BootLent 
       begins : begun ≡ startMasks first base end
       begins = s .masks ∙ ap (λ (x : Bool). cond x (startMasks first base end) first) (memory-of memory)
 
-      begun-come : Come first memory c (opening base end) begun
+      begun-come : Come board first memory c (opening base end) begun
       begun-come = record {
         good = boot-good;
         keeps = boot-keeps;
@@ -153,14 +154,14 @@ module _ (base end : ℕ) {b : List ℕ} {r : ℕ} {c : List ℕ} (h : BootLent 
         past = λ k x y. ap (λ (ns : List ℕ). getD ns k 0) begins ∙ between-from 0 (end - base) _ first k y x;
       }
 
-      boot-session : {ws d last : List ℕ} {g : Ledger} → Both base end c (opening base end) begun ws d g last → SideBySide base end d g first last
-      boot-session both = side-by-side first memory (comes first memory begun-come both) (demand-three .ledger base end h a (table-part both))
+      boot-session : {ws d last : List ℕ} {g : Ledger} → Both board base end c (opening base end) begun ws d g last → SideBySide board base end d g first last
+      boot-session both = side-by-side board first memory (comes board first memory begun-come both) (demand-three board .ledger base end h a (table-part both))
 
-pub line-engine : LineEngine
+pub line-engine : (board : Board) → LineEngine board
 unfolding goes makes engineRefusal
-line-engine = record {
-  start = λ base end h a few {first} room s. start-answers base end h a few first room s;
-  session = λ base end h a few {first} room s both. boot-session base end h a few first room s both;
+line-engine board = record {
+  start = λ base end h a few {first} room s. start-answers board base end h a few first room s;
+  session = λ base end h a few {first} room s both. boot-session board base end h a few first room s both;
   gives = λ base end c r p. record { answer = p .answer; masks = p .masks };
   takes = λ base end c r p. record { answer = p .answer; masks = p .masks };
   strikes = λ base end m p. record { answer = p .answer; masks = p .masks };

@@ -1,15 +1,15 @@
 ghost use mathlib.Core.Path.{_≡_};
-ghost use mathlib.Core.Bool.{true};
 ghost use Prim.Native.Nat.{_≤_, _<_};
 ghost use lib.ListN.{length};
 ghost use Rattle.tables.specs.View.{view};
 ghost use Rattle.tables.specs.Search.{lookFor};
 ghost use Rattle.tables.specs.Top.{Top};
-ghost use Rattle.sound.specs.Clauses.{sound};
+ghost use Rattle.sound.specs.Core.{Core};
 ghost use Rattle.sound.specs.Holders.{heir, deepest, looksOf, Listed, Writes};
 
 // Who holds a line: listed from the root down; and how many slot words the searches for it looked at.
 use decide::is_sound;
+use shapes::Board;
 use tables::Found;
 use tables::Outcome;
 use words::Line;
@@ -57,7 +57,7 @@ fn look(t: &[u64; 641], l: Line, p: Partition) -> Step
 
 // From the root down along what is given. The deepest holder's own search is counted too: the one that finds no heir, or, 15 steps down, one more.
 fn descend(t: &[u64; 641], l: Line) -> Descent
-    requires { ⌜ sound (now t) ≡ true ⌝ }
+    requires { ⌜ Core (view (now t) .k) ⌝ }
     ensures { λ r. ⌜ (r .deepest .0 ≡ deepest (view (now (t .entry)) .k) (l .0) 0 15) × (r .deepest .0 < 16) × (r .count ≡ looksOf (view (now (t .entry)) .k) (l .0)) ⌝ }
 {
     let mut p = Partition(0);
@@ -86,7 +86,7 @@ fn descend(t: &[u64; 641], l: Line) -> Descent
 
 // Writes the holders of a line of memory; the list has room for all.
 fn write_holders(t: &[u64; 641], l: Line, list: &mut [u8]) -> Outcome
-    requires { ⌜ (sound (now t) ≡ true) × (16 ≤ length (now list)) ⌝ }
+    requires { ⌜ Core (view (now t) .k) × (16 ≤ length (now list)) ⌝ }
     ensures { λ r. ⌜ Writes (view (now (t .entry)) .k) (l .0) (now (list .entry)) r (now (list .exit)) ⌝ }
 {
     let d = descend(t, l);
@@ -98,11 +98,11 @@ fn write_holders(t: &[u64; 641], l: Line, list: &mut [u8]) -> Outcome
 }
 
 // Holders of a line of a table that stands in an array: `holders` without its length and its copy.
-pub fn holders_table(t: &[u64; 641], top: u32, line: u64, list: &mut [u8]) -> Outcome
+pub fn holders_table(board: Board, t: &[u64; 641], top: u32, line: u64, list: &mut [u8]) -> Outcome
     requires { ⌜ Top (now t) top ⌝ }
-    ensures { λ r. ⌜ Listed (now (t .entry)) line (now (list .entry)) r (now (list .exit)) ⌝ }
+    ensures { λ r. ⌜ Listed board (now (t .entry)) line (now (list .entry)) r (now (list .exit)) ⌝ }
 {
-    if !is_sound(t, top) {
+    if !is_sound(board, t, top) {
         return Outcome::Refused(1);
     }
     let f = tables::read::first(t);
@@ -121,13 +121,13 @@ pub fn holders_table(t: &[u64; 641], top: u32, line: u64, list: &mut [u8]) -> Ou
 // The partitions with an entry that holds the line: their number, and their numbers in the first bytes, root first. The second value is the
 // sum over them of the slot words that the search of each looked at, at most 512.
 // Refused: 1 not a sound table of 641 words, 7 a line outside base to end, 17 a list under 16 bytes.
-pub fn holders(t: &[u64], line: u64, list: &mut [u8]) -> Outcome
-    ensures { λ r. ⌜ Listed (now (t .entry)) line (now (list .entry)) r (now (list .exit)) ⌝ }
+pub fn holders(board: Board, t: &[u64], line: u64, list: &mut [u8]) -> Outcome
+    ensures { λ r. ⌜ Listed board (now (t .entry)) line (now (list .entry)) r (now (list .exit)) ⌝ }
 {
     if t.len() != 641 {
         return Outcome::Refused(1);
     }
     let mut a = [0u64; 641];
     tables::copies::copy_in(t, &mut a);
-    holders_table(&a, 16, line, list)
+    holders_table(board, &a, 16, line, list)
 }

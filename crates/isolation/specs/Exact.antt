@@ -8,6 +8,7 @@ use Rattle.words.specs.Kind.{fieldsIn, Zeroed}
 use Rattle.words.specs.Words.{call}
 use Rattle.words.specs.declared.Rights.{Rights}
 use Rattle.words.specs.declared.call_word.CallFields.{CallFields}
+use Rattle.shapes.specs.declared.Board.{Board}
 use Rattle.tables.specs.State.{some, Table}
 use Rattle.tables.specs.View.{view}
 use Rattle.sound.specs.Sound.{Sound}
@@ -48,8 +49,8 @@ Known f = (f .service ≡ 9 → RegionCall f) × ((x : Uses) × (uses (f .servic
 
 -- ── a call ──
 -- the conditions of the service of number n
-abbrev pub numberedLadder : ℕ → Table → CallFields → Ladder
-numberedLadder n t f =
+abbrev pub numberedLadder : Board → ℕ → Table → CallFields → Ladder
+numberedLadder b n t f =
     let p = f .partition .0 in
     let s = f .slot .0 in
     let u = f .other in
@@ -62,16 +63,16 @@ numberedLadder n t f =
     (cond (eqb n 6) (takeLadder t s)
     (cond (eqb n 7) (cutLadder t s l)
     (cond (eqb n 8) (mergeLadder t s u)
-    (cond (eqb n 9) (cond (f .rights .execute) (unloadLadder t p u) (loadLadder t p s u))
+    (cond (eqb n 9) (cond (f .rights .execute) (unloadLadder t p u) (loadLadder b t p s u))
     (cond (eqb n 11) (readRegionLadder t p u)
     (cond (eqb n 12) (findLadder t p l)
     (cond (eqb n 13) (switchLadder t p)
     (cond (eqb n 14) (clearLadder t p)
     (must 2 ⊥ (finish 0 0 t))))))))))))))
 
-abbrev pub serveLadder : Table → CallFields → Ladder
-serveLadder t f = must 2 (Known f) (numberedLadder (f .service) t f)
+abbrev pub serveLadder : Board → Table → CallFields → Ladder
+serveLadder b t f = must 2 (Known f) (numberedLadder b (f .service) t f)
 
 -- 1: a sound table; 2: zero bits that are zero, a service's number, unused fields that are zero; then the service's own
-abbrev pub callLadder : List ℕ → ℕ → Ladder
-callLadder l w = must 1 (Sound l) (must 2 (Zeroed call w) (serveLadder (view l) (fieldsIn call w)))
+abbrev pub callLadder : Board → List ℕ → ℕ → Ladder
+callLadder b l w = must 1 (Sound b l) (must 2 (Zeroed call w) (serveLadder b (view l) (fieldsIn call w)))

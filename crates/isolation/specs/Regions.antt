@@ -1,6 +1,7 @@
 -- Services 9 and 11: a region of a partition is loaded or emptied, and read.
 use mathlib.Core.Path.{_≡_}
 use Prim.Native.Nat.{ℕ, _<_}
+use Rattle.shapes.specs.declared.Board.{Board}
 use Rattle.tables.specs.State.{none, some, Table}
 use Rattle.tables.specs.Update.{upd}
 use Rattle.tables.specs.Lines.{Clear}
@@ -14,8 +15,8 @@ use Rattle.isolation.specs.Checks.{OwnOrChild}
 abbrev pub Nowhere : Table → ℕ → ℕ → ℕ → Type 0
 Nowhere t p s r = (q : ℕ) → (q ≡ r → ⊥) → t .region p q ≡ some s → ⊥
 
-abbrev pub loadLadder : Table → ℕ → ℕ → ℕ → Ladder
-loadLadder t p s r =
+abbrev pub loadLadder : Board → Table → ℕ → ℕ → ℕ → Ladder
+loadLadder b t p s r =
     must 3 (OwnOrChild (t .k) p)
     (there 4 (t .k .slot p s) λ e.
     must 5 (Clear (t .k .area) e)

@@ -6,6 +6,7 @@ use Prim.Native.Nat.{ℕ}
 use Rattle.words.specs.Kind.{fieldsIn, zeroed}
 use Rattle.words.specs.Words.{call}
 use Rattle.words.specs.declared.call_word.CallFields.{CallFields}
+use Rattle.shapes.specs.declared.Board.{Board}
 use Rattle.tables.specs.State.{Table}
 use Rattle.tables.specs.View.{view}
 use Rattle.tables.specs.Encode.{encode, Canon}
@@ -40,13 +41,13 @@ use Rattle.isolation.specs.Laws.Boot.{boot-right}
 
 -- ── one call ──
 -- each service keeps a table right
-pub serve-right : {t : Table} → Right t → (f : CallFields) {v w : ℕ} {t′ : Table} → serve t f ≡ done v w t′ → Right t′
-serve-right {t} h f z =
+pub serve-right : (b : Board) {t : Table} → Right t → (f : CallFields) {v w : ℕ} {t′ : Table} → serve b t f ≡ done v w t′ → Right t′
+serve-right b {t} h f z =
     let p = f .partition .0 in
     let s = f .slot .0 in
     let u = f .other in
     let l = f .line .0 in
-    done-each t f z (record {
+    done-each b t f z (record {
       create = λ _. create-right h s;
       delete = λ _. delete-right h p;
       prepare = λ _. prepare-right h p s;
@@ -55,7 +56,7 @@ serve-right {t} h f z =
       take = λ _. take-right h s;
       cut = λ _. cut-right h s l;
       merge = λ _. merge-right h s u;
-      load = λ _ _. load-right h p s u;
+      load = λ _ _. load-right b h p s u;
       unload = λ _ _. unload-right h p u;
       readRegion = λ _ z. rw (readRegion-same h p u z) h;
       find = λ _ z. rw (find-same h p l z) h;
@@ -68,66 +69,66 @@ abbrev pub Reads : CallFields → Type 0
 Reads f = (f .service ≡ 11) ⊎ (f .service ≡ 12)
 
 -- .. change nothing
-pub serve-same : {t : Table} → Right t → (f : CallFields) → Reads f → {v w : ℕ} {t′ : Table} → serve t f ≡ done v w t′ → t′ ≡ t
-serve-same {t} h f (inl e) z = readRegion-same h (f .partition .0) (f .other) (sym (perform-at 11 t f e) ∙ serve-done t f z .1)
-serve-same {t} h f (inr e) z = find-same h (f .partition .0) (f .line .0) (sym (perform-at 12 t f e) ∙ serve-done t f z .1)
+pub serve-same : (b : Board) {t : Table} → Right t → (f : CallFields) → Reads f → {v w : ℕ} {t′ : Table} → serve b t f ≡ done v w t′ → t′ ≡ t
+serve-same b {t} h f (inl e) z = readRegion-same h (f .partition .0) (f .other) (sym (perform-at b 11 t f e) ∙ serve-done b t f z .1)
+serve-same b {t} h f (inr e) z = find-same h (f .partition .0) (f .line .0) (sym (perform-at b 12 t f e) ∙ serve-done b t f z .1)
 
-module _ (l : List ℕ) (w : ℕ) (small : Words l) where
+module _ (b : Board) (l : List ℕ) (w : ℕ) (small : Words l) where
   -- what is done was asked of a sound table, which the words are those of
-  pub served : {v x : ℕ} {t′ : Table} → callOn l w ≡ done v x t′ → Canon l × Right (view l) × (serve (view l) (fieldsIn call w) ≡ done v x t′)
+  pub served : {v x : ℕ} {t′ : Table} → callOn b l w ≡ done v x t′ → Canon l × Right (view l) × (serve b (view l) (fieldsIn call w) ≡ done v x t′)
   served z =
-      let (q, y) = check-done 1 (sound l) (sym (call-as l w) ∙ z) in
-      let s = sound-means l .0 q in
+      let (q, y) = check-done 1 (sound b l) (sym (call-as b l w) ∙ z) in
+      let s = sound-means b l .0 q in
       let c = sound-canon small s in
       (c, sound-right c s, check-done 2 (zeroed call w) y .1)
 
-  pub call-right : {v x : ℕ} {t′ : Table} → callOn l w ≡ done v x t′ → Right t′
-  call-right z = let (_, h, y) = served z in serve-right h (fieldsIn call w) y
+  pub call-right : {v x : ℕ} {t′ : Table} → callOn b l w ≡ done v x t′ → Right t′
+  call-right z = let (_, h, y) = served z in serve-right b h (fieldsIn call w) y
 
-  pub call-sound : {v x : ℕ} {t′ : Table} → callOn l w ≡ done v x t′ → Sound (encode t′)
-  call-sound z = right-good (call-right z) .sound
+  pub call-sound : {v x : ℕ} {t′ : Table} → callOn b l w ≡ done v x t′ → Sound b (encode t′)
+  call-sound z = right-good b (call-right z) .sound
 
   -- a call that reads changes no word
-  pub reads-same : Reads (fieldsIn call w) → {v x : ℕ} {t′ : Table} → callOn l w ≡ done v x t′ → encode t′ ≡ l
-  reads-same e z = let (c, h, y) = served z in ap encode (serve-same h (fieldsIn call w) e y) ∙ c .same
+  pub reads-same : Reads (fieldsIn call w) → {v x : ℕ} {t′ : Table} → callOn b l w ≡ done v x t′ → encode t′ ≡ l
+  reads-same e z = let (c, h, y) = served z in ap encode (serve-same b h (fieldsIn call w) e y) ∙ c .same
 
 -- a refused call leaves the words as they were
-pub refused-same : (l : List ℕ) (w : ℕ) {n : ℕ} → callOn l w ≡ refused n → wordsAfter l (callOn l w) ≡ l
+pub refused-same : (b : Board) (l : List ℕ) (w : ℕ) {n : ℕ} → callOn b l w ≡ refused n → wordsAfter l (callOn b l w) ≡ l
 unfolding wordsAfter
-refused-same l w z = rw z refl
+refused-same b l w z = rw z refl
 
-pub boot-sound : (l : List ℕ) (base end : ℕ) {v x : ℕ} {t′ : Table} → bootOn l base end ≡ done v x t′ → Sound (encode t′)
-boot-sound l base end z = right-good (boot-right l base end z) .sound
+pub boot-sound : (b : Board) (l : List ℕ) (base end : ℕ) {v x : ℕ} {t′ : Table} → bootOn l base end ≡ done v x t′ → Sound b (encode t′)
+boot-sound b l base end z = right-good b (boot-right l base end z) .sound
 
 -- ── any list of calls ──
 -- the words after the calls of these words, in order
-unfoldable pub afterAll : List ℕ → List ℕ → List ℕ
-afterAll l [] = l
-afterAll l (w ∷ ws) = afterAll (wordsAfter l (callOn l w)) ws
+unfoldable pub afterAll : Board → List ℕ → List ℕ → List ℕ
+afterAll b l [] = l
+afterAll b l (w ∷ ws) = afterAll b (wordsAfter l (callOn b l w)) ws
 
-pub after-good : {l : List ℕ} → Good l → (ws : List ℕ) → Good (afterAll l ws)
+pub after-good : {b : Board} {l : List ℕ} → Good b l → (ws : List ℕ) → Good b (afterAll b l ws)
 unfolding afterAll wordsAfter
 after-good g [] = g
-after-good {l} g (w ∷ ws) = after-good (one (callOn l w) refl) ws
+after-good {b} {l} g (w ∷ ws) = after-good (one (callOn b l w) refl) ws
   where
-    one : (r : Result) → callOn l w ≡ r → Good (wordsAfter l r)
-    one (done v x t′) z = right-good (call-right l w (g .small) z)
+    one : (r : Result) → callOn b l w ≡ r → Good b (wordsAfter l r)
+    one (done v x t′) z = right-good b (call-right b l w (g .small) z)
     one (refused n) z = g
 
-module _ (l ws : List ℕ) (small : Words l) (s : Sound l) where
-  pub after-sound : Sound (afterAll l ws)
+module _ {b : Board} (l ws : List ℕ) (small : Words l) (s : Sound b l) where
+  pub after-sound : Sound b (afterAll b l ws)
   after-sound = after-good (record { small = small; sound = s }) ws .sound
 
-  pub after-isolated : Isolated (view (afterAll l ws))
-  after-isolated = sound-isolated (afterAll l ws) after-sound
+  pub after-isolated : Isolated (view (afterAll b l ws))
+  after-isolated = sound-isolated (afterAll b l ws) after-sound
 
-module _ (l ws : List ℕ) (base end : ℕ) {v x : ℕ} {t′ : Table} (z : bootOn l base end ≡ done v x t′) where
-  pub from-boot-sound : Sound (afterAll (encode t′) ws)
-  from-boot-sound = after-good (right-good (boot-right l base end z)) ws .sound
+module _ (b : Board) (l ws : List ℕ) (base end : ℕ) {v x : ℕ} {t′ : Table} (z : bootOn l base end ≡ done v x t′) where
+  pub from-boot-sound : Sound b (afterAll b (encode t′) ws)
+  from-boot-sound = after-good (right-good b (boot-right l base end z)) ws .sound
 
-  pub from-boot-isolated : Isolated (view (afterAll (encode t′) ws))
-  from-boot-isolated = sound-isolated (afterAll (encode t′) ws) from-boot-sound
+  pub from-boot-isolated : Isolated (view (afterAll b (encode t′) ws))
+  from-boot-isolated = sound-isolated (afterAll b (encode t′) ws) from-boot-sound
 
   -- so a merge whose other checks pass joins entries of equal rights
-  pub from-boot-rights : EqualRights (view (afterAll (encode t′) ws) .k)
-  from-boot-rights = core-rights (sound-core (afterAll (encode t′) ws) from-boot-sound)
+  pub from-boot-rights : EqualRights (view (afterAll b (encode t′) ws) .k)
+  from-boot-rights = core-rights (sound-core (afterAll b (encode t′) ws) from-boot-sound)

@@ -8,6 +8,7 @@ use Rattle.loops.specs.Every.{all}
 use Rattle.words.specs.Kind.{fieldsIn}
 use Rattle.words.specs.Words.{call}
 use Rattle.words.specs.declared.call_word.CallFields.{CallFields}
+use Rattle.shapes.specs.declared.Board.{Board}
 use Rattle.tables.specs.State.{Opt, none, some, Entry}
 use Rattle.tables.specs.Update.{upd1}
 use Rattle.tables.specs.View.{view}
@@ -89,8 +90,8 @@ noted w a r g = apply (eventOf g (fieldsIn call w) (a .caller .0) (a .outcome) r
 
 -- ── over a list of calls ──
 -- the answer of a call of word w on the words l
-abbrev pub answerOn : List ℕ → ℕ → Answer
-answerOn l w = record { caller = record { 0 = callerOf l }; outcome = outcomeOf (callOn l w); stands = standsAfter l w }
+abbrev pub answerOn : Board → List ℕ → ℕ → Answer
+answerOn b l w = record { caller = record { 0 = callerOf b l }; outcome = outcomeOf (callOn b l w); stands = standsAfter b l w }
 
 -- no entry has no line
 unfoldable pub linesOf : Opt Entry → Lines
@@ -98,10 +99,10 @@ linesOf none = record { start = 0; stop = 0 }
 linesOf (some e) = record { start = e .start; stop = e .stop }
 
 -- what is read of the table: the lines of the caller's entry that the call names
-abbrev pub linesNamed : List ℕ → ℕ → Lines
-linesNamed l w = linesOf (view l .k .slot (callerOf l) (fieldsIn call w .slot .0))
+abbrev pub linesNamed : Board → List ℕ → ℕ → Lines
+linesNamed b l w = linesOf (view l .k .slot (callerOf b l) (fieldsIn call w .slot .0))
 
 -- the ledger g of the table of words l, kept on over the calls of these words, in order
-unfoldable pub keptOn : List ℕ → Ledger → List ℕ → Ledger
-keptOn l g [] = g
-keptOn l g (w ∷ ws) = keptOn (wordsAfter l (callOn l w)) (noted w (answerOn l w) (linesNamed l w) g) ws
+unfoldable pub keptOn : Board → List ℕ → Ledger → List ℕ → Ledger
+keptOn b l g [] = g
+keptOn b l g (w ∷ ws) = keptOn b (wordsAfter l (callOn b l w)) (noted w (answerOn b l w) (linesNamed b l w) g) ws

@@ -8,6 +8,7 @@ use native.Mathlib.Decide.{decLt}
 use native.Mathlib.Omega.{arith}
 use lib.ListN.{length}
 use Rattle.loops.specs.Count.{count}
+use Rattle.shapes.specs.declared.Board.{Board}
 use Rattle.tables.specs.State.{Table}
 use Rattle.tables.specs.View.{view}
 use Rattle.tables.specs.Encode.{encode}
@@ -29,18 +30,18 @@ use Rattle.ledger.specs.Laws.Lists.{lists-same, counted}
 use Rattle.ledger.specs.Laws.Listing.{holders-list}
 
 -- What demand 3 says of a ledger g and the words t of a table of base to end. Listed is what holders promises.
-pub record Demand3 (base end : ℕ) (g : Ledger) (t : List ℕ) : Type 0 where
+pub record Demand3 (b : Board) (base end : ℕ) (g : Ledger) (t : List ℕ) : Type 0 where
   -- the partitions of the ledger for a line, and no other, are listed: root first, each in the ledger's tree the parent of the next, each once
   pub listing : (m : ℕ) → base ≤ m → m < end → Lists (λ p. g .stands p m ≡ true) (g .parent) (holdersOf (view t .k) m)
   -- holders is done with their number and the sum of their searches, and the first bytes become their names
-  pub answer : {m : ℕ} {before after : List ℕ} {r : Outcome} → base ≤ m → m < end → 16 ≤ length before → Listed t m before r after
+  pub answer : {m : ℕ} {before after : List ℕ} {r : Outcome} → base ≤ m → m < end → 16 ≤ length before → Listed b t m before r after
       → (r ≡ Done (count 16 (λ p. g .stands p m)) (looksOf (view t .k) m)) × (after ≡ over (holdersOf (view t .k) m) before)
   -- a line that is not in base to end has nobody in the ledger, and is refused
   pub nobody : (p m : ℕ) → g .stands p m ≡ true → (base ≤ m) × (m < end)
-  pub outside : {m : ℕ} {before after : List ℕ} {r : Outcome} → ((base ≤ m) × (m < end) → ⊥) → Listed t m before r after → (r ≡ Refused 7) × (after ≡ before)
+  pub outside : {m : ℕ} {before after : List ℕ} {r : Outcome} → ((base ≤ m) × (m < end) → ⊥) → Listed b t m before r after → (r ≡ Refused 7) × (after ≡ before)
 
 -- ── a sound table whose ledger is right ──
-module _ {base end : ℕ} {g : Ledger} {t : List ℕ} (h : Sound t) (s : Keeps base end g (view t .k)) where
+module _ {board : Board} {base end : ℕ} {g : Ledger} {t : List ℕ} (h : Sound board t) (s : Keeps base end g (view t .k)) where
   lists : (m : ℕ) → base ≤ m → m < end → Lists (λ p. g .stands p m ≡ true) (g .parent) (holdersOf (view t .k) m)
   lists m a b = rw (s .tree) (lists-same (λ p. Iff·symm (s .holders p m)) (holders-list (sound-core t h) (rw (s .base-is) a, rw (s .end-is) b)))
 
@@ -60,18 +61,18 @@ module _ {base end : ℕ} {g : Ledger} {t : List ℕ} (h : Sound t) (s : Keeps b
       go (no a) (no b) = from-end (view t .k) m (omega (arith, s .base-is)) (omega (arith, s .end-is))
       go (no a) (yes b) = absurd (n (omega arith, b))
 
-  pub kept-demand-3 : Demand3 base end g t
+  pub kept-demand-3 : Demand3 board base end g t
   kept-demand-3 = record {
     listing = lists;
     answer = λ {m} a b c x.
         let e = number m a b in
         let i = in-memory (view t .k) m (rw (s .base-is) a) (rw (s .end-is) b) in
-        listed-one x (listed-done (sound-means t .1 h) i c (record { outcome = ap (λ (n : ℕ). Done n (looksOf (view t .k) m)) (sym e); bytes = refl }));
+        listed-one x (listed-done (sound-means board t .1 h) i c (record { outcome = ap (λ (n : ℕ). Done n (looksOf (view t .k) m)) (sym e); bytes = refl }));
     nobody = λ p m q. rw (s .base-is, s .end-is) at (held-range (sound-core t h) (s .holders p m .0 q));
-    outside = λ {m} n x. listed-one x (listed-outside (sound-means t .1 h) (not-in-memory m n));
+    outside = λ {m} n x. listed-one x (listed-outside (sound-means board t .1 h) (not-in-memory m n));
   }
 
 -- from an accepted boot, after the calls of any words
-pub demand-3 : (l : List ℕ) (base end : ℕ) {v x : ℕ} {t′ : Table} → bootOn l base end ≡ done v x t′ → (ws : List ℕ)
-    → Demand3 base end (keptOn (encode t′) (opening base end) ws) (afterAll (encode t′) ws)
-demand-3 l base end z ws = kept-demand-3 (from-boot-sound l ws base end z) (from-boot-kept l z ws)
+pub demand-3 : (b : Board) (l : List ℕ) (base end : ℕ) {v x : ℕ} {t′ : Table} → bootOn l base end ≡ done v x t′ → (ws : List ℕ)
+    → Demand3 b base end (keptOn b (encode t′) (opening base end) ws) (afterAll b (encode t′) ws)
+demand-3 b l base end z ws = kept-demand-3 (from-boot-sound b l ws base end z) (from-boot-kept b l z ws)

@@ -3,6 +3,7 @@ use mathlib.Core.Path.{_≡_}
 use mathlib.Core.Bool.{cond}
 use mathlib.Core.List.{List}
 use Prim.Native.Nat.{ℕ}
+use Rattle.shapes.specs.declared.Board.{Board}
 use Rattle.tables.specs.View.{view}
 use Rattle.sound.specs.Clauses.{sound}
 use Rattle.rules.specs.declared.Answer.{Answer}
@@ -11,11 +12,11 @@ use Rattle.rules.specs.Ran.{Ran}
 use Rattle.rules.specs.Reads.{standsAfter}
 
 -- the caller's number before the call; 0 where refusal 1 is given
-unfoldable pub callerOf : List ℕ → ℕ
-callerOf l = cond (sound l) (view l .k .current) 0
+unfoldable pub callerOf : Board → List ℕ → ℕ
+callerOf b l = cond (sound b l) (view l .k .current) 0
 
 -- the answer: the caller beside the outcome of the rule, and whether it stands; and every word afterwards
-pub record Answers (before : List ℕ) (w : ℕ) (r : Answer) (after : List ℕ) : Type 0 where
-  pub caller : r .caller .0 ≡ callerOf before
-  pub ran : Ran (callOn before w) before (r .outcome) after
-  pub stands : r .stands ≡ standsAfter before w
+pub record Answers (b : Board) (before : List ℕ) (w : ℕ) (r : Answer) (after : List ℕ) : Type 0 where
+  pub caller : r .caller .0 ≡ callerOf b before
+  pub ran : Ran (callOn b before w) before (r .outcome) after
+  pub stands : r .stands ≡ standsAfter b before w

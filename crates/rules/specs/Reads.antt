@@ -7,6 +7,7 @@ use Rattle.words.specs.Kind.{reading}
 use Rattle.words.specs.Words.{call}
 use Rattle.words.specs.declared.call_word.CallRead.{CallRead}
 use Rattle.words.specs.declared.call_word.CallRead.the-variants.{Fields, Refused}
+use Rattle.shapes.specs.declared.Board.{Board}
 use Rattle.sound.specs.Clauses.{sound}
 
 -- 11 read region, 12 find, and a word that is refused
@@ -15,5 +16,5 @@ onlyReads (Fields f) = eqb (f .service) 11 || eqb (f .service) 12
 onlyReads (Refused n) = true
 
 -- .. and a table that is refused
-unfoldable pub standsAfter : List ℕ → ℕ → Bool
-standsAfter l w = cond (sound l) (onlyReads (reading call w)) true
+unfoldable pub standsAfter : Board → List ℕ → ℕ → Bool
+standsAfter b l w = cond (sound b l) (onlyReads (reading call w)) true

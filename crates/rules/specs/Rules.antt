@@ -13,6 +13,7 @@ use Rattle.words.specs.declared.Rights.{Rights}
 use Rattle.words.specs.declared.call_word.CallFields.{CallFields}
 use Rattle.words.specs.declared.call_word.CallRead.{CallRead}
 use Rattle.words.specs.declared.call_word.CallRead.the-variants.{Fields, Refused}
+use Rattle.shapes.specs.declared.Board.{Board}
 use Rattle.tables.specs.State.{Opt, none, some, Entry, rootEntry, givenTo, endingAt, startingAt, rangeOf, Area, nowhere, K, Table}
 use Rattle.tables.specs.Update.{upd, upd1}
 use Rattle.tables.specs.View.{view}
@@ -184,8 +185,8 @@ merge t s u =
 unfoldable pub elsewhere : Table → ℕ → ℕ → ℕ → Bool
 elsewhere t p s r = any 8 (λ q. not (eqb q r) && has (λ i. eqb i s) (t .region p q))
 
-unfoldable pub load : Table → ℕ → ℕ → ℕ → Result
-load t p s r =
+unfoldable pub load : Board → Table → ℕ → ℕ → ℕ → Result
+load b t p s r =
     check 3 (ownOrChild (t .k) p)
     (need 4 (t .k .slot p s) λ e.
     check 5 (t .opened p s)
@@ -277,8 +278,8 @@ unfoldable pub known : CallFields → Bool
 known f = (not (eqb (f .service) 9) || regionCall f) && has (λ x. unused x f) (uses (f .service))
 
 -- the service of number n, of such fields
-abbrev pub numbered : ℕ → Table → CallFields → Result
-numbered n t f =
+abbrev pub numbered : Board → ℕ → Table → CallFields → Result
+numbered b n t f =
     let p = f .partition .0 in
     let s = f .slot .0 in
     let u = f .other in
@@ -291,26 +292,26 @@ numbered n t f =
     (cond (eqb n 6) (take t s)
     (cond (eqb n 7) (cut t s l)
     (cond (eqb n 8) (merge t s u)
-    (cond (eqb n 9) (cond (f .rights .execute) (unload t p u) (load t p s u))
+    (cond (eqb n 9) (cond (f .rights .execute) (unload t p u) (load b t p s u))
     (cond (eqb n 11) (readRegion t p u)
     (cond (eqb n 12) (find t p l)
     (cond (eqb n 13) (switch t p)
     (cond (eqb n 14) (clearOut t p)
     (refused 2)))))))))))))
 
-unfoldable pub perform : Table → CallFields → Result
-perform t f = numbered (f .service) t f
+unfoldable pub perform : Board → Table → CallFields → Result
+perform b t f = numbered b (f .service) t f
 
-unfoldable pub serve : Table → CallFields → Result
-serve t f = check 2 (known f) (perform t f)
+unfoldable pub serve : Board → Table → CallFields → Result
+serve b t f = check 2 (known f) (perform b t f)
 
-unfoldable pub serveRead : Table → CallRead → Result
-serveRead t (Fields f) = serve t f
-serveRead t (Refused n) = refused n
+unfoldable pub serveRead : Board → Table → CallRead → Result
+serveRead b t (Fields f) = serve b t f
+serveRead b t (Refused n) = refused n
 
 -- the call of a word on the words of a table: 1 first, then 2, then the service
-unfoldable pub callOn : List ℕ → ℕ → Result
-callOn l w = cond (sound l) (serveRead (view l) (reading call w)) (refused 1)
+unfoldable pub callOn : Board → List ℕ → ℕ → Result
+callOn b l w = cond (sound b l) (serveRead b (view l) (reading call w)) (refused 1)
 
 -- ── boot: base and end; 1 7; whole table rewritten ──
 abbrev pub bootK : ℕ → ℕ → K

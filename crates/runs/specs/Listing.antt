@@ -4,6 +4,7 @@ use mathlib.Core.List.{List}
 use Prim.Native.Nat.{ℕ}
 use lib.Dec.{leb}
 use lib.ListN.{length}
+use Rattle.shapes.specs.declared.Board.{Board}
 use Rattle.tables.specs.State.{K}
 use Rattle.tables.specs.View.{view}
 use Rattle.tables.specs.declared.Outcome.the-variants.{Done, Refused}
@@ -19,9 +20,9 @@ refusal why = record { number = 0; outcome = Refused why }
 abbrev pub writing : K → Plan
 writing k = record { number = length (runsOf k); outcome = Done (length (runsOf k)) 0 }
 
-unfoldable pub planOf : List ℕ → ℕ → Plan
-planOf t size = cond (sound t) (cond (leb (length (runsOf (view t .k))) size) (writing (view t .k)) (refusal 17)) (refusal 1)
+unfoldable pub planOf : Board → List ℕ → ℕ → Plan
+planOf b t size = cond (sound b t) (cond (leb (length (runsOf (view t .k))) size) (writing (view t .k)) (refusal 17)) (refusal 1)
 
--- the marks of a sound table, over b
-unfoldable pub marksIn : List ℕ → List ℕ → List ℕ
-marksIn t b = cond (sound t) (marksOver (view t .k) b) b
+-- the marks of a sound table, over m
+unfoldable pub marksIn : Board → List ℕ → List ℕ → List ℕ
+marksIn b t m = cond (sound b t) (marksOver (view t .k) m) m

@@ -5,6 +5,7 @@ use mathlib.Core.Path.{_≡_}
 use Prim.Native.Nat.{ℕ, zero, suc, _+_, _-_, _≤_, _<_}
 use lib.Dec.{eqb, leb}
 use lib.ListN.{length, drop, getD}
+use Rattle.shapes.specs.declared.Board.{Board}
 use Rattle.tables.specs.State.{K}
 use Rattle.tables.specs.View.{view}
 use Rattle.tables.specs.declared.Outcome.{Outcome}
@@ -58,17 +59,17 @@ pub record Longest (k : K) (rs : List Run) : Type 0 where
   pub differ : (i l m : ℕ) → suc i < length rs → On (nth rs i) l → On (nth rs (suc i)) m → holdersOf k l ≡ holdersOf k m → ⊥
 
 -- ── what is answered where they are listed, and the records after it ──
-unfoldable pub runsOutcome : List ℕ → ℕ → Outcome
-runsOutcome t size = cond (sound t) (cond (leb (length (runsOf (view t .k))) size) (Done (length (runsOf (view t .k))) 0) (Refused 17)) (Refused 1)
+unfoldable pub runsOutcome : Board → List ℕ → ℕ → Outcome
+runsOutcome b t size = cond (sound b t) (cond (leb (length (runsOf (view t .k))) size) (Done (length (runsOf (view t .k))) 0) (Refused 17)) (Refused 1)
 
 -- the first records are the runs, the rest stay
 abbrev pub over : List Run → List Run → List Run
 over rs list = rs ++ drop (length rs) list
 
-unfoldable pub runsRecords : List ℕ → List Run → List Run
-runsRecords t list = cond (sound t) (cond (leb (length (runsOf (view t .k))) (length list)) (over (runsOf (view t .k)) list) list) list
+unfoldable pub runsRecords : Board → List ℕ → List Run → List Run
+runsRecords b t list = cond (sound b t) (cond (leb (length (runsOf (view t .k))) (length list)) (over (runsOf (view t .k)) list) list) list
 
 -- what their one writer promises of the words that it was handed (`handed-listed` of board): its outcome, and every record of the list
-pub record Listed (t : List ℕ) (before : List Run) (r : Outcome) (after : List Run) : Type 0 where
-  pub outcome : r ≡ runsOutcome t (length before)
-  pub records : after ≡ runsRecords t before
+pub record Listed (b : Board) (t : List ℕ) (before : List Run) (r : Outcome) (after : List Run) : Type 0 where
+  pub outcome : r ≡ runsOutcome b t (length before)
+  pub records : after ≡ runsRecords b t before

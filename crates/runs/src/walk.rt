@@ -1,9 +1,8 @@
 ghost use mathlib.Core.Path.{_≡_};
-ghost use mathlib.Core.Bool.{true};
 ghost use Prim.Native.Nat.{_<_, _≤_, _^_};
 ghost use lib.ListN.{length};
 ghost use Rattle.tables.specs.View.{view};
-ghost use Rattle.sound.specs.Clauses.{sound};
+ghost use Rattle.sound.specs.Core.{Core};
 ghost use Rattle.runs.specs.Runs.{runsOf};
 ghost use Rattle.runs.specs.Places.{InOrder};
 ghost use Rattle.runs.specs.Marks.{Marked, marksOver};
@@ -26,7 +25,7 @@ fn mark(marks: &mut [u32; 513], n: usize, last: Partition, start: Line, deepest:
 
 // The number of runs, and their marks; after the last, one of the end of memory, with the root, which the way begins with too. Before the first run no partition is the deepest holder.
 pub fn mark_runs(t: &[u64; 641], order: &[u8; 512], marks: &mut [u32; 513]) -> usize
-    requires { ⌜ (sound (now t) ≡ true) × InOrder (view (now t) .k) (now order) × (length (now marks) ≡ 513) ⌝ }
+    requires { ⌜ Core (view (now t) .k) × InOrder (view (now t) .k) (now order) × (length (now marks) ≡ 513) ⌝ }
     ensures { λ r. ⌜ (r ≡ length (runsOf (view (now (t .entry)) .k))) × (now (marks .exit) ≡ marksOver (view (now (t .entry)) .k) (now (marks .entry))) ⌝ }
 {
     let f = tables::read::first(t);

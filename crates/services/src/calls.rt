@@ -10,6 +10,7 @@ ghost use Rattle.rules.specs.Rules.{noRights, unused, regionCall, known, number
 ghost use Rattle.rules.specs.Ran.{Ran};
 ghost use Rattle.rules.specs.Calls.{Answers};
 use rules::Answer;
+use shapes::Board;
 use tables::Outcome;
 use words::Partition;
 use words::Rights;
@@ -99,21 +100,21 @@ fn known(f: CallFields) -> bool
 }
 
 // Service 9: R = 1 unloads, R = 0 loads.
-fn region(t: &mut [u64; 641], f: CallFields) -> Outcome
+fn region(board: Board, t: &mut [u64; 641], f: CallFields) -> Outcome
     requires { ⌜ Canon (now t) × SmallCall f × Right (view (now t)) ⌝ }
-    ensures { λ r. ⌜ Ran (numbered 9 (view (now (t .entry))) f) (now (t .entry)) r (now (t .exit)) ⌝ }
+    ensures { λ r. ⌜ Ran (numbered board 9 (view (now (t .entry))) f) (now (t .entry)) r (now (t .exit)) ⌝ }
 {
     let r = f.rights;
     if r.execute {
         return crate::region_services::unload(t, f.partition, f.other);
     }
-    crate::region_services::load(t, f.partition, f.slot, f.other)
+    crate::region_services::load(board, t, f.partition, f.slot, f.other)
 }
 
 // The service of a call word whose fields are in order.
-fn perform(t: &mut [u64; 641], f: CallFields) -> Outcome
+fn perform(board: Board, t: &mut [u64; 641], f: CallFields) -> Outcome
     requires { ⌜ Canon (now t) × SmallCall f × (known f ≡ true) × Right (view (now t)) ⌝ }
-    ensures { λ r. ⌜ Ran (perform (view (now (t .entry))) f) (now (t .entry)) r (now (t .exit)) ⌝ }
+    ensures { λ r. ⌜ Ran (perform board (view (now (t .entry))) f) (now (t .entry)) r (now (t .exit)) ⌝ }
 {
     let service = f.service;
     match service {
@@ -125,7 +126,7 @@ fn perform(t: &mut [u64; 641], f: CallFields) -> Outcome
         6 => blocks::take_service::take(t, f.slot),
         7 => blocks::slot_services::cut(t, f.slot, f.line),
         8 => blocks::merge_service::merge(t, f.slot, Slot(f.other)),
-        9 => region(t, f),
+        9 => region(board, t, f),
         11 => crate::region_services::read_region(t, f.partition, f.other),
         12 => crate::looks::find(t, f.partition, f.line),
         13 => crate::looks::switch(t, f.partition),
@@ -135,20 +136,20 @@ fn perform(t: &mut [u64; 641], f: CallFields) -> Outcome
 }
 
 // The fields of a call word: its service, or 2 where they are not in order.
-fn serve(t: &mut [u64; 641], f: CallFields) -> Outcome
+fn serve(board: Board, t: &mut [u64; 641], f: CallFields) -> Outcome
     requires { ⌜ Canon (now t) × SmallCall f × Right (view (now t)) ⌝ }
-    ensures { λ r. ⌜ Ran (serve (view (now (t .entry))) f) (now (t .entry)) r (now (t .exit)) ⌝ }
+    ensures { λ r. ⌜ Ran (serve board (view (now (t .entry))) f) (now (t .entry)) r (now (t .exit)) ⌝ }
 {
     if !known(f) {
         return Outcome::Refused(2);
     }
-    perform(t, f)
+    perform(board, t, f)
 }
 
 // A call on the words of a sound table: its service, or 2 where it is none. Find and read region leave every word as it was.
-pub fn serve_word(t: &mut [u64; 641], word: u64) -> Answer
-    requires { ⌜ sound (now t) ≡ true ⌝ }
-    ensures { λ r. ⌜ Answers (now (t .entry)) word r (now (t .exit)) ⌝ }
+pub fn serve_word(board: Board, t: &mut [u64; 641], word: u64) -> Answer
+    requires { ⌜ sound board (now t) ≡ true ⌝ }
+    ensures { λ r. ⌜ Answers board (now (t .entry)) word r (now (t .exit)) ⌝ }
 {
     tables::fits(t);
     let first = tables::read::first(t);
@@ -156,7 +157,7 @@ pub fn serve_word(t: &mut [u64; 641], word: u64) -> Answer
     let read = words::call_word::read(word);
     match read {
         CallRead::Fields(f) => {
-            let outcome = serve(t, f);
+            let outcome = serve(board, t, f);
             let stands = either(f.service == 11, f.service == 12);
             Answer {
                 caller,
@@ -173,16 +174,16 @@ pub fn serve_word(t: &mut [u64; 641], word: u64) -> Answer
 }
 
 // A call on the words of a table that stands in an array: `call` without its length and its copies.
-pub fn call_table(t: &mut [u64; 641], top: u32, word: u64) -> Answer
+pub fn call_table(board: Board, t: &mut [u64; 641], top: u32, word: u64) -> Answer
     requires { ⌜ Top (now t) top ⌝ }
-    ensures { λ r. ⌜ Answers (now (t .entry)) word r (now (t .exit)) ⌝ }
+    ensures { λ r. ⌜ Answers board (now (t .entry)) word r (now (t .exit)) ⌝ }
 {
-    if !decide::is_sound(t, top) {
+    if !decide::is_sound(board, t, top) {
         return Answer {
             caller: Partition(0),
             outcome: Outcome::Refused(1),
             stands: true,
         };
     }
-    serve_word(t, word)
+    serve_word(board, t, word)
 }

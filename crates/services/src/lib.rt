@@ -13,13 +13,14 @@ pub mod region_services;
 pub mod who;
 
 use rules::Answer;
+use shapes::Board;
 use tables::Outcome;
 use words::Partition;
 
 // Carries out a call word. Any words, of any number and content, and any call word get an answer.
 // Refused: 1 not a sound table of 641 words; 2 not a call word; then as its service says. A refusal changes no word.
-pub fn call(t: &mut [u64], word: u64) -> Answer
-    ensures { λ r. ⌜ Answers (now (t .entry)) word r (now (t .exit)) ⌝ }
+pub fn call(board: Board, t: &mut [u64], word: u64) -> Answer
+    ensures { λ r. ⌜ Answers board (now (t .entry)) word r (now (t .exit)) ⌝ }
 {
     if t.len() != 641 {
         return Answer {
@@ -30,7 +31,7 @@ pub fn call(t: &mut [u64], word: u64) -> Answer
     }
     let mut a = [0u64; 641];
     tables::copies::copy_in(t, &mut a);
-    let answer = calls::call_table(&mut a, 16, word);
+    let answer = calls::call_table(board, &mut a, 16, word);
     if answer.stands {
         return answer;
     }

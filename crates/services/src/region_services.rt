@@ -7,6 +7,7 @@ ghost use Rattle.rules.specs.Rules.{elsewhere, load, unload, readRegion};
 ghost use Rattle.rules.specs.Ran.{Ran};
 ghost use Rattle.blocks.specs.RegionExits.{inAnother};
 use crate::who::own_or_child;
+use shapes::Board;
 use tables::Outcome;
 use words::Partition;
 use words::Slot;
@@ -44,9 +45,9 @@ fn loaded_elsewhere(t: &[u64; 641], p: Partition, s: Slot, r: u32) -> bool
 }
 
 // 9 with R = 0: region r of p names slot s, which is open: a right table stays settled
-pub fn load(t: &mut [u64; 641], p: Partition, s: Slot, r: u32) -> Outcome
+pub fn load(board: Board, t: &mut [u64; 641], p: Partition, s: Slot, r: u32) -> Outcome
     requires { ⌜ Canon (now t) × (p .0 < 16) × (s .0 < 32) × Right (view (now t)) ⌝ }
-    ensures { λ o. ⌜ Ran (load (view (now (t .entry))) (p .0) (s .0) r) (now (t .entry)) o (now (t .exit)) ⌝ }
+    ensures { λ o. ⌜ Ran (load board (view (now (t .entry))) (p .0) (s .0) r) (now (t .entry)) o (now (t .exit)) ⌝ }
 {
     if !own_or_child(t, p) {
         return Outcome::Refused(3);

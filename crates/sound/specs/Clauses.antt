@@ -10,6 +10,7 @@ use Rattle.words.specs.Kind.{zeroed}
 use Rattle.words.specs.Words.{first, header, structure, regions, slot}
 use Rattle.words.specs.declared.Rights.{Rights}
 use Rattle.words.specs.declared.regions_word.Region.{Region}
+use Rattle.shapes.specs.declared.Board.{Board}
 use Rattle.tables.specs.State.{Opt, none, some, Entry, Area, K, Table}
 use Rattle.tables.specs.View.{firstWord, areaWordAt, regionsWordAt, slotWordAt, nth, regionsAt, view}
 use Rattle.tables.specs.Search.{isSome, present, child, holds}
@@ -150,8 +151,8 @@ s10Names t p r = when (λ i. isSome (t .k .slot p i) && t .opened p i) (t .regio
 unfoldable pub s10Once : Table → ℕ → ℕ → ℕ → Bool
 s10Once t p r q = when (λ i. when (λ j. not (eqb i j)) (t .region p q)) (t .region p r)
 
-unfoldable pub s10 : Table → ℕ → Bool
-s10 t p = all 8 (s10Names t p) && all 8 (λ r. all r (s10Once t p r))
+unfoldable pub s10 : Board → Table → ℕ → Bool
+s10 b t p = all 8 (s10Names t p) && all 8 (λ r. all r (s10Once t p r))
 
 -- ── S11 ──
 unfoldable pub full : Rights → Bool
@@ -184,8 +185,8 @@ s11 k p = cond (eqb p 0) (all 32 (λ i. when (λ e. full (e .rights)) (k .slot p
 
 -- ── all clauses at all partitions ──
 -- the test of clause n, from 1 to 11, at partition p; S1, and S3 of word 0, are looked at with partition 0
-unfoldable pub clauseAt : List ℕ → ℕ → ℕ → Bool
-clauseAt l n p =
+unfoldable pub clauseAt : Board → List ℕ → ℕ → ℕ → Bool
+clauseAt b l n p =
     cond (eqb n 1) (not (eqb p 0) || s1 (view l .k))
     (cond (eqb n 2) (s2 l (view l .k) p)
     (cond (eqb n 3) ((not (eqb p 0) || s3First l) && s3 l p)
@@ -195,8 +196,8 @@ clauseAt l n p =
     (cond (eqb n 7) (s7 (view l .k) p)
     (cond (eqb n 8) (s8 (view l .k) p)
     (cond (eqb n 9) (s9 (view l) p)
-    (cond (eqb n 10) (s10 (view l) p)
+    (cond (eqb n 10) (s10 b (view l) p)
     (s11 (view l .k) p))))))))))
 
-unfoldable pub sound : List ℕ → Bool
-sound l = eqb (length l) 641 && all 11 (λ m. all 16 (clauseAt l (1 + m)))
+unfoldable pub sound : Board → List ℕ → Bool
+sound b l = eqb (length l) 641 && all 11 (λ m. all 16 (clauseAt b l (1 + m)))

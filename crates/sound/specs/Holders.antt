@@ -5,6 +5,7 @@ use mathlib.Core.List.{List, [], _∷_}
 use lib.ListN.{length}
 use lib.Dec.{leb, ltb, eqb}
 use Prim.Native.Nat.{ℕ, zero, suc, _+_}
+use Rattle.shapes.specs.declared.Board.{Board}
 use Rattle.tables.specs.State.{Opt, none, some, Entry, K}
 use Rattle.tables.specs.View.{view}
 use Rattle.tables.specs.Search.{lookFor}
@@ -51,13 +52,13 @@ looksOf k l = sumOver (λ p. lookFor k l p .count) (holdersOf k l)
 unfoldable pub inMemory : K → ℕ → Bool
 inMemory k l = leb (k .base) l && ltb l (k .stop)
 
-unfoldable pub holdersOutcome : List ℕ → ℕ → ℕ → Outcome
-holdersOutcome t l size =
-    cond (sound t) (cond (inMemory (view t .k) l) (cond (leb 16 size) (Done (length (holdersOf (view t .k) l)) (looksOf (view t .k) l)) (Refused 17)) (Refused 7)) (Refused 1)
+unfoldable pub holdersOutcome : Board → List ℕ → ℕ → ℕ → Outcome
+holdersOutcome b t l size =
+    cond (sound b t) (cond (inMemory (view t .k) l) (cond (leb 16 size) (Done (length (holdersOf (view t .k) l)) (looksOf (view t .k) l)) (Refused 17)) (Refused 7)) (Refused 1)
 
-unfoldable pub holdersBytes : List ℕ → ℕ → List ℕ → List ℕ
-holdersBytes t l bytes =
-    cond (sound t) (cond (inMemory (view t .k) l) (cond (leb 16 (length bytes)) (over (holdersOf (view t .k) l) bytes) bytes) bytes) bytes
+unfoldable pub holdersBytes : Board → List ℕ → ℕ → List ℕ → List ℕ
+holdersBytes b t l bytes =
+    cond (sound b t) (cond (inMemory (view t .k) l) (cond (leb 16 (length bytes)) (over (holdersOf (view t .k) l) bytes) bytes) bytes) bytes
 
 -- the holders of line l, written
 pub record Writes (k : K) (l : ℕ) (before : List ℕ) (r : Outcome) (after : List ℕ) : Type 0 where
@@ -65,6 +66,6 @@ pub record Writes (k : K) (l : ℕ) (before : List ℕ) (r : Outcome) (after : L
   pub bytes : after ≡ over (holdersOf k l) before
 
 -- what holders promises: its outcome, and every byte of the list
-pub record Listed (t : List ℕ) (l : ℕ) (before : List ℕ) (r : Outcome) (after : List ℕ) : Type 0 where
-  pub outcome : r ≡ holdersOutcome t l (length before)
-  pub bytes : after ≡ holdersBytes t l before
+pub record Listed (b : Board) (t : List ℕ) (l : ℕ) (before : List ℕ) (r : Outcome) (after : List ℕ) : Type 0 where
+  pub outcome : r ≡ holdersOutcome b t l (length before)
+  pub bytes : after ≡ holdersBytes b t l before

@@ -10,6 +10,7 @@ use Rattle.loops.specs.Climb.{Reaches}
 use Rattle.words.specs.Kind.{Zeroed}
 use Rattle.words.specs.Words.{first, header, structure, regions, slot}
 use Rattle.words.specs.declared.Rights.{Rights}
+use Rattle.shapes.specs.declared.Board.{Board}
 use Rattle.tables.specs.State.{none, some, Entry, allRights, Area, nowhere, K, Table}
 use Rattle.tables.specs.View.{firstWord, areaWordAt, regionsWordAt, blankWordAt, slotWordAt, nth, regionsAt, view}
 use Rattle.tables.specs.Spelling.{ZeroWords}
@@ -112,10 +113,14 @@ pub record S8 (k : K) (p : ℕ) : Type 0 where
 abbrev pub S9 : Table → ℕ → Type 0
 S9 t p = (i : ℕ) (e : Entry) → t .k .slot p i ≡ some e → (t .opened p i ≡ true) ↔ Clear (t .k .area) e
 
--- S10 a loaded region names an open entry of its own partition; no slot twice.
-pub record S10 (t : Table) (p : ℕ) : Type 0 where
+-- each region of p that is loaded names an open entry of p, and no slot stands in two
+pub record Loaded (t : Table) (p : ℕ) : Type 0 where
   pub names : (r i : ℕ) → t .region p r ≡ some i → ((e : Entry) × (t .k .slot p i ≡ some e)) × (t .opened p i ≡ true)
   pub once : (r q i : ℕ) → t .region p r ≡ some i → t .region p q ≡ some i → r ≡ q
+
+-- S10 a loaded region names an open entry of its own partition; no slot twice.
+pub record S10 (b : Board) (t : Table) (p : ℕ) : Type 0 where
+  pub loaded : Loaded t p
 
 -- S11 the root's entries have all rights; a child's have no right that the parent's entry around it lacks; a child's own entries inside one grant to it
 -- have equal rights.
@@ -125,8 +130,8 @@ pub record S11 (k : K) (p : ℕ) : Type 0 where
   pub equal : (p ≡ 0 → ⊥) → (i m : ℕ) (e f : Entry) → k .slot p i ≡ some e → k .slot p m ≡ some f → OneGrant k p e f → e .rights ≡ f .rights
 
 -- Clause n, from 1 to 11, at partition p. S1, and S3 of word 0, are looked at with partition 0.
-abbrev pub Clause : List ℕ → ℕ → ℕ → Type 0
-Clause l n p =
+abbrev pub Clause : Board → List ℕ → ℕ → ℕ → Type 0
+Clause b l n p =
     cond (eqb n 1) (p ≡ 0 → S1 (view l .k))
     (cond (eqb n 2) (S2 l (view l .k) p)
     (cond (eqb n 3) ((p ≡ 0 → Zeroed first (firstWord l)) × S3 l p)
@@ -136,14 +141,14 @@ Clause l n p =
     (cond (eqb n 7) (S7 (view l .k) p)
     (cond (eqb n 8) (S8 (view l .k) p)
     (cond (eqb n 9) (S9 (view l) p)
-    (cond (eqb n 10) (S10 (view l) p)
+    (cond (eqb n 10) (S10 b (view l) p)
     (S11 (view l .k) p))))))))))
 
 -- the clauses below n hold at every partition
-abbrev pub Lower : List ℕ → ℕ → Type 0
-Lower l n = (m : ℕ) → 1 ≤ m → m < n → (p : ℕ) → p < 16 → Clause l m p
+abbrev pub Lower : Board → List ℕ → ℕ → Type 0
+Lower b l n = (m : ℕ) → 1 ≤ m → m < n → (p : ℕ) → p < 16 → Clause b l m p
 
 -- 641 words, and S1 to S11 at every partition
-pub record Sound (l : List ℕ) : Type 0 where
+pub record Sound (b : Board) (l : List ℕ) : Type 0 where
   pub size : length l ≡ 641
-  pub clauses : Lower l 12
+  pub clauses : Lower b l 12

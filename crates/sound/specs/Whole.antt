@@ -3,7 +3,7 @@ use mathlib.Core.Path.{_≡_}
 use mathlib.Core.Bool.{false}
 use Prim.Native.Nat.{ℕ, _^_, _<_}
 use Rattle.tables.specs.State.{none, some, Table}
-use Rattle.sound.specs.Sound.{S9, S10}
+use Rattle.sound.specs.Sound.{S9, Loaded}
 use Rattle.sound.specs.Core.{Core}
 
 -- all but its words: its end is a line, what is empty is closed, and it has eight regions
@@ -13,4 +13,4 @@ pub record Right (t : Table) : Type 0 where
   pub closed : (p i : ℕ) → t .k .slot p i ≡ none → t .opened p i ≡ false
   pub eight : (p r i : ℕ) → t .region p r ≡ some i → r < 8
   pub s9 : (p : ℕ) → S9 t p
-  pub s10 : (p : ℕ) → S10 t p
+  pub s10 : (p : ℕ) → Loaded t p

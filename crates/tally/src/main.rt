@@ -2,6 +2,7 @@
 mod text;
 
 use runs::Run;
+use shapes::Board;
 use tables::Outcome;
 use text::Text;
 use words::Line;
@@ -71,7 +72,7 @@ fn serve_piece(t: &mut [u64; 641], piece: &[u8], from: usize, to: usize, before:
         if to - at < 8 {
             return number;
         }
-        let answer = services::calls::call_table(t, 16, word_at(piece, at));
+        let answer = services::calls::call_table(Board::V7, t, 16, word_at(piece, at));
         let outcome = answer.outcome;
         number = after(number);
         print_call(number, outcome);
@@ -124,7 +125,7 @@ fn print_run(t: &[u64; 641], run: Run) {
     let mut list = [0u8; 16];
     let start = run.start.0 as u64;
     let line = text::then_decimal(text::decimal(text::empty(), start), run.end.0 as u64);
-    let outcome = holders::holders_table(t, 16, start, &mut list);
+    let outcome = holders::holders_table(Board::V7, t, 16, start, &mut list);
     if let Outcome::Done(n, _) = outcome {
         text::print(names(line, &list, n));
     }
@@ -133,7 +134,7 @@ fn print_run(t: &[u64; 641], run: Run) {
 // No table has more than 512 runs.
 fn print_runs(t: &[u64; 641]) {
     let mut marks = [0u32; 513];
-    let plan = runs::listing::plan_of(t, 16, 512, &mut marks);
+    let plan = runs::listing::plan_of(Board::V7, t, 16, 512, &mut marks);
     let number = plan.number;
     let mut i = 0usize;
     while i < number {

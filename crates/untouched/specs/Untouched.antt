@@ -6,6 +6,7 @@ use mathlib.Core.List.{List, [], _∷_}
 use Prim.Native.Nat.{ℕ, _<_}
 use Rattle.words.specs.Kind.{fieldsIn}
 use Rattle.words.specs.Words.{call}
+use Rattle.shapes.specs.declared.Board.{Board}
 use Rattle.tables.specs.State.{Opt, Entry, K}
 use Rattle.tables.specs.View.{recordWord, areaWordAt, blankWordAt, slotWordAt, view}
 use Rattle.tables.specs.Encode.{slotWord, encode}
@@ -19,9 +20,9 @@ use Rattle.rules.specs.Ran.{outcomeOf}
 use Rattle.isolation.specs.Whole.{Reads, afterAll}
 
 -- "any list of calls, each made while the current partition is k or a descendant of k": by the table of that call, and whether it is done or refused
-unfoldable pub Within : ℕ → List ℕ → List ℕ → Type 0
-Within k l [] = Unit {0}
-Within k l (w ∷ ws) = Under (view l .k .parent) k (view l .k .current) × Within k (wordsAfter l (callOn l w)) ws
+unfoldable pub Within : Board → ℕ → List ℕ → List ℕ → Type 0
+Within b k l [] = Unit {0}
+Within b k l (w ∷ ws) = Under (view l .k .parent) k (view l .k .current) × Within b k (wordsAfter l (callOn b l w)) ws
 
 -- "partitions that were present at the start and [not] in k's branch"
 pub record Outside (t : K) (k p : ℕ) : Type 0 where
@@ -60,12 +61,12 @@ abbrev pub turnedTo : ℕ → List ℕ → List ℕ
 turnedTo p l = encode (putCurrent (view l) p)
 
 -- "find and read region on itself give it the same words", in the words l and m
-abbrev pub SameAnswers : ℕ → List ℕ → List ℕ → Type 0
-SameAnswers p l m = (w : ℕ) → Reads (fieldsIn call w) → fieldsIn call w .partition .0 ≡ p → outcomeOf (callOn (turnedTo p l) w) ≡ outcomeOf (callOn (turnedTo p m) w)
+abbrev pub SameAnswers : Board → ℕ → List ℕ → List ℕ → Type 0
+SameAnswers b p l m = (w : ℕ) → Reads (fieldsIn call w) → fieldsIn call w .partition .0 ≡ p → outcomeOf (callOn b (turnedTo p l) w) ≡ outcomeOf (callOn b (turnedTo p m) w)
 
 -- REQUEST 112, over words: of a sound table l, and the words after any list of calls (afterAll)
-pub record BranchWords : Type 0 where
-  pub untouched : {k : ℕ} (l ws : List ℕ) → Words l → Sound l → Within k l ws → Untouched k l (afterAll l ws)
+pub record BranchWords (b : Board) : Type 0 where
+  pub untouched : {k : ℕ} (l ws : List ℕ) → Words l → Sound b l → Within b k l ws → Untouched k l (afterAll b l ws)
   -- "after either of two such lists from one table", for a partition beside the branch
-  pub answers : {k p : ℕ} (l ws vs : List ℕ) → Words l → Sound l → Within k l ws → Within k l vs → Beside (view l .k) k p
-      → SameAnswers p (afterAll l ws) (afterAll l vs)
+  pub answers : {k p : ℕ} (l ws vs : List ℕ) → Words l → Sound b l → Within b k l ws → Within b k l vs → Beside (view l .k) k p
+      → SameAnswers b p (afterAll b l ws) (afterAll b l vs)

@@ -9,6 +9,7 @@ use borrow.Author.Tests.{lt-ltb, le-ltb, eq-eqb, ne-eqb}
 use Rattle.words.specs.declared.regions_word.Region.{Region}
 use Rattle.words.specs.declared.regions_word.RegionsFields.{RegionsFields}
 use Rattle.words.specs.declared.slot_word.SlotFields.{SlotFields}
+use Rattle.shapes.specs.declared.Board.{Board}
 use Rattle.tables.specs.State.{none, some, Table}
 use Rattle.tables.specs.View.{view, nth, named, entryOf, entryIn}
 use Rattle.tables.specs.Update.{upd}
@@ -75,16 +76,16 @@ module _ {l : List ℕ} {p s : ℕ} {f : SlotFields} (v : Seen l p s f) where
   entry-there q = v .slot ∙ rw q refl
 
 -- ── load: the checks before 16 pass ──
-module _ {l : List ℕ} {p s : ℕ} {f : SlotFields} (own : ownOrChild (view l .k) p ≡ true) (v : Seen l p s f) (q : f .present ≡ true) (o : f .opened ≡ true) (r : ℕ) where
-  from-16 : {x : Result} → check 16 (ltb r 8 && not (elsewhere (view l) p s r)) (done 0 0 (settle (view l .k) (upd (view l .region) p r (some s)))) ≡ x → load (view l) p s r ≡ x
+module _ (board : Board) {l : List ℕ} {p s : ℕ} {f : SlotFields} (own : ownOrChild (view l .k) p ≡ true) (v : Seen l p s f) (q : f .present ≡ true) (o : f .opened ≡ true) (r : ℕ) where
+  from-16 : {x : Result} → check 16 (ltb r 8 && not (elsewhere (view l) p s r)) (done 0 0 (settle (view l .k) (upd (view l .region) p r (some s)))) ≡ x → load board (view l) p s r ≡ x
   unfolding load
   from-16 e = pass 3 own (there 4 _ _ (entry-there v q) (pass 5 (v .opened ∙ o) e))
 
-  pub load-high : 7 < r → load (view l) p s r ≡ refused 16
+  pub load-high : 7 < r → load board (view l) p s r ≡ refused 16
   load-high h = from-16 (fail 16 _ (rw (region-high r h) refl))
 
-  pub load-twice : r ≤ 7 → elsewhere (view l) p s r ≡ true → load (view l) p s r ≡ refused 16
+  pub load-twice : r ≤ 7 → elsewhere (view l) p s r ≡ true → load board (view l) p s r ≡ refused 16
   load-twice h e = from-16 (fail 16 _ (rw (region-low r h, e) refl))
 
-  pub load-done : r ≤ 7 → elsewhere (view l) p s r ≡ false → load (view l) p s r ≡ done 0 0 (settle (view l .k) (upd (view l .region) p r (some s)))
+  pub load-done : r ≤ 7 → elsewhere (view l) p s r ≡ false → load board (view l) p s r ≡ done 0 0 (settle (view l .k) (upd (view l .region) p r (some s)))
   load-done h e = from-16 (pass 16 (rw (region-low r h, e) refl) refl)

@@ -17,12 +17,12 @@ pub partitions-sound-spec : {M : Type 1} → statement M
 partitions-sound-spec =
     tie.close
     (tie.spec
-    (λ t top order counts n s e p₀ p. Passing (λ q. s2 t (view t .k) q && restAt t q) 16 p)
-    (λ t top order counts n s e p₀ p. top - p)
+    (λ board t top order counts n s e p₀ p. Passing (λ q. s2 t (view t .k) q && restAt board t q) 16 p)
+    (λ board t top order counts n s e p₀ p. top - p)
     (λ c. seek-start)
     (λ c κs. (omega (arith, c .before .before .pre .0 .within), c .before .before .pre .1))
     (λ c. seek-hit (c .before .before .before .loop .inv) (omega (arith, c .before .before .before .before .pre .0 .within)) (ap not (sym (c .before .partition-sound .ensures)) ∙ c .if1 .taken))
     (λ c. search needs)
     (λ c. search needs)
     (λ c. seek-on (c .before .before .before .loop .inv) (omega (arith, c .before .before .before .before .pre .0 .within)) (ap not (sym (c .before .partition-sound .ensures)) ∙ c .if1 .left))
-    (λ c. seek-bound (c .before .loop .inv) (λ p a b. ap not (top-rest (c .before .before .pre .0) (c .before .before .pre .1 .shaped) p (omega arith) b))))
+    (λ c. seek-bound (c .before .loop .inv) (λ p a b. ap not (top-rest (c .before .before .pre .0) _ (c .before .before .pre .1 .shaped) p (omega arith) b))))

@@ -10,6 +10,7 @@ use lib.Dec.{ltb, eqb}
 use borrow.Author.Tests.{eq-eqb, ne-eqb, not-false}
 use Rattle.loops.specs.Every.{all}
 use Rattle.loops.specs.Laws.Every.{all-at, all-of, bool-ext}
+use Rattle.shapes.specs.declared.Board.{Board}
 use Rattle.tables.specs.State.{K}
 use Rattle.tables.specs.View.{view}
 use Rattle.tables.specs.Search.{present}
@@ -46,49 +47,54 @@ pub and-is : (a b : Bool) → a ≡ true → b ≡ a && b
 and-is a b h = rw h refl
 
 module _ (l : List ℕ) (p : ℕ) where
-  -- the root is present; another that is absent is all zero, and has nothing left to test
-  pub absent-rest : p < 16 → s2 l (view l .k) p ≡ true → present (view l .k) p ≡ false → restAt l p ≡ true
+  -- the root is present; another that is absent is all zero ..
+  pub absent-zero : p < 16 → s2 l (view l .k) p ≡ true → present (view l .k) p ≡ false → (p ≡ 0 → ⊥) × (zeroRecord l p ≡ true)
   unfolding s2
-  absent-rest b q n = go (ℕ-discrete p 0)
+  absent-zero b q n = go (ℕ-discrete p 0)
     where
-      go : Dec (p ≡ 0) → restAt l p ≡ true
+      go : Dec (p ≡ 0) → (p ≡ 0 → ⊥) × (zeroRecord l p ≡ true)
       go (yes z) =
           let r = s2-means l p b .0 q in
           absurd (false≢true (sym n ∙ present-means (view l .k) p .1 (_, r .root z .0)))
-      go (no z) =
-          let w : zeroRecord l p ≡ true = rw (ne-eqb p 0 z, n) at q in
-          rest-true l p (record {
-            s3 = absent-s3 l p w;
-            s4 = absent-s4 l p w z;
-            s5 = absent-s5 l p w;
-            s6 = absent-s6 l p w;
-            s7 = absent-s7 l p w z;
-            s11 = absent-s11 l p w z;
-            s8 = absent-s8 l p w;
-            s9 = absent-s9 l p w;
-            s10 = absent-s10 l p w;
-          })
+      go (no z) = (z, rw (ne-eqb p 0 z, n) at q)
 
   -- .. and has its shape
   pub absent-shape : p < 16 → s2 l (view l .k) p ≡ true → present (view l .k) p ≡ false → true ≡ shapeAt l p
   unfolding shapeAt
   absent-shape b q n =
-      let h = rest-says l p (absent-rest b q n) in
-      sym (and-true _ _ q (and-true _ _ (and-true _ _ (h .s3) (h .s4)) (h .s5)))
-
-  -- a clause that fails
-  pub rest-no : (Passes l p → ⊥) → false ≡ restAt l p
-  rest-no h = never (restAt l p) (λ q. h (rest-says l p q))
-
-  -- all clauses but the last pass
-  pub rest-last : s3 l p && s4 l (view l .k) p && s5 l (view l .k) p ≡ true → s6 (view l .k) p && s7 (view l .k) p ≡ true → s11 (view l .k) p ≡ true
-      → all 5 (s8Backed (view l .k) p) ≡ true → s9 (view l) p ≡ true → s10 (view l) p ≡ restAt l p
-  unfolding restAt
-  rest-last a b c d e = and-is _ (s10 (view l) p) (and-true _ _ (and-true _ _ (and-true _ _ (and-true _ _ a b) c) d) e)
+      let (z, w) = absent-zero b q n in
+      sym (and-true _ _ q (and-true _ _ (and-true _ _ (absent-s3 l p w) (absent-s4 l p w z)) (absent-s5 l p w)))
 
   -- S5 at p, which S6 and S7 lean on
   pub solid : p < 16 → s3 l p && s4 l (view l .k) p && s5 l (view l .k) p ≡ true → Solid (view l .k) p
   solid b q = s5-means l p b .0 (and-says (s3 l p && s4 l (view l .k) p) (s5 l (view l .k) p) q .1) .range
+
+module _ (board : Board) (l : List ℕ) (p : ℕ) where
+  -- who is absent has nothing left to test
+  pub absent-rest : p < 16 → s2 l (view l .k) p ≡ true → present (view l .k) p ≡ false → restAt board l p ≡ true
+  absent-rest b q n =
+      let (z, w) = absent-zero l p b q n in
+      rest-true board l p (record {
+        s3 = absent-s3 l p w;
+        s4 = absent-s4 l p w z;
+        s5 = absent-s5 l p w;
+        s6 = absent-s6 l p w;
+        s7 = absent-s7 l p w z;
+        s11 = absent-s11 l p w z;
+        s8 = absent-s8 l p w;
+        s9 = absent-s9 l p w;
+        s10 = absent-s10 l p w board;
+      })
+
+  -- a clause that fails
+  pub rest-no : (Passes board l p → ⊥) → false ≡ restAt board l p
+  rest-no h = never (restAt board l p) (λ q. h (rest-says board l p q))
+
+  -- all clauses but the last pass
+  pub rest-last : s3 l p && s4 l (view l .k) p && s5 l (view l .k) p ≡ true → s6 (view l .k) p && s7 (view l .k) p ≡ true → s11 (view l .k) p ≡ true
+      → all 5 (s8Backed (view l .k) p) ≡ true → s9 (view l) p ≡ true → s10 board (view l) p ≡ restAt board l p
+  unfolding restAt
+  rest-last a b c d e = and-is _ (s10 board (view l) p) (and-true _ _ (and-true _ _ (and-true _ _ (and-true _ _ a b) c) d) e)
 
 -- ── the records from the top on need no look ──
 module _ {l : List ℕ} {m : ℕ} (h : Top l m) where
@@ -110,52 +116,52 @@ module _ {l : List ℕ} {m : ℕ} (h : Top l m) where
       let n = top-absent h p a in
       sym (absent-shape l p b (rw (ne-eqb p 0 (λ z. omega arith), n) (h .zero p a b)) n)
 
-  pub top-rest : Shaped l → (p : ℕ) → m ≤ p → p < 16 → s2 l (view l .k) p && restAt l p ≡ true
-  top-rest shaped p a b =
+  pub top-rest : (board : Board) → Shaped l → (p : ℕ) → m ≤ p → p < 16 → s2 l (view l .k) p && restAt board l p ≡ true
+  top-rest board shaped p a b =
       let q = shaped-s2 shaped p b in
-      and-true _ _ q (absent-rest l p b q (top-absent h p a))
+      and-true _ _ q (absent-rest board l p b q (top-absent h p a))
 
 -- ── the parts of the decision, in the order of the code ──
 -- two results are equal; where they are true, so are the number and the order of the entries of each partition that is present
-pub decided-one : {l : List ℕ} {r r′ : Bool} {o c o′ c′ : List ℕ} → Decided l r o c → Decided l r′ o′ c′ → (r ≡ r′) × (r ≡ true → SameOrders (view l .k) 16 o c o′ c′)
+pub decided-one : {board : Board} {l : List ℕ} {r r′ : Bool} {o c o′ c′ : List ℕ} → Decided board l r o c → Decided board l r′ o′ c′ → (r ≡ r′) × (r ≡ true → SameOrders (view l .k) 16 o c o′ c′)
 decided-one x y = let z = x .says ∙ sym (y .says) in (z, λ q. orders-one (x .orders q) (y .orders (sym z ∙ q)))
 
 -- the clauses of present_sound, with what each check said
-module _ {l o c : List ℕ} {n : ℕ} {s e : List ℕ} (can : CanDecide l o c n s e) (p : ℕ) (b : p < 16) (here : present (view l .k) p ≡ true) where
+module _ (board : Board) {l o c : List ℕ} {n : ℕ} {s e : List ℕ} (can : CanDecide l o c n s e) (p : ℕ) (b : p < 16) (here : present (view l .k) p ≡ true) where
   abbrev k : K
   k = view l .k
 
-  s7-says : Passes l p → (s7Given k p ≡ true) × (exactly k p ≡ true)
+  s7-says : Passes board l p → (s7Given k p ≡ true) × (exactly k p ≡ true)
   s7-says h = and-says (s7Given k p) (exactly k p) (sym (s7-parts k p here) ∙ h .s7)
 
-  pub no-given : s7Given k p ≡ false → false ≡ restAt l p
-  no-given q = rest-no l p (λ h. false≢true (sym q ∙ s7-says h .0))
+  pub no-given : s7Given k p ≡ false → false ≡ restAt board l p
+  no-given q = rest-no board l p (λ h. false≢true (sym q ∙ s7-says h .0))
 
-  pub no-cover : exactly k p && s11 k p ≡ false → false ≡ restAt l p
-  no-cover q = rest-no l p (λ h. false≢true (sym q ∙ and-true _ _ (s7-says h .1) (h .s11)))
+  pub no-cover : exactly k p && s11 k p ≡ false → false ≡ restAt board l p
+  no-cover q = rest-no board l p (λ h. false≢true (sym q ∙ and-true _ _ (s7-says h .1) (h .s11)))
 
-  pub rest-regions : s7Given k p ≡ true → exactly k p && s11 k p ≡ true → all 5 (s8Backed k p) ≡ true → s9 (view l) p ≡ true → s10 (view l) p ≡ restAt l p
+  pub rest-regions : s7Given k p ≡ true → exactly k p && s11 k p ≡ true → all 5 (s8Backed k p) ≡ true → s9 (view l) p ≡ true → s10 board (view l) p ≡ restAt board l p
   rest-regions g x d q =
       let (y, z) = and-says (exactly k p) (s11 k p) x in
-      rest-last l p (shaped-record (can .shaped) p b) (and-true _ _ (all-at 16 (s6 k) (can .s6) p b) (s7-parts k p here ∙ and-true _ _ g y)) z d q
+      rest-last board l p (shaped-record (can .shaped) p b) (and-true _ _ (all-at 16 (s6 k) (can .s6) p b) (s7-parts k p here ∙ and-true _ _ g y)) z d q
 
-module _ (l : List ℕ) where
+module _ (board : Board) (l : List ℕ) where
   -- the sound tables pass each part
   pub record Parts : Type 0 where
     pub first : s1 (view l .k) && s3First l ≡ true
     pub shapes : all 16 (shapeAt l) ≡ true
     pub apart : areasApart (view l .k) ≡ true
     pub s6 : all 16 (s6 (view l .k)) ≡ true
-    pub partitions : all 16 (λ p. s2 l (view l .k) p && restAt l p) ≡ true
+    pub partitions : all 16 (λ p. s2 l (view l .k) p && restAt board l p) ≡ true
 
-  pub parts : sound l ≡ true → Parts
+  pub parts : sound board l ≡ true → Parts
   unfolding atOnce shapeAt
   parts q =
-      let (r, w) = and-says _ (areasApart (view l .k)) (sound-at-once l ∙ q) in
-      let (z, u) = and-says (eqb (length l) 641 && (s1 (view l .k) && s3First l)) (all 16 (λ p. s2 l (view l .k) p && restAt l p)) r in
-      let at : (p : ℕ) → p < 16 → (s2 l (view l .k) p ≡ true) × Passes l p = λ p b.
-      let (x, y) = and-says (s2 l (view l .k) p) (restAt l p) (all-at 16 (λ p. s2 l (view l .k) p && restAt l p) u p b) in
-      (x, rest-says l p y) in
+      let (r, w) = and-says _ (areasApart (view l .k)) (sound-at-once board l ∙ q) in
+      let (z, u) = and-says (eqb (length l) 641 && (s1 (view l .k) && s3First l)) (all 16 (λ p. s2 l (view l .k) p && restAt board l p)) r in
+      let at : (p : ℕ) → p < 16 → (s2 l (view l .k) p ≡ true) × Passes board l p = λ p b.
+      let (x, y) = and-says (s2 l (view l .k) p) (restAt board l p) (all-at 16 (λ p. s2 l (view l .k) p && restAt board l p) u p b) in
+      (x, rest-says board l p y) in
       record {
         first = and-says (eqb (length l) 641) (s1 (view l .k) && s3First l) z .1;
         shapes = all-of 16 (shapeAt l) (λ p b. let (x, h) = at p b in and-true _ _ x (and-true _ _ (and-true _ _ (h .s3) (h .s4)) (h .s5)));
@@ -165,15 +171,15 @@ module _ (l : List ℕ) where
       }
 
   -- a part that fails: nothing is left to do, and no order is promised
-  pub not-sound : {o c : List ℕ} → (Parts → ⊥) → Decided l false o c
-  not-sound h = record { says = never (sound l) (λ q. h (parts q)); orders = λ q. absurd (false≢true q) }
+  pub not-sound : {o c : List ℕ} → (Parts → ⊥) → Decided board l false o c
+  not-sound h = record { says = never (sound board l) (λ q. h (parts q)); orders = λ q. absurd (false≢true q) }
 
   -- the last part decides
   pub decided : {r : Bool} {o c : List ℕ} → length l ≡ 641 → s1 (view l .k) && s3First l ≡ true → areasApart (view l .k) ≡ true → Orders (view l .k) o c
-      → r ≡ all 16 (λ p. s2 l (view l .k) p && restAt l p) → Decided l r o c
+      → r ≡ all 16 (λ p. s2 l (view l .k) p && restAt board l p) → Decided board l r o c
   unfolding atOnce
   decided h a d orders e = record {
-    says = e ∙ bool-ext _ _ (λ q. sym (sound-at-once l) ∙ and-true _ _ (and-true _ _ (and-true _ _ (eq-eqb (length l) 641 h) a) q) d) (λ q. parts q .partitions);
+    says = e ∙ bool-ext _ _ (λ q. sym (sound-at-once board l) ∙ and-true _ _ (and-true _ _ (and-true _ _ (eq-eqb (length l) 641 h) a) q) d) (λ q. parts q .partitions);
     orders = λ _. orders;
   }
 

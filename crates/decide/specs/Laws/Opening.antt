@@ -13,6 +13,7 @@ use Rattle.loops.specs.Laws.Every.{all-at, all-of, fail-of, all-ext, all-true, 
 use Rattle.words.specs.declared.slot_word.SlotFields.{SlotFields}
 use Rattle.words.specs.declared.regions_word.Region.{Region}
 use Rattle.words.specs.declared.regions_word.RegionsFields.{RegionsFields}
+use Rattle.shapes.specs.declared.Board.{Board}
 use Rattle.tables.specs.State.{Opt, none, some, Entry, K, Table}
 use Rattle.tables.specs.Laws.State.{not-none}
 use Rattle.tables.specs.View.{entryOf, entryIn, nth, named, view}
@@ -219,9 +220,9 @@ module _ {l : List ℕ} {p r : ℕ} {f : RegionsFields} {x : Region} (v : SeenRe
     region-open o is = rw (read, q, o) (is ∙ all-ext r _ _ (λ j b. ap (when (λ i. not (eqb (x .slot .0) i))) (sym (v .region j (omega arith)))))
 
 -- region by region
-pub s10-each : (t : Table) (p : ℕ) → all 8 (regionRight t p) ≡ s10 t p
+pub s10-each : (board : Board) (t : Table) (p : ℕ) → all 8 (regionRight t p) ≡ s10 board t p
 unfolding s10 regionRight
-s10-each t p = all-and 8 (s10Names t p) (λ r. all r (s10Once t p r))
+s10-each board t p = all-and 8 (s10Names t p) (λ r. all r (s10Once t p r))
 
 -- ── no region is loaded ──
 loaded-at : (f : RegionsFields) (r : ℕ) → nth f r .loaded ≡ true → someLoaded f ≡ true
@@ -236,8 +237,8 @@ loaded-at f (suc (suc (suc (suc (suc (suc zero)))))) q = rw (q, or-true) refl
 loaded-at f (suc (suc (suc (suc (suc (suc (suc zero))))))) q = rw (q, or-true) refl
 loaded-at f (suc (suc (suc (suc (suc (suc (suc (suc r)))))))) q = absurd (false≢true q)
 
-pub s10-none : {l : List ℕ} {p : ℕ} {f : RegionsFields} → SeenRegions l p f → someLoaded f ≡ false → true ≡ s10 (view l) p
-s10-none {l} {p} {f} v q = sym (sym (s10-each (view l) p) ∙ all-of 8 _ (λ r h. sym (region-none v h refl (unloaded r))))
+pub s10-none : (board : Board) {l : List ℕ} {p : ℕ} {f : RegionsFields} → SeenRegions l p f → someLoaded f ≡ false → true ≡ s10 board (view l) p
+s10-none board {l} {p} {f} v q = sym (sym (s10-each board (view l) p) ∙ all-of 8 _ (λ r h. sym (region-none v h refl (unloaded r))))
   where
     unloaded : (r : ℕ) → nth f r .loaded ≡ false
     unloaded r = not-true _ (not-of (nth f r .loaded) (λ x. false≢true (sym q ∙ loaded-at f r x)))

@@ -6,6 +6,7 @@ use Prim.Native.Nat.{ℕ, _/_, _%_, _<_}
 use native.Mathlib.Decide.{ℕ-discrete}
 use native.Mathlib.Omega.{arith}
 use lib.ListN.{length}
+use Rattle.shapes.specs.declared.Board.{Board}
 use Rattle.tables.specs.View.{recordWord, view}
 use Rattle.tables.specs.Write.{putCurrent}
 use Rattle.memory.specs.Bytes.{byteAt, bytesOf, recordByte}
@@ -21,65 +22,65 @@ use Rattle.isolation.specs.Whole.{afterAll, after-good}
 use Rattle.untouched.specs.Untouched.{Within, Beside, Untouched, turnedTo}
 use Rattle.untouched.specs.Laws.Theorem.{untouched}
 use Rattle.untouched.specs.Laws.TwoLists.{still-present, turned, turned-caller, same-answers}
-use Rattle.board.specs.Board.{handed, resultOf, secondAfter, bytesAfter, CallLent}
-use Rattle.board.specs.Laws.Board.{handed-is, handed-unsound}
+use Rattle.face.specs.Face.{handed, resultOf, secondAfter, bytesAfter, CallLent}
+use Rattle.face.specs.Laws.Face.{handed-is, handed-unsound}
 use Rattle.demands.specs.Demands.{Bytes}
 use Rattle.demands.specs.Laws.Calls.{handed-small, handed-of, next}
 use Rattle.demands.specs.Branch.{CalledWithin, no-call, one-call, BytesUntouched, BytesAnswer, BranchDemand}
 
 -- ── the calls, as call words ──
 -- they are a list of calls within the branch, and the bytes at its end are read as the words at its end
-within-words : {k : ℕ} {b d : List ℕ} → Good (handed b) → CalledWithin k b d → (ws : List ℕ) × Within k (handed b) ws × (handed d ≡ afterAll (handed b) ws)
+within-words : {board : Board} {k : ℕ} {b d : List ℕ} → Good board (handed b) → CalledWithin board k b d → (ws : List ℕ) × Within board k (handed b) ws × (handed d ≡ afterAll board (handed b) ws)
 unfolding Within afterAll
 within-words good no-call = ([], tt, refl)
-within-words {k} good (one-call {w = w} u h more) =
+within-words {board} {k} good (one-call {w = w} u h more) =
     let (g, q) = next good h in
-    let (ws, inside, e) = within-words (subst Good (sym q) g) more in
-    (w ∷ ws, (u, subst (λ (l : List ℕ). Within k l ws) q inside), e ∙ ap (λ (l : List ℕ). afterAll l ws) q)
+    let (ws, inside, e) = within-words (subst (Good board) (sym q) g) more in
+    (w ∷ ws, (u, subst (λ (l : List ℕ). Within board k l ws) q inside), e ∙ ap (λ (l : List ℕ). afterAll board l ws) q)
 
 -- ── the bytes of a sound table are those of its words ──
-whole : {b : List ℕ} → Bytes b → Sound (handed b) → b ≡ bytesOf (handed b)
-whole {b} small s = go (ℕ-discrete (length b) 5128)
+whole : {board : Board} {b : List ℕ} → Bytes b → Sound board (handed b) → b ≡ bytesOf (handed b)
+whole {board} {b} small s = go (ℕ-discrete (length b) 5128)
   where
     go : Dec (length b ≡ 5128) → b ≡ bytesOf (handed b)
     go (yes h) = sym (ap bytesOf (sym (handed-is b h)) ∙ bytes-words b h (λ i _. small i))
-    go (no h) = absurd (false≢true (sym (handed-unsound b h) ∙ sound-means (handed b) .1 s))
+    go (no h) = absurd (false≢true (sym (handed-unsound b h board) ∙ sound-means board (handed b) .1 s))
 
 -- .. and stay so
-call-whole : {b c : List ℕ} {w s r s′ : ℕ} → Good (handed b) → b ≡ bytesOf (handed b) → CallLent b w s r c s′ → c ≡ bytesOf (handed c)
+call-whole : {board : Board} {b c : List ℕ} {w s r s′ : ℕ} → Good board (handed b) → b ≡ bytesOf (handed b) → CallLent board b w s r c s′ → c ≡ bytesOf (handed c)
 unfolding bytesAfter wordsAfter
-call-whole {b} {c} {w} good e h = go (callOn (handed b) w) (h .table .bytes) (next good h .1)
+call-whole {board} {b} {c} {w} good e h = go (callOn board (handed b) w) (h .table .bytes) (next good h .1)
   where
     go : (x : Result) → c ≡ bytesAfter b x → handed c ≡ wordsAfter (handed b) x → c ≡ bytesOf (handed c)
     go (done v y t) q z = q ∙ ap bytesOf (sym z)
     go (refused n) q z = q ∙ e ∙ ap bytesOf (sym z)
 
-calls-whole : {k : ℕ} {b d : List ℕ} → Good (handed b) → b ≡ bytesOf (handed b) → CalledWithin k b d → d ≡ bytesOf (handed d)
+calls-whole : {board : Board} {k : ℕ} {b d : List ℕ} → Good board (handed b) → b ≡ bytesOf (handed b) → CalledWithin board k b d → d ≡ bytesOf (handed d)
 calls-whole good e no-call = e
-calls-whole good e (one-call u here more) =
+calls-whole {board} good e (one-call u here more) =
     let (g, q) = next good here in
-    calls-whole (subst Good (sym q) g) (call-whole good e here) more
+    calls-whole (subst (Good board) (sym q) g) (call-whole good e here) more
 
 bytes-of : {b : List ℕ} → b ≡ bytesOf (handed b) → (p n : ℕ) → p < 16 → n < 320 → recordByte b p n ≡ byteAt (recordWord (handed b) p (n / 8)) (n % 8)
 bytes-of {b} e p n hp hn = ap (λ (x : List ℕ). recordByte x p n) e ∙ record-byte (handed b) p n hp hn
 
 -- ── two lists ──
 -- with p current, a result and a second value are those of the outcome
-module _ (l : List ℕ) {p : ℕ} (t : Right (putCurrent (view l) p)) (caller : callerOf (turnedTo p l) ≡ p) {w s r s′ : ℕ} {c : List ℕ} (h : CallLent (bytesOf (turnedTo p l)) w s r c s′) where
-  result-is : r ≡ resultOf p (outcomeOf (callOn (turnedTo p l) w))
+module _ {board : Board} (l : List ℕ) {p : ℕ} (t : Right (putCurrent (view l) p)) (caller : callerOf board (turnedTo p l) ≡ p) {w s r s′ : ℕ} {c : List ℕ} (h : CallLent board (bytesOf (turnedTo p l)) w s r c s′) where
+  result-is : r ≡ resultOf p (outcomeOf (callOn board (turnedTo p l) w))
   result-is = rw (handed-of t, caller) at (h .table .result)
 
-  second-is : s′ ≡ secondAfter s (outcomeOf (callOn (turnedTo p l) w))
+  second-is : s′ ≡ secondAfter s (outcomeOf (callOn board (turnedTo p l) w))
   second-is = rw (handed-of t) at (h .second)
 
-good-of : (b : List ℕ) → Bytes b → Sound (handed b) → Good (handed b)
+good-of : {board : Board} (b : List ℕ) → Bytes b → Sound board (handed b) → Good board (handed b)
 good-of b small sound = record { small = handed-small b small; sound = sound }
 
-module _ (b : List ℕ) (small : Bytes b) (sound : Sound (handed b)) where
-  abbrev good : Good (handed b)
+module _ {board : Board} (b : List ℕ) (small : Bytes b) (sound : Sound board (handed b)) where
+  abbrev good : Good board (handed b)
   good = good-of b small sound
 
-  module _ {k : ℕ} {d : List ℕ} (h : CalledWithin k b d) where
+  module _ {k : ℕ} {d : List ℕ} (h : CalledWithin board k b d) where
     left : Untouched k (handed b) (handed d)
     left =
         let (ws, inside, e) = within-words good h in
@@ -97,35 +98,35 @@ module _ (b : List ℕ) (small : Bytes b) (sound : Sound (handed b)) where
           words = left;
         }
 
-  module _ {k p : ℕ} (q : Beside (view (handed b) .k) k p) (ws vs : List ℕ) (one : Within k (handed b) ws) (two : Within k (handed b) vs) where
+  module _ {k p : ℕ} (q : Beside (view (handed b) .k) k p) (ws vs : List ℕ) (one : Within board k (handed b) ws) (two : Within board k (handed b) vs) where
     -- after a list of calls p is present still, and can be made current
-    module _ (us : List ℕ) (inside : Within k (handed b) us) where
-      present : Present (view (afterAll (handed b) us) .k) p
+    module _ (us : List ℕ) (inside : Within board k (handed b) us) where
+      present : Present (view (afterAll board (handed b) us) .k) p
       present = still-present (handed b) ws vs k good one two p q us inside
 
-      right : Right (putCurrent (view (afterAll (handed b) us)) p)
+      right : Right (putCurrent (view (afterAll board (handed b) us)) p)
       right = turned p (after-good good us) present
 
-      caller : callerOf (turnedTo p (afterAll (handed b) us)) ≡ p
+      caller : callerOf board (turnedTo p (afterAll board (handed b) us)) ≡ p
       caller = turned-caller p (after-good good us) present
 
-    words-answer : {d e : List ℕ} → handed d ≡ afterAll (handed b) ws → handed e ≡ afterAll (handed b) vs → BytesAnswer p d e
+    words-answer : {d e : List ℕ} → handed d ≡ afterAll board (handed b) ws → handed e ≡ afterAll board (handed b) vs → BytesAnswer board p d e
     words-answer x y = record {
       same = λ {w} {s} reads own u v.
           let same = same-answers (handed b) ws vs k good one two p q w reads own in
           let u′ = rw x at u in
           let v′ = rw y at v in (
-            result-is (afterAll (handed b) ws) (right ws one) (caller ws one) u′ ∙ ap (resultOf p) same ∙ sym (result-is (afterAll (handed b) vs) (right vs two) (caller vs two) v′),
-            second-is (afterAll (handed b) ws) (right ws one) (caller ws one) u′ ∙ ap (secondAfter s) same ∙ sym (second-is (afterAll (handed b) vs) (right vs two) (caller vs two) v′),
+            result-is (afterAll board (handed b) ws) (right ws one) (caller ws one) u′ ∙ ap (resultOf p) same ∙ sym (result-is (afterAll board (handed b) vs) (right vs two) (caller vs two) v′),
+            second-is (afterAll board (handed b) ws) (right ws one) (caller ws one) u′ ∙ ap (secondAfter s) same ∙ sym (second-is (afterAll board (handed b) vs) (right vs two) (caller vs two) v′),
           );
     }
 
-  bytes-answer : {k p : ℕ} {d e : List ℕ} → CalledWithin k b d → CalledWithin k b e → Beside (view (handed b) .k) k p → BytesAnswer p d e
+  bytes-answer : {k p : ℕ} {d e : List ℕ} → CalledWithin board k b d → CalledWithin board k b e → Beside (view (handed b) .k) k p → BytesAnswer board p d e
   bytes-answer x y q =
       let (ws, one, i) = within-words good x in
       let (vs, two, j) = within-words good y in
       words-answer q ws vs one two i j
 
 -- REQUEST 112, over bytes
-pub branch-demand : BranchDemand
-branch-demand = record { untouched = λ {b = b} a s h. bytes-left b a s h; answers = λ {b = b} a s x y q. bytes-answer b a s x y q }
+pub branch-demand : (board : Board) → BranchDemand board
+branch-demand board = record { untouched = λ {b = b} a s h. bytes-left b a s h; answers = λ {b = b} a s x y q. bytes-answer b a s x y q }

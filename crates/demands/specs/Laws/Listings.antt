@@ -8,6 +8,7 @@ use native.Mathlib.Omega.{arith}
 use lib.Dec.{leb}
 use lib.ListN.{length}
 use borrow.Author.Tests.{leb-true, le-leb}
+use Rattle.shapes.specs.declared.Board.{Board}
 use Rattle.tables.specs.State.{Opt, none, some, K, Table}
 use Rattle.tables.specs.View.{view}
 use Rattle.tables.specs.Lines.{Holds}
@@ -84,7 +85,7 @@ module _ {Holder : ℕ → ℕ → Type 0} {up : ℕ → ℕ} (k : K) (range : k
       })
 
 -- .. and those of a sound table are, by the entries that hold a line
-module _ {t : List ℕ} (s : Sound t) where
+module _ {board : Board} {t : List ℕ} (s : Sound board t) where
   pub table-lists : (l : ℕ) → view t .k .base ≤ l → l < view t .k .stop → Lists (λ p. Holds (view t .k .slot) p l) (view t .k .parent) (holdersOf (view t .k) l)
   table-lists l a b = holders-list (sound-core t s) (a, b)
 
@@ -120,26 +121,26 @@ leaves before written (done v w t) = written
 leaves before written (refused n) = before
 
 -- ── holders: 1, 7, 17 ──
-module _ (t : List ℕ) (m : ℕ) (list : List ℕ) where
+module _ (board : Board) (t : List ℕ) (m : ℕ) (list : List ℕ) where
   abbrev pub holdersResult : Result
   holdersResult =
-      check 1 (sound t)
+      check 1 (sound board t)
       (check 7 (inMemory (view t .k) m)
       (check 17 (leb 16 (length list))
       (done (length (holdersOf (view t .k) m)) (looksOf (view t .k) m) (view t))))
 
-  pub holders-exact : Answers (holdersLadder t m (length list)) holdersResult
+  pub holders-exact : Answers (holdersLadder board t m (length list)) holdersResult
   unfolding inMemory
   holders-exact =
-      check-answers (sound-means t) λ _.
+      check-answers (sound-means board t) λ _.
       check-answers (and-means (le-means (view t .k .base) m) (lt-means m (view t .k .stop))) λ _.
       check-answers (le-means 16 (length list)) λ _.
       finished
 
-  pub holders-by : (holdersOutcome t m (length list) ≡ outcomeOf holdersResult)
-      × (holdersBytes t m list ≡ leaves list (over (holdersOf (view t .k) m) list) holdersResult)
+  pub holders-by : (holdersOutcome board t m (length list) ≡ outcomeOf holdersResult)
+      × (holdersBytes board t m list ≡ leaves list (over (holdersOf (view t .k) m) list) holdersResult)
   unfolding holdersOutcome holdersBytes check outcomeOf
-  holders-by = go (sound t) (inMemory (view t .k) m) (leb 16 (length list)) (length (holdersOf (view t .k) m)) (looksOf (view t .k) m) (over (holdersOf (view t .k) m) list)
+  holders-by = go (sound board t) (inMemory (view t .k) m) (leb 16 (length list)) (length (holdersOf (view t .k) m)) (looksOf (view t .k) m) (over (holdersOf (view t .k) m) list)
     where
       go : (x y z : Bool) (n s : ℕ) (l : List ℕ)
           → (cond x (cond y (cond z (Done n s) (Refused 17)) (Refused 7)) (Refused 1) ≡ outcomeOf (check 1 x (check 7 y (check 17 z (done n s (view t))))))
@@ -151,31 +152,31 @@ module _ (t : List ℕ) (m : ℕ) (list : List ℕ) where
 
   -- what is done was done of a sound table, with the number of holders and the sum of their searches
   pub holders-done : {v w : ℕ} {t′ : Table} → holdersResult ≡ done v w t′
-      → Sound t × ((view t .k .base ≤ m) × (m < view t .k .stop)) × (v ≡ length (holdersOf (view t .k) m)) × (w ≡ looksOf (view t .k) m)
+      → Sound board t × ((view t .k .base ≤ m) × (m < view t .k .stop)) × (v ≡ length (holdersOf (view t .k) m)) × (w ≡ looksOf (view t .k) m)
   unfolding Ends
-  holders-done = ends (λ v w _. Sound t × ((view t .k .base ≤ m) × (m < view t .k .stop)) × (v ≡ length (holdersOf (view t .k) m)) × (w ≡ looksOf (view t .k) m)) holders-exact
+  holders-done = ends (λ v w _. Sound board t × ((view t .k .base ≤ m) × (m < view t .k .stop)) × (v ≡ length (holdersOf (view t .k) m)) × (w ≡ looksOf (view t .k) m)) holders-exact
       (λ s i _. (s, i, refl, refl))
 
 -- ── runs: 1, 17 ──
-module _ (t : List ℕ) (list : List Run) where
+module _ (board : Board) (t : List ℕ) (list : List Run) where
   abbrev pub runsResult : Result
   runsResult =
-      check 1 (sound t)
+      check 1 (sound board t)
       (check 17 (leb (length (runsOf (view t .k))) (length list))
       (done (length (runsOf (view t .k))) 0 (view t)))
 
-  pub runs-exact : Answers (runsLadder t (length list)) runsResult
+  pub runs-exact : Answers (runsLadder board t (length list)) runsResult
   runs-exact =
-      check-answers (sound-means t) λ s.
+      check-answers (sound-means board t) λ s.
       check-answers (
         λ q rs w. rw (table-runs-only s rs w) (leb-true (length (runsOf (view t .k))) (length list) q),
         λ f. le-leb (length (runsOf (view t .k))) (length list) (f (runsOf (view t .k)) (table-runs s)),
       ) λ _.
       finished
 
-  pub runs-by : (runsOutcome t (length list) ≡ outcomeOf runsResult) × (runsRecords t list ≡ leaves list (runsOver (runsOf (view t .k)) list) runsResult)
+  pub runs-by : (runsOutcome board t (length list) ≡ outcomeOf runsResult) × (runsRecords board t list ≡ leaves list (runsOver (runsOf (view t .k)) list) runsResult)
   unfolding runsOutcome runsRecords check outcomeOf
-  runs-by = go (sound t) (leb (length (runsOf (view t .k))) (length list)) (length (runsOf (view t .k))) (runsOver (runsOf (view t .k)) list)
+  runs-by = go (sound board t) (leb (length (runsOf (view t .k))) (length list)) (length (runsOf (view t .k))) (runsOver (runsOf (view t .k)) list)
     where
       go : (x y : Bool) (n : ℕ) (l : List Run)
           → (cond x (cond y (Done n 0) (Refused 17)) (Refused 1) ≡ outcomeOf (check 1 x (check 17 y (done n 0 (view t)))))
@@ -184,7 +185,7 @@ module _ (t : List ℕ) (list : List Run) where
       go true false n l = (refl, refl)
       go false y n l = (refl, refl)
 
-  pub runs-done : {v w : ℕ} {t′ : Table} → runsResult ≡ done v w t′ → Sound t × (length (runsOf (view t .k)) ≤ length list) × (v ≡ length (runsOf (view t .k)))
+  pub runs-done : {v w : ℕ} {t′ : Table} → runsResult ≡ done v w t′ → Sound board t × (length (runsOf (view t .k)) ≤ length list) × (v ≡ length (runsOf (view t .k)))
   unfolding Ends
-  runs-done = ends (λ v w _. Sound t × (length (runsOf (view t .k)) ≤ length list) × (v ≡ length (runsOf (view t .k)))) runs-exact
+  runs-done = ends (λ v w _. Sound board t × (length (runsOf (view t .k)) ≤ length list) × (v ≡ length (runsOf (view t .k)))) runs-exact
       (λ s f. (s, f (runsOf (view t .k)) (table-runs s), refl))

@@ -6,7 +6,7 @@ use Rattle.tables.specs.State.{Table}
 use Rattle.rules.specs.Rules.{Result, done, refused}
 use Rattle.rules.specs.Ran.{outcomeOf}
 use Rattle.isolation.specs.Ladder.{Ladder, Answers}
-use Rattle.board.specs.Board.{packed, resultOf}
+use Rattle.face.specs.Face.{packed, resultOf}
 use Rattle.demands.specs.Demands.{refusalIn, callerIn, firstIn, Accepted, Answered}
 use Rattle.demands.specs.Laws.Lowest.{Rises, applies-range, answers-say}
 

@@ -6,6 +6,7 @@ use lib.Dec.{lit≤}
 use Rattle.words.specs.Kind.{fieldsIn, Zeroed}
 use Rattle.words.specs.Words.{call}
 use Rattle.words.specs.declared.call_word.CallFields.{CallFields}
+use Rattle.shapes.specs.declared.Board.{Board}
 use Rattle.tables.specs.State.{Table}
 use Rattle.tables.specs.View.{view}
 use Rattle.isolation.specs.Ladder.{Ladder, must}
@@ -19,21 +20,21 @@ either : (b : Bool) {n : ℕ} {c d : Ladder} → Rises n c → Rises n d → Ris
 either true x y = x
 either false x y = y
 
-numbered-rises : (n : ℕ) (t : Table) (f : CallFields) → Rises 2 (numberedLadder n t f)
-numbered-rises n t f = search (either, top, rung, value, number, lit≤) depth 40 fits 4000
+numbered-rises : (board : Board) (n : ℕ) (t : Table) (f : CallFields) → Rises 2 (numberedLadder board n t f)
+numbered-rises board n t f = search (either, top, rung, value, number, lit≤) depth 40 fits 4000
 
 -- after 1 comes 2
-pub word-rises : (t : Table) (w : ℕ) → Rises 2 (must 2 (Zeroed call w) (serveLadder t (fieldsIn call w)))
-word-rises t w = let services = numbered-rises (fieldsIn call w .service) t (fieldsIn call w) in search (rung, services, lit≤) depth 10
+pub word-rises : (board : Board) (t : Table) (w : ℕ) → Rises 2 (must 2 (Zeroed call w) (serveLadder board t (fieldsIn call w)))
+word-rises board t w = let services = numbered-rises board (fieldsIn call w .service) t (fieldsIn call w) in search (rung, services, lit≤) depth 10
 
-pub call-rises : (l : List ℕ) (w : ℕ) → Rises 1 (callLadder l w)
-call-rises l w = let services = numbered-rises (fieldsIn call w .service) (view l) (fieldsIn call w) in search (rung, services, lit≤) depth 10
+pub call-rises : (board : Board) (l : List ℕ) (w : ℕ) → Rises 1 (callLadder board l w)
+call-rises board l w = let services = numbered-rises board (fieldsIn call w .service) (view l) (fieldsIn call w) in search (rung, services, lit≤) depth 10
 
 pub boot-rises : (l : List ℕ) (base end : ℕ) → Rises 1 (bootLadder l base end)
 boot-rises l base end = search (top, rung, lit≤) depth 10
 
-pub holders-rises : (t : List ℕ) (m size : ℕ) → Rises 1 (holdersLadder t m size)
-holders-rises t m size = search (top, rung, lit≤) depth 10
+pub holders-rises : (board : Board) (t : List ℕ) (m size : ℕ) → Rises 1 (holdersLadder board t m size)
+holders-rises board t m size = search (top, rung, lit≤) depth 10
 
-pub runs-rises : (t : List ℕ) (size : ℕ) → Rises 1 (runsLadder t size)
-runs-rises t size = search (top, rung, lit≤) depth 10
+pub runs-rises : (board : Board) (t : List ℕ) (size : ℕ) → Rises 1 (runsLadder board t size)
+runs-rises board t size = search (top, rung, lit≤) depth 10

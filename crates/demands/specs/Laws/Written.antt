@@ -7,6 +7,7 @@ use native.Mathlib.Decide.{decLt}
 use native.Mathlib.Omega.{arith}
 use lib.ListN.{length}
 use Rattle.loops.specs.Count.{count}
+use Rattle.shapes.specs.declared.Board.{Board}
 use Rattle.tables.specs.State.{K}
 use Rattle.tables.specs.View.{view}
 use Rattle.tables.specs.Lines.{Holds}
@@ -24,8 +25,8 @@ use Rattle.ledger.specs.Lists.{Lists}
 use Rattle.ledger.specs.Laws.Lists.{one-list, no-siblings}
 use Rattle.ledger.specs.Theorem.{Demand3}
 use Rattle.ledger.specs.Laws.LedgerRuns.{RunsDemand}
-use Rattle.board.specs.Board.{handed, resultOf, secondAfter, ListLent}
-use Rattle.board.specs.Lists.{Handed}
+use Rattle.face.specs.Face.{handed, resultOf, secondAfter, ListLent}
+use Rattle.face.specs.Lists.{Handed}
 use Rattle.demands.specs.Demands.{refusalIn, firstIn, Accepted, Answered, holdersLadder, LongestRuns, TableRuns, runsLadder, HoldersWritten, RunsWritten, Tells}
 use Rattle.demands.specs.Laws.Lowest.{past, none-left}
 use Rattle.demands.specs.Laws.Rising.{holders-rises, runs-rises}
@@ -36,38 +37,38 @@ nobody-calls : 0 < 2 ^ 8
 nobody-calls = omega arith
 
 -- ── holders ──
-module _ {b : List ℕ} {m : ℕ} {list : List ℕ} {s r : ℕ} {after : List ℕ} {s′ : ℕ} (h : ListLent b m list s r after s′) where
+module _ {board : Board} {b : List ℕ} {m : ℕ} {list : List ℕ} {s r : ℕ} {after : List ℕ} {s′ : ℕ} (h : ListLent board b m list s r after s′) where
   abbrev k : K
   k = view (handed b) .k
 
   abbrev result : Result
-  result = holdersResult (handed b) m list
+  result = holdersResult board (handed b) m list
 
   word : r ≡ resultOf 0 (outcomeOf result)
-  word = h .result ∙ ap (resultOf 0) (holders-by (handed b) m list .0)
+  word = h .result ∙ ap (resultOf 0) (holders-by board (handed b) m list .0)
 
   bytes-by : after ≡ leaves list (over (holdersOf k m) list) result
-  bytes-by = h .bytes ∙ holders-by (handed b) m list .1
+  bytes-by = h .bytes ∙ holders-by board (handed b) m list .1
 
   second-by : s′ ≡ secondAfter s (outcomeOf result)
-  second-by = h .second ∙ ap (secondAfter s) (holders-by (handed b) m list .0)
+  second-by = h .second ∙ ap (secondAfter s) (holders-by board (handed b) m list .0)
 
-  pub holders-answered : Answered (holdersLadder (handed b) m (length list)) r ((after ≡ list) × (s′ ≡ s))
+  pub holders-answered : Answered (holdersLadder board (handed b) m (length list)) r ((after ≡ list) × (s′ ≡ s))
   unfolding secondAfter outcomeOf
   holders-answered =
-      answered (holders-rises (handed b) m (length list)) nobody-calls result (holders-exact (handed b) m list) word
+      answered (holders-rises board (handed b) m (length list)) nobody-calls result (holders-exact board (handed b) m list) word
       (λ n z. (
         bytes-by ∙ ap (leaves list (over (holdersOf k m) list)) z,
         second-by ∙ ap (λ (x : Result). secondAfter s (outcomeOf x)) z,
       ))
 
   -- done: the number and every byte, where the names are those of a listing
-  pub holders-told : Accepted r → {Holder : ℕ → Type 0} {up : ℕ → ℕ} → (Sound (handed b) → k .base ≤ m → m < k .stop → Lists Holder up (holdersOf k m))
+  pub holders-told : Accepted r → {Holder : ℕ → Type 0} {up : ℕ → ℕ} → (Sound board (handed b) → k .base ≤ m → m < k .stop → Lists Holder up (holdersOf k m))
       → HoldersWritten (handed b) m Holder up list (firstIn r) s′ after
   unfolding secondAfter outcomeOf
   holders-told q lists =
-      let (w, t, z) = accepted-done (holders-rises (handed b) m (length list)) nobody-calls result (holders-exact (handed b) m list) word q in
-      let (f, (i, j), v, y) = holders-done (handed b) m list z in
+      let (w, t, z) = accepted-done (holders-rises board (handed b) m (length list)) nobody-calls result (holders-exact board (handed b) m list) word q in
+      let (f, (i, j), v, y) = holders-done board (handed b) m list z in
       record {
         names = holdersOf k m;
         listing = lists f i j;
@@ -81,30 +82,30 @@ module _ {b : List ℕ} {m : ℕ} {list : List ℕ} {s r : ℕ} {after : List �
   holders-written q = holders-told q (λ f. table-lists f m)
 
 -- ── runs ──
-module _ {b : List ℕ} {list : List Run} {r : ℕ} {after : List Run} (h : Handed b list r after) where
+module _ {board : Board} {b : List ℕ} {list : List Run} {r : ℕ} {after : List Run} (h : Handed board b list r after) where
   abbrev runsK : K
   runsK = view (handed b) .k
 
   abbrev runs-result : Result
-  runs-result = runsResult (handed b) list
+  runs-result = runsResult board (handed b) list
 
   runs-word : r ≡ resultOf 0 (outcomeOf runs-result)
-  runs-word = h .answer ∙ ap (resultOf 0) (runs-by (handed b) list .0)
+  runs-word = h .answer ∙ ap (resultOf 0) (runs-by board (handed b) list .0)
 
   records-by : after ≡ leaves list (runsOver (runsOf runsK) list) runs-result
-  records-by = h .records ∙ runs-by (handed b) list .1
+  records-by = h .records ∙ runs-by board (handed b) list .1
 
-  pub runs-answered : Answered (runsLadder (handed b) (length list)) r (after ≡ list)
+  pub runs-answered : Answered (runsLadder board (handed b) (length list)) r (after ≡ list)
   runs-answered =
-      answered (runs-rises (handed b) (length list)) nobody-calls runs-result (runs-exact (handed b) list) runs-word
+      answered (runs-rises board (handed b) (length list)) nobody-calls runs-result (runs-exact board (handed b) list) runs-word
       (λ n z. records-by ∙ ap (leaves list (runsOver (runsOf runsK) list)) z)
 
   -- done: the number and every record, where these are the runs and no others
-  pub runs-told : Accepted r → {Runs : List Run → Type 0} → (Sound (handed b) → Runs (runsOf runsK) × ((rs : List Run) → Runs rs → rs ≡ runsOf runsK))
+  pub runs-told : Accepted r → {Runs : List Run → Type 0} → (Sound board (handed b) → Runs (runsOf runsK) × ((rs : List Run) → Runs rs → rs ≡ runsOf runsK))
       → RunsWritten Runs list (firstIn r) after
   runs-told q runs =
-      let (w, t, z) = accepted-done (runs-rises (handed b) (length list)) nobody-calls runs-result (runs-exact (handed b) list) runs-word q in
-      let (f, i, v) = runs-done (handed b) list z in
+      let (w, t, z) = accepted-done (runs-rises board (handed b) (length list)) nobody-calls runs-result (runs-exact board (handed b) list) runs-word q in
+      let (f, i, v) = runs-done board (handed b) list z in
       record {
         runs = runsOf runsK;
         longest = runs f .0;
@@ -118,7 +119,7 @@ module _ {b : List ℕ} {list : List Run} {r : ℕ} {after : List Run} (h : Hand
   runs-written q = runs-told q (λ f. (table-runs f, table-runs-only f))
 
 -- ── of a sound table whose ledger is known ──
-module _ {base end : ℕ} {g : Ledger} (d : List ℕ) (f : Sound (handed d)) (known : Demand3 base end g (handed d)) (runs-known : RunsDemand base end g (handed d)) where
+module _ {board : Board} {base end : ℕ} {g : Ledger} (d : List ℕ) (f : Sound board (handed d)) (known : Demand3 board base end g (handed d)) (runs-known : RunsDemand board base end g (handed d)) where
   abbrev kd : K
   kd = view (handed d) .k
 
@@ -142,11 +143,11 @@ module _ {base end : ℕ} {g : Ledger} (d : List ℕ) (f : Sound (handed d)) (kn
   ledger-runs-only = rw (base-is, end-is) at (runs-only kd (sound-core (handed d) f .s1) lists)
 
   -- holders, as the ledger's own theorem reads it
-  listed : {m : ℕ} {list : List ℕ} {s r : ℕ} {after : List ℕ} {s′ : ℕ} → ListLent d m list s r after s′
-      → Listed (handed d) m list (holdersOutcome (handed d) m (length list)) after
+  listed : {m : ℕ} {list : List ℕ} {s r : ℕ} {after : List ℕ} {s′ : ℕ} → ListLent board d m list s r after s′
+      → Listed board (handed d) m list (holdersOutcome board (handed d) m (length list)) after
   listed h = record { outcome = refl; bytes = h .bytes }
 
-  short : {list : List Run} {r : ℕ} {after : List Run} → Handed d list r after → (Accepted r → ⊥)
+  short : {list : List Run} {r : ℕ} {after : List Run} → Handed board d list r after → (Accepted r → ⊥)
       → (refusalIn r ≡ 17) × (after ≡ list) × ((rs : List Run) × LongestRuns Named (g .parent) base end rs × (length list < length rs))
   unfolding resultOf
   short {list} {r} {after} h n = go (decLt (length list) (length (runsOf kd)))
@@ -154,13 +155,13 @@ module _ {base end : ℕ} {g : Ledger} (d : List ℕ) (f : Sound (handed d)) (kn
       go : Dec (length list < length (runsOf kd))
           → (refusalIn r ≡ 17) × (after ≡ list) × ((rs : List Run) × LongestRuns Named (g .parent) base end rs × (length list < length rs))
       go (yes b) =
-          let x : RunsListed (handed d) list (runsOutcome (handed d) (length list)) after = record { outcome = refl; records = h .records } in
+          let x : RunsListed board (handed d) list (runsOutcome board (handed d) (length list)) after = record { outcome = refl; records = h .records } in
           let y = runs-known .short x b in
           let e = h .answer ∙ ap (resultOf 0) (y .answer) in
           (rw e (reads-back 17 0 0 (omega arith) (omega arith) .0), y .same, (runsOf kd, ledger-runs, b))
       go (no b) = absurd (n (runs-answered h .accepts .1 (λ i x. none-left (past (λ rs w. rw (table-runs-only f rs w) (omega arith)) (past f x)))))
 
-  pub tells : Tells base end g d
+  pub tells : Tells board base end g d
   unfolding resultOf secondAfter
   tells = record {
     holders = λ {m} {r = r} h a b c.

@@ -10,6 +10,7 @@ use Rattle.words.specs.Kind.{fieldsIn}
 use Rattle.words.specs.Words.{call}
 use Rattle.words.specs.declared.Rights.{Rights}
 use Rattle.words.specs.declared.call_word.CallFields.{CallFields}
+use Rattle.shapes.specs.declared.Board.{Board}
 use Rattle.tables.specs.State.{Opt, none, some, Entry, Table}
 use Rattle.tables.specs.View.{view}
 use Rattle.tables.specs.Search.{lowest}
@@ -140,13 +141,13 @@ module _ {base end : ℕ} {g : Ledger} {ms : List ℕ} (fit : Memory (length ms)
         let (ok, _, _) = clear-done h c x in
         subst (λ (up : ℕ → ℕ). Follows base end g ms (strikeAll (branch up c))) (sym (s .tree)) (all-follows (branch (t .k .parent) c) (branch-goes (h .core) ok .root))
 
-    serve-follows : (f : CallFields) {v w : ℕ} {t′ : Table} → serve t f ≡ done v w t′ → Follows base end g ms (accepted g f (t .k .current) v (lines (f .slot .0)))
+    serve-follows : (board : Board) (f : CallFields) {v w : ℕ} {t′ : Table} → serve board t f ≡ done v w t′ → Follows base end g ms (accepted g f (t .k .current) v (lines (f .slot .0)))
     unfolding accepted
-    serve-follows f {v} z =
+    serve-follows board f {v} z =
         let p = f .partition .0 in
         let i = f .slot .0 in
         let same = nothing-follows in
-        done-each t f z (record {
+        done-each board t f z (record {
           create = λ y _. rw y (adopt-follows v (t .k .current));
           delete = λ y x. let (ok, _) = delete-done h p x in rw y (all-follows _ (ok .root));
           prepare = λ y _. rw y same;
@@ -164,25 +165,25 @@ module _ {base end : ℕ} {g : Ledger} {ms : List ℕ} (fit : Memory (length ms)
         })
 
 -- ── any call ──
-module _ {base end : ℕ} {g : Ledger} {l ms : List ℕ} (h : Good l) (s : Keeps base end g (view l .k)) (fit : Memory (length ms) base end) (m : Mirrors base end g ms) where
-  pub call-follows : (w : ℕ) → Follows base end g ms (eventOf g (fieldsIn call w) (callerOf l) (outcomeOf (callOn l w)) (linesNamed l w))
+module _ {board : Board} {base end : ℕ} {g : Ledger} {l ms : List ℕ} (h : Good board l) (s : Keeps base end g (view l .k)) (fit : Memory (length ms) base end) (m : Mirrors base end g ms) where
+  pub call-follows : (w : ℕ) → Follows base end g ms (eventOf g (fieldsIn call w) (callerOf board l) (outcomeOf (callOn board l w)) (linesNamed board l w))
   unfolding eventOf outcomeOf callerOf
-  call-follows w = one (callOn l w) refl
+  call-follows w = one (callOn board l w) refl
     where
-      one : (r : Result) → callOn l w ≡ r → Follows base end g ms (eventOf g (fieldsIn call w) (callerOf l) (outcomeOf r) (linesNamed l w))
+      one : (r : Result) → callOn board l w ≡ r → Follows base end g ms (eventOf g (fieldsIn call w) (callerOf board l) (outcomeOf r) (linesNamed board l w))
       one (done v x t′) z =
-          let (_, a, y) = served l w (h .small) z in
-          rw (sound-means l .1 (h .sound)) (serve-follows fit m a s (fieldsIn call w) y)
+          let (_, a, y) = served board l w (h .small) z in
+          rw (sound-means board l .1 (h .sound)) (serve-follows fit m a s board (fieldsIn call w) y)
       one (refused n) z = nothing-follows fit m
 
 -- a take that is done strikes the child to whom the entry was given, for the entry's lines
-module _ {base end : ℕ} {g : Ledger} {l : List ℕ} (h : Good l) (s : Keeps base end g (view l .k)) where
-  pub take-event : (w : ℕ) → fieldsIn call w .service ≡ 6 → {v x : ℕ} {t′ : Table} → callOn l w ≡ done v x t′
+module _ {board : Board} {base end : ℕ} {g : Ledger} {l : List ℕ} (h : Good board l) (s : Keeps base end g (view l .k)) where
+  pub take-event : (w : ℕ) → fieldsIn call w .service ≡ 6 → {v x : ℕ} {t′ : Table} → callOn board l w ≡ done v x t′
       → (e : Entry) × (view l .k .slot (view l .k .current) (fieldsIn call w .slot .0) ≡ some e)
-      × (eventOf g (fieldsIn call w) (callerOf l) (outcomeOf (callOn l w)) (linesNamed l w) ≡ strike (e .given) (record { start = e .start; stop = e .stop }))
+      × (eventOf g (fieldsIn call w) (callerOf board l) (outcomeOf (callOn board l w)) (linesNamed board l w) ≡ strike (e .given) (record { start = e .start; stop = e .stop }))
   unfolding eventOf outcomeOf callerOf accepted struck linesOf
   take-event w six z =
       let f = fieldsIn call w in
-      let (_, a, y) = served l w (h .small) z in
-      let (_, e, _, ok, _) = take-done a (f .slot .0) (sym (perform-at 6 (view l) f six) ∙ serve-done (view l) f y .1) in
-      (e, ok .at, rw (z, sound-means l .1 (h .sound), six, child-for a s ok, ok .at) refl)
+      let (_, a, y) = served board l w (h .small) z in
+      let (_, e, _, ok, _) = take-done a (f .slot .0) (sym (perform-at board 6 (view l) f six) ∙ serve-done board (view l) f y .1) in
+      (e, ok .at, rw (z, sound-means board l .1 (h .sound), six, child-for a s ok, ok .at) refl)

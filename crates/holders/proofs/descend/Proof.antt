@@ -28,7 +28,7 @@ descend-spec =
     let i = c .before .before .before .before .before .before .loop .inv in
     let h = c .before .before .before .before .look .ensures in
     let n = sym (h .0) ∙ c .if1 .taken in
-    (deepest-here _ _ _ _ n ∙ i .comes, i .small, descent-here _ (c .before .before .before .before .before .before .before .pre) i (h .2) n))
+    (deepest-here _ _ _ _ n ∙ i .comes, i .small, descent-here (c .before .before .before .before .before .before .before .pre) i (h .2) n))
     (λ c. search needs)
     (λ c. search needs)
     (λ c.
@@ -39,4 +39,4 @@ descend-spec =
     (λ c. omega (arith, descent-room (c .before .before .before .loop .inv) (looked-count _ (c .before .holding-slot .ensures))))
     (λ c.
     let i = c .before .before .before .loop .inv in
-    (deepest-last _ _ _ _ (omega arith) ∙ i .comes, i .small, descent-last _ (c .before .before .before .before .pre) i (looked-count _ (c .before .holding-slot .ensures)) (omega arith))))
+    (deepest-last _ _ _ _ (omega arith) ∙ i .comes, i .small, descent-last (c .before .before .before .before .pre) i (looked-count _ (c .before .holding-slot .ensures)) (omega arith))))

@@ -8,7 +8,7 @@ pub holders-spec : {M : Type 1} → statement M
 holders-spec =
     tie.close
     (tie.spec
-    (λ c. listed-unsound (wrong-length _ (c .if1 .taken)))
+    (λ c. listed-unsound (wrong-length _ _ (c .if1 .taken)))
     (λ c κs. c .before .if1 .left)
     (λ c κs. top-16 _)
     (λ c. search needs)

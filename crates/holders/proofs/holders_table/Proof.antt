@@ -1,6 +1,7 @@
 use mathlib.Core.Path.{sym, _∙_}
 use borrow.Author.Tests.{not-true}
 use Rattle.decide.specs.Laws.Decide.{passed}
+use Rattle.sound.specs.Laws.Whole.{tested}
 use Rattle.sound.specs.Laws.Holders.{listed-unsound, listed-outside, listed-short, listed-done, below-base, from-end, in-memory}
 use native.Mathlib.Omega.{arith}
 use borrow.Author.Needs.{needs}
@@ -20,6 +21,6 @@ holders-table-spec =
     (λ c. let f = c .before .before .before .before .first .ensures in listed-outside (passed (c .before .before .before .before .before .before .is-sound .ensures) (c .before .before .before .before .before .if1 .left)) (from-end _ _ (omega arith) (omega arith)))
     (λ c. let f = c .before .before .before .before .before .first .ensures in listed-short (passed (c .before .before .before .before .before .before .before .is-sound .ensures) (c .before .before .before .before .before .before .if1 .left)) (in-memory _ _ (omega arith) (omega arith)) (omega arith))
     (λ c. search needs)
-    (λ c κs. (passed (c .before .before .before .before .before .before .before .before .is-sound .ensures) (c .before .before .before .before .before .before .before .if1 .left), omega arith))
+    (λ c κs. (tested _ _ (passed (c .before .before .before .before .before .before .before .before .is-sound .ensures) (c .before .before .before .before .before .before .before .if1 .left)), omega arith))
     (λ c. search needs)
     (λ c. let f = c .before .before .before .before .before .before .before .before .before .first .ensures in listed-done (passed (c .before .before .before .before .before .before .before .before .before .before .before .is-sound .ensures) (c .before .before .before .before .before .before .before .before .before .before .if1 .left)) (in-memory _ _ (omega arith) (omega arith)) (omega arith) (c .before .before .write-holders .ensures)))

@@ -9,6 +9,7 @@ use borrow.Author.Tests.{not-true}
 use Rattle.words.specs.Kind.{fieldsIn, zeroed-means}
 use Rattle.words.specs.Words.{call}
 use Rattle.words.specs.declared.call_word.CallFields.{CallFields}
+use Rattle.shapes.specs.declared.Board.{Board}
 use Rattle.tables.specs.State.{Table}
 use Rattle.tables.specs.Fitting.{Words}
 use Rattle.sound.specs.Laws.Canonical.{sound-canon}
@@ -72,19 +73,19 @@ unfolding known
 known-means f = and-means (only-means (eqb (f .service) 9) (eq-means (f .service) 9) (region-means f)) (has-means (uses (f .service)) (λ x. unused-means x f))
 
 -- ── a call ──
-module _ {t : Table} (h : Right t) (f : CallFields) where
+module _ (board : Board) {t : Table} (h : Right t) (f : CallFields) where
   -- by the row of its number
-  at : (n : ℕ) {r : Result} → Answers (numberedLadder n t f) r → f .service ≡ n → Answers (numberedLadder (f .service) t f) r
-  at n {r} a q = subst (λ (m : ℕ). Answers (numberedLadder m t f) r) (sym q) a
+  at : (n : ℕ) {r : Result} → Answers (numberedLadder board n t f) r → f .service ≡ n → Answers (numberedLadder board (f .service) t f) r
+  at n {r} a q = subst (λ (m : ℕ). Answers (numberedLadder board m t f) r) (sym q) a
 
-  pub serve-exact : Answers (serveLadder t f) (serve t f)
+  pub serve-exact : Answers (serveLadder board t f) (serve board t f)
   unfolding serve
   serve-exact =
       let p = f .partition .0 in
       let s = f .slot .0 in
       let u = f .other in
       let l = f .line .0 in
-      check-answers (known-means f) (λ k. perform-each (Answers (numberedLadder (f .service) t f)) t f (known-means f .1 k) (record {
+      check-answers (known-means f) (λ k. perform-each (Answers (numberedLadder board (f .service) t f)) board t f (known-means f .1 k) (record {
         create = at 1 (create-exact h s);
         delete = at 2 (delete-exact h p);
         prepare = at 3 (prepare-exact h p s);
@@ -93,7 +94,7 @@ module _ {t : Table} (h : Right t) (f : CallFields) where
         take = at 6 (take-exact h s);
         cut = at 7 (cut-exact h s l);
         merge = at 8 (merge-exact h s u);
-        load = λ q z. at 9 (rw z (load-exact h p s u)) q;
+        load = λ q z. at 9 (rw z (load-exact board h p s u)) q;
         unload = λ q z. at 9 (rw z (unload-exact h p u)) q;
         readRegion = at 11 (readRegion-exact h p u);
         find = at 12 (find-exact h p l);
@@ -101,13 +102,13 @@ module _ {t : Table} (h : Right t) (f : CallFields) where
         clearOut = at 14 (clear-exact h p);
       }))
 
-module _ (l : List ℕ) (w : ℕ) (small : Words l) where
-  pub call-exact : Answers (callLadder l w) (callOn l w)
+module _ (board : Board) (l : List ℕ) (w : ℕ) (small : Words l) where
+  pub call-exact : Answers (callLadder board l w) (callOn board l w)
   call-exact =
-      rw (call-as l w)
-      (check-answers (sound-means l) (λ s.
-      check-answers (zeroed-means call w) (λ _. serve-exact (sound-right (sound-canon small s) s) (fieldsIn call w))))
+      rw (call-as board l w)
+      (check-answers (sound-means board l) (λ s.
+      check-answers (zeroed-means call w) (λ _. serve-exact board (sound-right (sound-canon small s) s) (fieldsIn call w))))
 
   -- so the answer of a call is the one that its conditions give
-  pub call-is : {r : Result} → (callOn l w ≡ r) ↔ Answers (callLadder l w) r
+  pub call-is : {r : Result} → (callOn board l w ≡ r) ↔ Answers (callLadder board l w) r
   call-is = (λ z. rw z at call-exact, answer-one call-exact)

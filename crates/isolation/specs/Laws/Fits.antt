@@ -4,6 +4,7 @@ use mathlib.Core.List.{List}
 use Prim.Native.Nat.{ℕ, _+_, _-_, _/_, _^_, _<_}
 use native.Mathlib.Omega.{arith}
 use native.Mathlib.Decide.{ℕ-discrete}
+use Rattle.shapes.specs.declared.Board.{Board}
 use Rattle.tables.specs.State.{Opt, none, some, Entry, Area, nowhere, K, Table}
 use Rattle.tables.specs.Laws.State.{some-inj, sameA}
 use Rattle.tables.specs.Encode.{encode}
@@ -80,11 +81,11 @@ right-fit {t} h =
 
 -- ── the words of a right table ──
 -- sound words, of 64 bits each
-pub record Good (l : List ℕ) : Type 0 where
+pub record Good (board : Board) (l : List ℕ) : Type 0 where
   pub small : Words l
-  pub sound : Sound l
+  pub sound : Sound board l
 
-pub right-good : {t : Table} → Right t → Good (encode t)
-right-good {t} h =
+pub right-good : (board : Board) {t : Table} → Right t → Good board (encode t)
+right-good board {t} h =
     let f = right-fit h in
-    record { small = encode-small f; sound = right-sound (fit-canon f) (rw (view-encode t f) h) }
+    record { small = encode-small f; sound = right-sound board (fit-canon f) (rw (view-encode t f) h) }

@@ -5,6 +5,7 @@ use mathlib.Core.Logic.{_⊎_, inl, inr, _↔_}
 use Prim.Native.Nat.{ℕ, _<_}
 use lib.Dec.{eqb}
 use Rattle.loops.specs.Laws.Every.{any-at, any-of}
+use Rattle.shapes.specs.declared.Board.{Board}
 use Rattle.tables.specs.State.{none, some, Entry, Table}
 use Rattle.tables.specs.Laws.State.{not-none}
 use Rattle.tables.specs.Update.{upd}
@@ -35,7 +36,7 @@ pub record LoadOk (t : Table) (p s r : ℕ) (e : Entry) : Type 0 where
 abbrev pub LoadDone : Table → ℕ → ℕ → ℕ → ℕ → ℕ → Table → Type 0
 LoadDone t p s r v w t′ = (e : Entry) × LoadOk t p s r e × (t′ ≡ settle (t .k) (upd (t .region) p r (some s)))
 
-module _ {t : Table} (h : Right t) (p s r : ℕ) where
+module _ (board : Board) {t : Table} (h : Right t) (p s r : ℕ) where
   nowhere-means : (not (elsewhere t p s r) ≡ true) ↔ Nowhere t p s r
   unfolding elsewhere
   nowhere-means = (
@@ -52,7 +53,7 @@ module _ {t : Table} (h : Right t) (p s r : ℕ) where
       means : (q : ℕ) → (test q ≡ true) ↔ ((q ≡ r → ⊥) × ((i : ℕ) × (t .region p q ≡ some i) × (i ≡ s)))
       means q = and-means (not-means (eq-means q r)) (has-means (t .region p q) (λ i. eq-means i s))
 
-  pub load-exact : Answers (loadLadder t p s r) (load t p s r)
+  pub load-exact : Answers (loadLadder board t p s r) (load board t p s r)
   unfolding load
   load-exact =
       check-answers (own-means (t .k) p) λ _.
@@ -61,11 +62,11 @@ module _ {t : Table} (h : Right t) (p s r : ℕ) where
       check-answers (and-means (lt-means r 8) nowhere-means) λ _.
       finished
 
-  pub load-done : {v w : ℕ} {t′ : Table} → load t p s r ≡ done v w t′ → LoadDone t p s r v w t′
+  pub load-done : {v w : ℕ} {t′ : Table} → load board t p s r ≡ done v w t′ → LoadDone t p s r v w t′
   unfolding Ends
   load-done = ends (LoadDone t p s r) load-exact (λ c e u o b. (e, record { who = c; at = u; clear = o; region = b .0; once = b .1 }, refl))
 
-  pub load-right : {v w : ℕ} {t′ : Table} → load t p s r ≡ done v w t′ → Right t′
+  pub load-right : {v w : ℕ} {t′ : Table} → load board t p s r ≡ done v w t′ → Right t′
   load-right x = let (e, ok, z) = load-done x in rw z (settle-right (h .core) (h .stop) (loads-more (right-loads h) (ok .region) (ok .once)))
 
 -- ── unload ──

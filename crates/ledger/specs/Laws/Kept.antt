@@ -12,6 +12,7 @@ use Rattle.words.specs.Kind.{fieldsIn}
 use Rattle.words.specs.Words.{call}
 use Rattle.words.specs.declared.Rights.{Rights}
 use Rattle.words.specs.declared.call_word.CallFields.{CallFields}
+use Rattle.shapes.specs.declared.Board.{Board}
 use Rattle.tables.specs.State.{Opt, none, some, Entry, K, Table}
 use Rattle.tables.specs.Update.{upd1}
 use Rattle.tables.specs.View.{view}
@@ -149,14 +150,14 @@ module _ {base end : ℕ} {g : Ledger} {t : Table} (h : Right t) (s : Keeps base
       rw z (subst (λ (u : ℕ → ℕ). Keeps base end (apply (strikeAll (branch u c)) g) (remove t c (branch (t .k .parent) c) .k)) (sym (s .tree)) (remove-kept (branch-goes (h .core) ok)))
 
   -- each service, with the event that it is
-  pub serve-kept : (f : CallFields) {v w : ℕ} {t′ : Table} → serve t f ≡ done v w t′ → Keeps base end (apply (accepted g f (t .k .current) v (lines (f .slot .0))) g) (t′ .k)
+  pub serve-kept : (board : Board) (f : CallFields) {v w : ℕ} {t′ : Table} → serve board t f ≡ done v w t′ → Keeps base end (apply (accepted g f (t .k .current) v (lines (f .slot .0))) g) (t′ .k)
   unfolding apply accepted settle
-  serve-kept f z =
+  serve-kept board f z =
       let p = f .partition .0 in
       let i = f .slot .0 in
       let u = f .other in
       let m = f .line .0 in
-      done-each t f z (record {
+      done-each board t f z (record {
         create = λ y x. rw y (create-kept i x);
         delete = λ y x. rw y (delete-kept p x);
         prepare = λ y x. let (_, ok, q) = prepare-done h p i x in rw (y, q) (quiet refl refl refl (prepare-holds (h .core) ok));
@@ -165,7 +166,7 @@ module _ {base end : ℕ} {g : Ledger} {t : Table} (h : Right t) (s : Keeps base
         take = λ y x. rw y (take-kept i x);
         cut = λ y x. let (_, ok, q) = cut-done h i m x in rw (y, q) (quiet refl refl refl (cut-holds (h .core) ok));
         merge = λ y x. let (_, _, ok, q) = merge-done h i u x in rw (y, q) (quiet refl refl refl (merge-holds (h .core) ok));
-        load = λ y _ x. let (_, _, q) = load-done h p i u x in rw (y, q) s;
+        load = λ y _ x. let (_, _, q) = load-done board h p i u x in rw (y, q) s;
         unload = λ y _ x. let (_, _, q) = unload-done h p u x in rw (y, q) s;
         readRegion = λ y x. rw (y, readRegion-same h p u x) s;
         find = λ y x. rw (y, find-same h p m x) s;
@@ -175,21 +176,21 @@ module _ {base end : ℕ} {g : Ledger} {t : Table} (h : Right t) (s : Keeps base
 
 -- ── any list of calls ──
 -- the reader has the answers that `call` promises
-pub told : {l m : List ℕ} {w : ℕ} {a : Answer} → Answers l w a m → a ≡ answerOn l w
+pub told : {board : Board} {l m : List ℕ} {w : ℕ} {a : Answer} → Answers board l w a m → a ≡ answerOn board l w
 told h = λ x. record { caller = record { 0 = h .caller x }; outcome = h .ran .outcome x; stands = h .stands x }
 
 module _ {base end : ℕ} where
-  pub after-kept : {l : List ℕ} → Good l → {g : Ledger} → Keeps base end g (view l .k) → (ws : List ℕ) → Keeps base end (keptOn l g ws) (view (afterAll l ws) .k)
+  pub after-kept : {board : Board} {l : List ℕ} → Good board l → {g : Ledger} → Keeps base end g (view l .k) → (ws : List ℕ) → Keeps base end (keptOn board l g ws) (view (afterAll board l ws) .k)
   unfolding keptOn afterAll apply noted eventOf outcomeOf wordsAfter callerOf
   after-kept h s [] = s
-  after-kept {l} h {g} s (w ∷ ws) = let (a, b) = one (callOn l w) refl in after-kept a b ws
+  after-kept {board} {l} h {g} s (w ∷ ws) = let (a, b) = one (callOn board l w) refl in after-kept a b ws
     where
-      one : (r : Result) → callOn l w ≡ r
-          → Good (wordsAfter l r) × Keeps base end (noted w (record { caller = record { 0 = callerOf l }; outcome = outcomeOf r; stands = standsAfter l w }) (linesNamed l w) g) (view (wordsAfter l r) .k)
+      one : (r : Result) → callOn board l w ≡ r
+          → Good board (wordsAfter l r) × Keeps base end (noted w (record { caller = record { 0 = callerOf board l }; outcome = outcomeOf r; stands = standsAfter board l w }) (linesNamed board l w) g) (view (wordsAfter l r) .k)
       one (done v x t′) z =
-          let (_, a, y) = served l w (h .small) z in
-          let q = serve-right a (fieldsIn call w) y in
-          (right-good q, rw (view-encode t′ (right-fit q), sound-means l .1 (h .sound)) (serve-kept a s (fieldsIn call w) y))
+          let (_, a, y) = served board l w (h .small) z in
+          let q = serve-right board a (fieldsIn call w) y in
+          (right-good board q, rw (view-encode t′ (right-fit q), sound-means board l .1 (h .sound)) (serve-kept a s board (fieldsIn call w) y))
       one (refused n) z = (h, s)
 
   boot-kept : (l : List ℕ) {v x : ℕ} {t′ : Table} → bootOn l base end ≡ done v x t′ → Keeps base end (opening base end) (t′ .k)
@@ -204,6 +205,6 @@ module _ {base end : ℕ} where
   })
 
   -- from an accepted boot the ledger is right after any list of calls
-  pub from-boot-kept : (l : List ℕ) {v x : ℕ} {t′ : Table} → bootOn l base end ≡ done v x t′ → (ws : List ℕ)
-      → Keeps base end (keptOn (encode t′) (opening base end) ws) (view (afterAll (encode t′) ws) .k)
-  from-boot-kept l {t′ = t′} z = let q = boot-right l base end z in after-kept (right-good q) (rw (view-encode t′ (right-fit q)) (boot-kept l z))
+  pub from-boot-kept : (board : Board) (l : List ℕ) {v x : ℕ} {t′ : Table} → bootOn l base end ≡ done v x t′ → (ws : List ℕ)
+      → Keeps base end (keptOn board (encode t′) (opening base end) ws) (view (afterAll board (encode t′) ws) .k)
+  from-boot-kept board l {t′ = t′} z = let q = boot-right l base end z in after-kept (right-good board q) (rw (view-encode t′ (right-fit q)) (boot-kept l z))

@@ -6,6 +6,7 @@ use mathlib.Core.Logic.{_↔_, Iff·trans, Iff·symm}
 use Prim.Native.Nat.{ℕ, zero, suc, _-_, _≤_, _<_}
 use native.Mathlib.Omega.{arith}
 use lib.ListN.{length}
+use Rattle.shapes.specs.declared.Board.{Board}
 use Rattle.tables.specs.State.{Table, K}
 use Rattle.tables.specs.View.{view}
 use Rattle.tables.specs.Encode.{encode}
@@ -38,15 +39,15 @@ pub record LedgerRuns (base end : ℕ) (g : Ledger) (rs : List Run) : Type 0 whe
   pub differ : (i l m : ℕ) → suc i < length rs → On (nth rs i) l → On (nth rs (suc i)) m → SameNames g l m → ⊥
 
 -- What demand 3 says of runs, of a ledger g and the words t of a table of base to end. Listed is what the writer of runs promises.
-pub record RunsDemand (base end : ℕ) (g : Ledger) (t : List ℕ) : Type 0 where
+pub record RunsDemand (board : Board) (base end : ℕ) (g : Ledger) (t : List ℕ) : Type 0 where
   -- the runs are the ledger's, and name the last of the listing
   pub runs : LedgerRuns base end g (runsOf (view t .k))
   pub deepest : (i l : ℕ) → i < length (runsOf (view t .k)) → On (nth (runsOf (view t .k)) i) l → holdersOf (view t .k) l ≡ trail (view t .k) (nth (runsOf (view t .k)) i .deepest .0) 15
   -- the ledger has one number of runs
   pub number : (rs : List Run) → LedgerRuns base end g rs → length rs ≡ length (runsOf (view t .k))
   -- runs is done with it, and the first records become the runs; or the list is too short
-  pub answer : {before after : List Run} {r : Outcome} → Listed t before r after → length (runsOf (view t .k)) ≤ length before → Told t before r after
-  pub short : {before after : List Run} {r : Outcome} → Listed t before r after → length before < length (runsOf (view t .k)) → Kept 17 before r after
+  pub answer : {before after : List Run} {r : Outcome} → Listed board t before r after → length (runsOf (view t .k)) ≤ length before → Told t before r after
+  pub short : {before after : List Run} {r : Outcome} → Listed board t before r after → length before < length (runsOf (view t .k)) → Kept 17 before r after
 
 same-bool : (a b : Bool) → (a ≡ true) ↔ (b ≡ true) → a ≡ b
 same-bool true b f = sym (f .0 refl)
@@ -70,7 +71,7 @@ named-at k (r ∷ rs) zero b = refl
 named-at k (r ∷ rs) (suc i) b = named-at k rs i (omega arith)
 
 -- ── a sound table whose ledger is right ──
-module _ {base end : ℕ} {g : Ledger} {t : List ℕ} (h : Sound t) (s : Keeps base end g (view t .k)) where
+module _ {board : Board} {base end : ℕ} {g : Ledger} {t : List ℕ} (h : Sound board t) (s : Keeps base end g (view t .k)) where
   abbrev k : K
   k = view t .k
 
@@ -142,16 +143,16 @@ module _ {base end : ℕ} {g : Ledger} {t : List ℕ} (h : Sound t) (s : Keeps b
     ledger-number : length rs ≡ length (runsOf k)
     ledger-number = sym (named-length k rs) ∙ ap length (longest-one (sound-core t h .s1) named-longest)
 
-  pub kept-runs : RunsDemand base end g t
+  pub kept-runs : RunsDemand board base end g t
   kept-runs = record {
     runs = ledger-runs;
     deepest = λ i l b o. runs-longest k (sound-core t h .s1) .same i l b o;
     number = λ rs w. ledger-number w;
-    answer = λ x b. done-told x (sound-means t .1 h) b;
-    short = λ x b. short-told x (sound-means t .1 h) b;
+    answer = λ x b. done-told x (sound-means board t .1 h) b;
+    short = λ x b. short-told x (sound-means board t .1 h) b;
   }
 
 -- from an accepted boot, after the calls of any words
-pub runs-demand : (l : List ℕ) (base end : ℕ) {v x : ℕ} {t′ : Table} → bootOn l base end ≡ done v x t′ → (ws : List ℕ)
-    → RunsDemand base end (keptOn (encode t′) (opening base end) ws) (afterAll (encode t′) ws)
-runs-demand l base end z ws = kept-runs (from-boot-sound l ws base end z) (from-boot-kept l z ws)
+pub runs-demand : (board : Board) (l : List ℕ) (base end : ℕ) {v x : ℕ} {t′ : Table} → bootOn l base end ≡ done v x t′ → (ws : List ℕ)
+    → RunsDemand board base end (keptOn board (encode t′) (opening base end) ws) (afterAll board (encode t′) ws)
+runs-demand board l base end z ws = kept-runs (from-boot-sound board l ws base end z) (from-boot-kept board l z ws)

@@ -9,6 +9,7 @@ use Rattle.words.specs.Kind.{fieldsIn}
 use Rattle.words.specs.Words.{call}
 use Rattle.words.specs.declared.Rights.{Rights}
 use Rattle.words.specs.declared.call_word.CallFields.{CallFields}
+use Rattle.shapes.specs.declared.Board.{Board}
 use Rattle.tables.specs.State.{Opt, none, some, Entry, Table}
 use Rattle.tables.specs.View.{view}
 use Rattle.tables.specs.Search.{lowest}
@@ -79,9 +80,9 @@ module _ (t : Table) where
       needed 4 _ (omega arith) λ e q. needed 4 _ (omega arith) λ f r.
       checked 5 _ (omega arith) (checked 6 _ (omega arith) (checked 11 _ (omega arith) (checked 12 _ (omega arith) (brief-done (omega arith)))))
 
-  load-brief : (p s r : ℕ) → Brief (load t p s r)
+  load-brief : (board : Board) (p s r : ℕ) → Brief (load board t p s r)
   unfolding load
-  load-brief p s r = checked 3 _ (omega arith) (needed 4 _ (omega arith) λ e q. checked 5 _ (omega arith) (checked 16 _ (omega arith) (brief-done (omega arith))))
+  load-brief board p s r = checked 3 _ (omega arith) (needed 4 _ (omega arith) λ e q. checked 5 _ (omega arith) (checked 16 _ (omega arith) (brief-done (omega arith))))
 
   unload-brief : (p r : ℕ) → Brief (unload t p r)
   unfolding unload
@@ -104,8 +105,8 @@ module _ (t : Table) where
   clear-brief p = checked 3 _ (omega arith) (brief-done (omega (arith, count-le 16 (branch (t .k .parent) p))))
 
   -- ── a call word ──
-  serve-brief : (f : CallFields) → Brief (serve t f)
-  serve-brief f = serve-each Brief t f (brief-refused (omega arith)) (record {
+  serve-brief : (board : Board) (f : CallFields) → Brief (serve board t f)
+  serve-brief board f = serve-each Brief board t f (brief-refused (omega arith)) (record {
     create = λ _. create-brief (f .slot .0);
     delete = λ _. delete-brief (f .partition .0);
     prepare = λ _. prepare-brief (f .partition .0) (f .slot .0);
@@ -114,7 +115,7 @@ module _ (t : Table) where
     take = λ _. take-brief (f .slot .0);
     cut = λ _. cut-brief (f .slot .0) (f .line .0);
     merge = λ _. merge-brief (f .slot .0) (f .other);
-    load = λ _ _. load-brief (f .partition .0) (f .slot .0) (f .other);
+    load = λ _ _. load-brief board (f .partition .0) (f .slot .0) (f .other);
     unload = λ _ _. unload-brief (f .partition .0) (f .other);
     readRegion = λ _. read-brief (f .partition .0) (f .other);
     find = λ _. find-brief (f .partition .0) (f .line .0);
@@ -122,8 +123,8 @@ module _ (t : Table) where
     clearOut = λ _. clear-brief (f .partition .0);
   })
 
-pub call-brief : (l : List ℕ) (w : ℕ) → Brief (callOn l w)
-call-brief l w = rw (call-as l w) (checked 1 _ (omega arith) (checked 2 _ (omega arith) (serve-brief (view l) (fieldsIn call w))))
+pub call-brief : (board : Board) (l : List ℕ) (w : ℕ) → Brief (callOn board l w)
+call-brief board l w = rw (call-as board l w) (checked 1 _ (omega arith) (checked 2 _ (omega arith) (serve-brief (view l) board (fieldsIn call w))))
 
 pub boot-brief : (l : List ℕ) (base end : ℕ) → Brief (bootOn l base end)
 unfolding bootOn

@@ -15,6 +15,7 @@ use Rattle.words.specs.declared.Partition.{Partition}
 use Rattle.words.specs.declared.call_word.CallFields.{CallFields}
 use Rattle.words.specs.declared.call_word.CallRead.{CallRead}
 use Rattle.words.specs.declared.call_word.CallRead.the-variants.{Fields, Refused as Unread}
+use Rattle.shapes.specs.declared.Board.{Board}
 use Rattle.tables.specs.State.{Table}
 use Rattle.tables.specs.View.{view}
 use Rattle.tables.specs.Laws.Seen.{see-first}
@@ -29,16 +30,16 @@ use Rattle.rules.specs.Laws.Ran.{ran-one, ran-refused, ran-as, pass, fai
 use Rattle.rules.specs.Reads.{onlyReads, standsAfter}
 use Rattle.rules.specs.Calls.{callerOf, Answers}
 
-pub caller-small : (l : List ℕ) → callerOf l < 16
+pub caller-small : (board : Board) (l : List ℕ) → callerOf board l < 16
 unfolding callerOf
-caller-small l = go (sound l)
+caller-small board l = go (sound board l)
   where
     go : (b : Bool) → cond b (view l .k .current) 0 < 16
     go true = let f = see-first l _ refl in omega (arith, f .current, f .current-small)
     go false = omega arith
 
 -- two results are equal: the answer, and every word
-pub answers-one : {before : List ℕ} {w : ℕ} {r s : Answer} {a b : List ℕ} → Answers before w r a → Answers before w s b → (r ≡ s) × (a ≡ b)
+pub answers-one : {board : Board} {before : List ℕ} {w : ℕ} {r s : Answer} {a b : List ℕ} → Answers board before w r a → Answers board before w s b → (r ≡ s) × (a ≡ b)
 answers-one x y =
     let (o, l) = ran-one (x .ran) (y .ran) in
     (same (x .caller ∙ sym (y .caller)) o (x .stands ∙ sym (y .stands)), l)
@@ -72,12 +73,12 @@ known-not f h = rw (no 1 refl, no 2 refl, no 3 refl, no 4 refl, no 5 refl, no 6 
     no : (k : ℕ) → listed k numbers ≡ true → eqb (f .service) k ≡ false
     no k = none-of-at (f .service) k numbers h
 
-module _ (t : Table) (f : CallFields) where
-  pub serve-unknown : known f ≡ false → serve t f ≡ refused 2
+module _ (board : Board) (t : Table) (f : CallFields) where
+  pub serve-unknown : known f ≡ false → serve board t f ≡ refused 2
   unfolding serve
-  serve-unknown h = fail 2 (perform t f) h
+  serve-unknown h = fail 2 (perform board t f) h
 
-  pub serve-known : known f ≡ true → serve t f ≡ perform t f
+  pub serve-known : known f ≡ true → serve board t f ≡ perform board t f
   unfolding serve
   serve-known h = pass 2 h refl
 
@@ -95,28 +96,28 @@ read-small w q = subst SmallCall (sym (same (zeroed call w)) ∙ ap (fieldsElse 
     same false = refl
 
 -- ── a call is a check of the table, a check of the word, and the service ──
-module _ (l : List ℕ) (w : ℕ) where
-  pub call-as : callOn l w ≡ check 1 (sound l) (check 2 (zeroed call w) (serve (view l) (fieldsIn call w)))
+module _ (board : Board) (l : List ℕ) (w : ℕ) where
+  pub call-as : callOn board l w ≡ check 1 (sound board l) (check 2 (zeroed call w) (serve board (view l) (fieldsIn call w)))
   unfolding callOn serveRead check
-  call-as = rw (call-reading w) (go (sound l) (zeroed call w))
+  call-as = rw (call-reading w) (go (sound board l) (zeroed call w))
     where
-      go : (a b : Bool) → cond a (serveRead (view l) (cond b (Fields (fieldsIn call w)) (Unread 2))) (refused 1) ≡ check 1 a (check 2 b (serve (view l) (fieldsIn call w)))
+      go : (a b : Bool) → cond a (serveRead board (view l) (cond b (Fields (fieldsIn call w)) (Unread 2))) (refused 1) ≡ check 1 a (check 2 b (serve board (view l) (fieldsIn call w)))
       go true true = refl
       go true false = refl
       go false b = refl
 
 -- ── the exits ──
-module _ (l : List ℕ) (w : ℕ) where
-  pub answers-unsound : sound l ≡ false → Answers l w (record { caller = record { 0 = 0 }; outcome = Refused 1; stands = true }) l
+module _ (board : Board) (l : List ℕ) (w : ℕ) where
+  pub answers-unsound : sound board l ≡ false → Answers board l w (record { caller = record { 0 = 0 }; outcome = Refused 1; stands = true }) l
   unfolding callerOf callOn standsAfter
   answers-unsound h = record { caller = rw h refl; ran = ran-refused (rw h refl); stands = rw h refl }
 
-  module _ (h : sound l ≡ true) {c : Partition} (q : view l .k .current ≡ c .0) where
-    pub answers-served : {f : CallFields} {r : Outcome} {b : Bool} {m : List ℕ} → reading call w ≡ Fields f → Ran (serve (view l) f) l r m
-        → b ≡ eqb (f .service) 11 || eqb (f .service) 12 → Answers l w (record { caller = c; outcome = r; stands = b }) m
+  module _ (h : sound board l ≡ true) {c : Partition} (q : view l .k .current ≡ c .0) where
+    pub answers-served : {f : CallFields} {r : Outcome} {b : Bool} {m : List ℕ} → reading call w ≡ Fields f → Ran (serve board (view l) f) l r m
+        → b ≡ eqb (f .service) 11 || eqb (f .service) 12 → Answers board l w (record { caller = c; outcome = r; stands = b }) m
     unfolding callerOf callOn serveRead standsAfter onlyReads
     answers-served z ran e = record { caller = rw h (sym q); ran = ran-as (rw (h, z) refl) ran; stands = rw (h, z) e }
 
-    pub answers-unread : {n : ℕ} → reading call w ≡ Unread n → Answers l w (record { caller = c; outcome = Refused n; stands = true }) l
+    pub answers-unread : {n : ℕ} → reading call w ≡ Unread n → Answers board l w (record { caller = c; outcome = Refused n; stands = true }) l
     unfolding callerOf callOn serveRead standsAfter onlyReads
     answers-unread z = record { caller = rw h (sym q); ran = ran-refused (rw (h, z) refl); stands = rw (h, z) refl }

@@ -10,6 +10,7 @@ use Rattle.words.specs.Kind.{reading}
 use Rattle.words.specs.Words.{call}
 use Rattle.words.specs.declared.call_word.CallRead.{CallRead}
 use Rattle.words.specs.declared.call_word.CallRead.the-variants.{Fields, Refused as Unread}
+use Rattle.shapes.specs.declared.Board.{Board}
 use Rattle.tables.specs.State.{Opt, none, some}
 use Rattle.tables.specs.View.{view}
 use Rattle.tables.specs.Encode.{encode}
@@ -49,37 +50,37 @@ module _ {l : List ℕ} (same : encode (settled (view l)) ≡ l) where
   unfolding find wordsAfter
   find-stands p n = checked 3 _ _ (needed 7 _ _ (λ i. same))
 
-  serve-stands : (r : CallRead) → onlyReads r ≡ true → wordsAfter l (serveRead (view l) r) ≡ l
+  serve-stands : (board : Board) (r : CallRead) → onlyReads r ≡ true → wordsAfter l (serveRead board (view l) r) ≡ l
   unfolding serveRead serve onlyReads wordsAfter
-  serve-stands (Fields f) q = checked 2 (known f) (perform (view l) f) (go (or-says _ _ q))
+  serve-stands board (Fields f) q = checked 2 (known f) (perform board (view l) f) (go (or-says _ _ q))
     where
-      go : (eqb (f .service) 11 ≡ true) ⊎ (eqb (f .service) 12 ≡ true) → wordsAfter l (perform (view l) f) ≡ l
-      go (inl z) = rw (perform-at 11 (view l) f (eqb-true _ 11 z)) (read-stands _ _)
-      go (inr z) = rw (perform-at 12 (view l) f (eqb-true _ 12 z)) (find-stands _ _)
-  serve-stands (Unread n) q = refl
+      go : (eqb (f .service) 11 ≡ true) ⊎ (eqb (f .service) 12 ≡ true) → wordsAfter l (perform board (view l) f) ≡ l
+      go (inl z) = rw (perform-at board 11 (view l) f (eqb-true _ 11 z)) (read-stands _ _)
+      go (inr z) = rw (perform-at board 12 (view l) f (eqb-true _ 12 z)) (find-stands _ _)
+  serve-stands board (Unread n) q = refl
 
 -- done or refused, such a call leaves every word as it was
-reads-stand : (l : List ℕ) (w : ℕ) → Words l → standsAfter l w ≡ true → wordsAfter l (callOn l w) ≡ l
+reads-stand : (board : Board) (l : List ℕ) (w : ℕ) → Words l → standsAfter board l w ≡ true → wordsAfter l (callOn board l w) ≡ l
 unfolding standsAfter callOn wordsAfter
-reads-stand l w small = go (sound l) refl
+reads-stand board l w small = go (sound board l) refl
   where
-    same : sound l ≡ true → encode (settled (view l)) ≡ l
+    same : sound board l ≡ true → encode (settled (view l)) ≡ l
     same h =
-        let s = sound-means l .0 h in
+        let s = sound-means board l .0 h in
         let canon = sound-canon small s in
         sym (settled-words (canon-is canon) (right-settled (sound-right canon s)))
 
-    go : (a : Bool) → sound l ≡ a → cond a (onlyReads (reading call w)) true ≡ true → wordsAfter l (cond a (serveRead (view l) (reading call w)) (refused 1)) ≡ l
-    go true h q = serve-stands (same h) (reading call w) q
+    go : (a : Bool) → sound board l ≡ a → cond a (onlyReads (reading call w)) true ≡ true → wordsAfter l (cond a (serveRead board (view l) (reading call w)) (refused 1)) ≡ l
+    go true h q = serve-stands (same h) board (reading call w) q
     go false h q = refl
 
-pub answers-stand : {l : List ℕ} {w : ℕ} {r : Answer} {m : List ℕ} → Words l → Answers l w r m → r .stands ≡ true → m ≡ l
-answers-stand {l} {w} small h q = h .ran .words ∙ reads-stand l w small (sym (h .stands) ∙ q)
+pub answers-stand : {board : Board} {l : List ℕ} {w : ℕ} {r : Answer} {m : List ℕ} → Words l → Answers board l w r m → r .stands ≡ true → m ≡ l
+answers-stand {board} {l} {w} small h q = h .ran .words ∙ reads-stand board l w small (sym (h .stands) ∙ q)
 
 -- ── on a copy: its words are copied back, or they stand ──
-module _ {l a : List ℕ} {w : ℕ} {r : Answer} {m : List ℕ} (copy : a ≡ l) (h : Answers a w r m) where
-  pub answers-copied : {n : List ℕ} → n ≡ m → Answers l w r n
+module _ {board : Board} {l a : List ℕ} {w : ℕ} {r : Answer} {m : List ℕ} (copy : a ≡ l) (h : Answers board a w r m) where
+  pub answers-copied : {n : List ℕ} → n ≡ m → Answers board l w r n
   answers-copied e = rw (← copy, e) h
 
-  pub answers-left : Words l → r .stands ≡ true → Answers l w r l
+  pub answers-left : Words l → r .stands ≡ true → Answers board l w r l
   answers-left small q = answers-copied (sym (answers-stand (subst Words (sym copy) small) h q ∙ copy))

@@ -8,10 +8,12 @@ use lib.Dec.{leb}
 use lib.ListN.{length, drop, replicate}
 use borrow.Author.Tests.{not-true, not-false, leb-true, lt-leb, le-leb}
 use Rattle.loops.specs.Laws.Rewrite.{length-tab}
+use Rattle.shapes.specs.declared.Board.{Board}
 use Rattle.tables.specs.View.{view}
 use Rattle.tables.specs.Laws.Seen.{see-first}
 use Rattle.tables.specs.declared.Outcome.the-variants.{Done}
 use Rattle.sound.specs.Clauses.{sound}
+use Rattle.sound.specs.Laws.Whole.{tested}
 use Rattle.decide.specs.Decide.{Decided}
 use Rattle.runs.specs.declared.Run.{Run}
 use Rattle.runs.specs.declared.listing.Plan.{Plan}
@@ -19,54 +21,54 @@ use Rattle.runs.specs.Laws.Stored.{firsts}
 use Rattle.runs.specs.Runs.{runsOf, runsOutcome, runsRecords, Listed}
 use Rattle.runs.specs.Laws.RunLaws.{runs-few}
 use Rattle.runs.specs.Laws.Bound.{runs-bound}
-use Rattle.runs.specs.Laws.Pieces.{tested, stop-small}
+use Rattle.runs.specs.Laws.Pieces.{stop-small}
 use Rattle.runs.specs.Places.{InOrder}
 use Rattle.runs.specs.Marks.{runAt, markOf, marksOver}
 use Rattle.runs.specs.Laws.Marks.{read-back}
 use Rattle.runs.specs.Listing.{refusal, writing, planOf, marksIn}
 
 -- .. over nothing
-abbrev pub marksOf : List ℕ → List ℕ
-marksOf t = marksIn t (replicate 513 0)
+abbrev pub marksOf : Board → List ℕ → List ℕ
+marksOf board t = marksIn board t (replicate 513 0)
 
 -- ── the exits of the code ──
 -- a table that was found sound: its entries are in order
-module _ {t : List ℕ} {r : Bool} {o c : List ℕ} (d : Decided t r o c) where
-  pub decided-unsound : not r ≡ true → sound t ≡ false
+module _ {board : Board} {t : List ℕ} {r : Bool} {o c : List ℕ} (d : Decided board t r o c) where
+  pub decided-unsound : not r ≡ true → sound board t ≡ false
   decided-unsound q = sym (d .says) ∙ not-true r q
 
-  pub decided-sound : not r ≡ false → sound t ≡ true
+  pub decided-sound : not r ≡ false → sound board t ≡ true
   decided-sound q = sym (d .says) ∙ not-false r q
 
   pub decided-order : not r ≡ false → InOrder (view t .k) o
   decided-order q = record { counts = c; orders = d .orders (not-false r q) }
 
-module _ (t : List ℕ) (size : ℕ) where
-  pub plan-unsound : sound t ≡ false → refusal 1 ≡ planOf t size
+module _ (board : Board) (t : List ℕ) (size : ℕ) where
+  pub plan-unsound : sound board t ≡ false → refusal 1 ≡ planOf board t size
   unfolding planOf
   plan-unsound q = rw q refl
 
-  pub plan-short : {n : ℕ} → sound t ≡ true → n ≡ length (runsOf (view t .k)) → size < n → refusal 17 ≡ planOf t size
+  pub plan-short : {n : ℕ} → sound board t ≡ true → n ≡ length (runsOf (view t .k)) → size < n → refusal 17 ≡ planOf board t size
   unfolding planOf
   plan-short q e h = rw (q, lt-leb (length (runsOf (view t .k))) size (omega arith)) refl
 
-  pub plan-done : {n : ℕ} → sound t ≡ true → n ≡ length (runsOf (view t .k)) → n ≤ size → record { number = n; outcome = Done n 0 } ≡ planOf t size
+  pub plan-done : {n : ℕ} → sound board t ≡ true → n ≡ length (runsOf (view t .k)) → n ≤ size → record { number = n; outcome = Done n 0 } ≡ planOf board t size
   unfolding planOf
   plan-done q e h = rw (q, le-leb (length (runsOf (view t .k))) size (omega arith), e) refl
 
-module _ (t b : List ℕ) where
-  pub marks-unsound : sound t ≡ false → b ≡ marksIn t b
+module _ (board : Board) (t b : List ℕ) where
+  pub marks-unsound : sound board t ≡ false → b ≡ marksIn board t b
   unfolding marksIn
   marks-unsound q = rw q refl
 
-  pub marks-sound : {w : List ℕ} → sound t ≡ true → w ≡ marksOver (view t .k) b → w ≡ marksIn t b
+  pub marks-sound : {w : List ℕ} → sound board t ≡ true → w ≡ marksOver (view t .k) b → w ≡ marksIn board t b
   unfolding marksIn
   marks-sound q e = e ∙ rw q refl
 
 -- as many as there were before
-pub marks-size : (t b : List ℕ) {w : List ℕ} → length b ≡ 513 → w ≡ marksIn t b → length w ≡ 513
+pub marks-size : (board : Board) (t b : List ℕ) {w : List ℕ} → length b ≡ 513 → w ≡ marksIn board t b → length w ≡ 513
 unfolding marksIn
-marks-size t b h e = ap length e ∙ go (sound t)
+marks-size board t b h e = ap length e ∙ go (sound board t)
   where
     go : (x : Bool) → length (cond x (marksOver (view t .k) b) b) ≡ 513
     go true = length-tab 513 (markOf (view t .k) b)
@@ -74,13 +76,13 @@ marks-size t b h e = ap length e ∙ go (sound t)
 
 -- ── what was written ──
 -- no more runs than there are records, and than there are slots
-pub plan-fits : (t : List ℕ) (size : ℕ) → (planOf t size .number ≤ size) × (planOf t size .number ≤ 512)
+pub plan-fits : (board : Board) (t : List ℕ) (size : ℕ) → (planOf board t size .number ≤ size) × (planOf board t size .number ≤ 512)
 unfolding planOf
-plan-fits t size = go (sound t) (leb (length (runsOf (view t .k))) size) refl refl
+plan-fits board t size = go (sound board t) (leb (length (runsOf (view t .k))) size) refl refl
   where
-    go : (a b : Bool) → sound t ≡ a → leb (length (runsOf (view t .k))) size ≡ b
+    go : (a b : Bool) → sound board t ≡ a → leb (length (runsOf (view t .k))) size ≡ b
         → (cond a (cond b (writing (view t .k)) (refusal 17)) (refusal 1) .number ≤ size) × (cond a (cond b (writing (view t .k)) (refusal 17)) (refusal 1) .number ≤ 512)
-    go true true p q = (leb-true (length (runsOf (view t .k))) size q, runs-bound (tested t p))
+    go true true p q = (leb-true (length (runsOf (view t .k))) size q, runs-bound (tested board t p))
     go true false p q = (omega arith, omega arith)
     go false b p q = (omega arith, omega arith)
 
@@ -92,15 +94,15 @@ runs-small t =
     omega (arith, runs-few (view t .k) (view t .k .stop - view t .k .base) (view t .k .base), f .stop, f .end-small)
 
 -- the records after as many runs as planned were written one by one, from the marks
-abbrev pub written : List ℕ → List Run → Plan → List Run
-written t before p = firsts (runAt (marksOf t)) (p .number) ++ drop (p .number) before
+abbrev pub written : Board → List ℕ → List Run → Plan → List Run
+written board t before p = firsts (runAt (marksOf board t)) (p .number) ++ drop (p .number) before
 
-pub listed : (t : List ℕ) (before : List Run) → Listed t before (planOf t (length before) .outcome) (written t before (planOf t (length before)))
+pub listed : (board : Board) (t : List ℕ) (before : List Run) → Listed board t before (planOf board t (length before) .outcome) (written board t before (planOf board t (length before)))
 unfolding planOf marksIn runsOutcome runsRecords
-listed t before = go (sound t) (leb (length (runsOf (view t .k))) (length before)) refl refl
+listed board t before = go (sound board t) (leb (length (runsOf (view t .k))) (length before)) refl refl
   where
-    go : (a b : Bool) → sound t ≡ a → leb (length (runsOf (view t .k))) (length before) ≡ b
-        → Listed t before (planOf t (length before) .outcome) (written t before (planOf t (length before)))
-    go true true p q = record { outcome = rw (p, q) refl; records = rw (p, q) (ap (λ (rs : List Run). rs ++ drop (length (runsOf (view t .k))) before) (read-back (tested t p) (stop-small t) (replicate 513 0))) }
+    go : (a b : Bool) → sound board t ≡ a → leb (length (runsOf (view t .k))) (length before) ≡ b
+        → Listed board t before (planOf board t (length before) .outcome) (written board t before (planOf board t (length before)))
+    go true true p q = record { outcome = rw (p, q) refl; records = rw (p, q) (ap (λ (rs : List Run). rs ++ drop (length (runsOf (view t .k))) before) (read-back (tested board t p) (stop-small t) (replicate 513 0))) }
     go true false p q = record { outcome = rw (p, q) refl; records = rw (p, q) refl }
     go false b p q = record { outcome = rw p refl; records = rw p refl }

@@ -7,15 +7,16 @@ use native.Mathlib.Omega.{arith}
 use lib.ListN.{length, drop, length-append, length-drop, List·getD-append}
 use lib.Seq.{getD-append-add, getD-drop}
 use borrow.Author.Tests.{le-leb, lt-leb}
+use Rattle.shapes.specs.declared.Board.{Board}
 use Rattle.tables.specs.View.{view}
 use Rattle.tables.specs.declared.Outcome.{Outcome}
 use Rattle.tables.specs.declared.Outcome.the-variants.{Done, Refused}
 use Rattle.sound.specs.Clauses.{sound}
+use Rattle.sound.specs.Laws.Whole.{tested}
 use Rattle.runs.specs.declared.Run.{Run}
 use Rattle.runs.specs.Runs.{runOf, runsOf, nth, Longest, over, runsOutcome, runsRecords, Listed}
 use Rattle.runs.specs.Laws.RunLaws.{runs-longest}
 use Rattle.runs.specs.Laws.Bound.{runs-bound}
-use Rattle.runs.specs.Laws.Pieces.{tested}
 
 -- done: the runs are as 01 says and at most 512, their number is answered, the first records are they, and the rest stay
 pub record Told (t : List ℕ) (before : List Run) (r : Outcome) (after : List Run) : Type 0 where
@@ -44,19 +45,19 @@ module _ (rs list : List Run) (b : length rs ≤ length list) where
       let e : length rs + (i - length rs) ≡ i = omega arith in
       rw e at (getD-append-add rs (drop (length rs) list) (i - length rs) (runOf 0 0 0) ∙ getD-drop (length rs) list (i - length rs) (runOf 0 0 0))
 
-module _ {t : List ℕ} {before after : List Run} {r : Outcome} (h : Listed t before r after) where
-  pub short-told : sound t ≡ true → length before < length (runsOf (view t .k)) → Kept 17 before r after
+module _ {board : Board} {t : List ℕ} {before after : List Run} {r : Outcome} (h : Listed board t before r after) where
+  pub short-told : sound board t ≡ true → length before < length (runsOf (view t .k)) → Kept 17 before r after
   unfolding runsOutcome runsRecords
   short-told q b =
       let z = lt-leb (length (runsOf (view t .k))) (length before) b in
       record { answer = h .outcome ∙ rw (q, z) refl; same = h .records ∙ rw (q, z) refl }
 
-  pub done-told : sound t ≡ true → length (runsOf (view t .k)) ≤ length before → Told t before r after
+  pub done-told : sound board t ≡ true → length (runsOf (view t .k)) ≤ length before → Told t before r after
   unfolding runsOutcome runsRecords
   done-told q b =
       let z = le-leb (length (runsOf (view t .k))) (length before) b in
       let e : after ≡ over (runsOf (view t .k)) before = h .records ∙ rw (q, z) refl in
-      let c = tested t q in
+      let c = tested board t q in
       record {
         runs = runs-longest (view t .k) (c .s1);
         few = runs-bound c;

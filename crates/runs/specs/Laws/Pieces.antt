@@ -14,10 +14,7 @@ use Rattle.tables.specs.Laws.Seen.{see-first}
 use Rattle.tables.specs.Lines.{In, Holds}
 use Rattle.tables.specs.Search.{lowest, holdsAt}
 use Rattle.tables.specs.Laws.Search.{lowest-some, lowest-none}
-use Rattle.sound.specs.Clauses.{sound}
 use Rattle.sound.specs.Core.{Core}
-use Rattle.sound.specs.Laws.Core.{sound-core}
-use Rattle.sound.specs.Laws.List.{sound-means}
 use Rattle.sound.specs.Laws.MeansEntries.{holds-means}
 use Rattle.sound.specs.Holders.{receiver, givenBy, heir, deepest}
 use Rattle.sound.specs.Laws.Holders.{deepest-here, deepest-last, deepest-down}
@@ -140,10 +137,6 @@ module _ (k : K) (l : ℕ) where
   piece-within = nearest-le k l 15 0 (k .stop)
 
 -- ── the exits of the code ──
--- a table that passed the test
-pub tested : (t : List ℕ) → sound t ≡ true → Core (view t .k)
-tested t q = sound-core t (sound-means t .0 q)
-
 pub stop-small : (t : List ℕ) → view t .k .stop < 2 ^ 27
 stop-small t = let f = see-first t _ refl in omega (arith, f .stop, f .end-small)
 

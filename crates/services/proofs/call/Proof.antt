@@ -10,7 +10,7 @@ pub call-spec : {M : Type 1} → statement M
 call-spec =
     tie.close
     (tie.spec
-    (λ c. answers-unsound _ _ (wrong-length _ (c .if1 .taken)))
+    (λ c. answers-unsound _ _ _ (wrong-length _ _ (c .if1 .taken)))
     (λ c κs. c .before .before .if1 .left)
     (λ c κs. top-16 _)
     (λ c. search needs)

@@ -10,6 +10,7 @@ use Rattle.loops.specs.Laws.Every.{all-of, all-true}
 use Rattle.words.specs.Kind.{zero-zeroed}
 use Rattle.words.specs.Words.{header, structure, regions, slot}
 use Rattle.words.specs.declared.regions_word.Region.{Region}
+use Rattle.shapes.specs.declared.Board.{Board}
 use Rattle.tables.specs.State.{none, Entry}
 use Rattle.tables.specs.View.{view}
 use Rattle.tables.specs.Spelling.{ZeroWords}
@@ -27,8 +28,8 @@ use Rattle.sound.specs.Laws.Tests.{and-true}
 use Rattle.sound.specs.Laws.MeansWords.{s3-means}
 
 -- in a sound table the header's word alone tells that a partition is absent
-pub header-tells : {l : List ℕ} → Sound l → HeaderTells l
-header-tells {l} s = record { zero = λ p b q. s2-of s p b .absent (no-area l p 0 (λ _ _. q)) }
+pub header-tells : {board : Board} {l : List ℕ} → Sound board l → HeaderTells l
+header-tells {l = l} s = record { zero = λ p b q. s2-of s p b .absent (no-area l p 0 (λ _ _. q)) }
 
 -- ── a zero record ──
 module _ (l : List ℕ) (p : ℕ) (z : zeroRecord l p ≡ true) where
@@ -80,9 +81,9 @@ module _ (l : List ℕ) (p : ℕ) (z : zeroRecord l p ≡ true) where
   unfolding s9 openAt openBit
   absent-s9 = all-of 32 (λ i. Bool·beq (view l .opened p i) (openAt (view l .k) p i)) (λ i h. rw (zero-entry l p z i, not-open l p i (λ _ b. zero-slots l p words i b)) refl)
 
-  pub absent-s10 : s10 (view l) p ≡ true
+  pub absent-s10 : (board : Board) → s10 board (view l) p ≡ true
   unfolding s10 s10Names s10Once when
-  absent-s10 =
+  absent-s10 board =
       and-true _ _
       (all-of 8 (s10Names (view l) p) (λ r h. rw (zero-region l p z r) refl))
       (all-of 8 (λ r. all r (s10Once (view l) p r)) (λ r h. rw (zero-region l p z r) (all-true r)))

@@ -3,6 +3,7 @@ use mathlib.Core.Path.{_≡_}
 use mathlib.Core.List.{List}
 use Prim.Native.Nat.{ℕ, _+_, _-_, _<_}
 use native.Mathlib.Omega.{arith}
+use Rattle.shapes.specs.declared.Board.{Board}
 use Rattle.tables.specs.View.{areaWordAt, view}
 use Rattle.tables.specs.Encode.{structureWord, Canon}
 use Rattle.tables.specs.Fitting.{Words}
@@ -11,7 +12,7 @@ use Rattle.tables.specs.Laws.Canonical.{first-kept, header-kept, structure-kept
 use Rattle.sound.specs.Sound.{Sound, S3}
 use Rattle.sound.specs.Laws.Sound.{s2-of, s3-first-of, s3-of, s4-of, s5-of}
 
-module _ {l : List ℕ} (fits : Words l) (s : Sound l) where
+module _ {board : Board} {l : List ℕ} (fits : Words l) (s : Sound board l) where
   record-kept : (p : ℕ) → p < 16 → SpellsAt l (view l) p
   record-kept p b =
       let z = s3-of s p b in

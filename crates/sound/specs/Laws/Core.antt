@@ -6,6 +6,7 @@ use Prim.Native.Nat.{ℕ, zero, suc, _+_, _/_, _≤_, _<_}
 use native.Mathlib.Decide.{decLt, ℕ-discrete}
 use native.Mathlib.Omega.{arith}
 use Rattle.loops.specs.Climb.{Reaches}
+use Rattle.shapes.specs.declared.Board.{Board}
 use Rattle.tables.specs.State.{Opt, none, some, Entry, Area, nowhere, K}
 use Rattle.tables.specs.Laws.State.{not-none, same-at}
 use Rattle.tables.specs.View.{view}
@@ -18,7 +19,7 @@ use Rattle.sound.specs.Core.{Inside, Backed, Core}
 use Rattle.sound.specs.Laws.Sound.{s1-of, s2-of, s4-of, s5-of, s6-of, s7-of, s8-of, s11-of}
 
 -- ── from a sound table ──
-module _ (l : List ℕ) (h : Sound l) where
+module _ {board : Board} (l : List ℕ) (h : Sound board l) where
   -- the words of an absent partition are zero: it has no area ..
   absent : (p j : ℕ) (a : Area) → view l .k .area p j ≡ some a → Present (view l .k) p
   absent p j a u = go (view l .k .area p 0) refl

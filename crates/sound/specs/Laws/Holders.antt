@@ -6,6 +6,7 @@ use lib.ListN.{length}
 use borrow.Author.Tests.{eq-eqb, ne-eqb, lt-leb, le-leb, le-ltb, lt-ltb}
 use Prim.Native.Nat.{ℕ, zero, suc, _-_, _≤_, _<_}
 use native.Mathlib.Omega.{arith}
+use Rattle.shapes.specs.declared.Board.{Board}
 use Rattle.tables.specs.State.{none, some, K}
 use Rattle.words.specs.declared.slot_word.SlotFields.{SlotFields}
 use Rattle.tables.specs.View.{view, entryIn}
@@ -78,24 +79,24 @@ writes-from t {l} {p} {w} {r} {c} {before} q b u h s =
     }
 
 -- two results are equal: the outcome, and every byte of the list
-pub listed-one : {t : List ℕ} {l : ℕ} {before : List ℕ} {r s : Outcome} {a b : List ℕ} → Listed t l before r a → Listed t l before s b → (r ≡ s) × (a ≡ b)
+pub listed-one : {board : Board} {t : List ℕ} {l : ℕ} {before : List ℕ} {r s : Outcome} {a b : List ℕ} → Listed board t l before r a → Listed board t l before s b → (r ≡ s) × (a ≡ b)
 listed-one x y = (x .outcome ∙ sym (y .outcome), x .bytes ∙ sym (y .bytes))
 
 -- ── the exits of holders ──
-module _ {t : List ℕ} {l : ℕ} {before : List ℕ} where
-  pub listed-unsound : sound t ≡ false → Listed t l before (Refused 1) before
+module _ {board : Board} {t : List ℕ} {l : ℕ} {before : List ℕ} where
+  pub listed-unsound : sound board t ≡ false → Listed board t l before (Refused 1) before
   unfolding holdersOutcome holdersBytes
   listed-unsound q = record { outcome = rw q refl; bytes = rw q refl }
 
-  pub listed-outside : sound t ≡ true → inMemory (view t .k) l ≡ false → Listed t l before (Refused 7) before
+  pub listed-outside : sound board t ≡ true → inMemory (view t .k) l ≡ false → Listed board t l before (Refused 7) before
   unfolding holdersOutcome holdersBytes
   listed-outside q n = record { outcome = rw (q, n) refl; bytes = rw (q, n) refl }
 
-  pub listed-short : sound t ≡ true → inMemory (view t .k) l ≡ true → length before < 16 → Listed t l before (Refused 17) before
+  pub listed-short : sound board t ≡ true → inMemory (view t .k) l ≡ true → length before < 16 → Listed board t l before (Refused 17) before
   unfolding holdersOutcome holdersBytes
   listed-short q n h = record { outcome = rw (q, n, lt-leb 16 (length before) h) refl; bytes = rw (q, n, lt-leb 16 (length before) h) refl }
 
-  pub listed-done : {r : Outcome} {after : List ℕ} → sound t ≡ true → inMemory (view t .k) l ≡ true → 16 ≤ length before → Writes (view t .k) l before r after → Listed t l before r after
+  pub listed-done : {r : Outcome} {after : List ℕ} → sound board t ≡ true → inMemory (view t .k) l ≡ true → 16 ≤ length before → Writes (view t .k) l before r after → Listed board t l before r after
   unfolding holdersOutcome holdersBytes
   listed-done q n h w = record {
     outcome = rw (q, n, le-leb 16 (length before) h) (w .outcome);
@@ -103,11 +104,11 @@ module _ {t : List ℕ} {l : ℕ} {before : List ℕ} where
   }
 
 -- another length is not sound
-pub wrong-length : (t : List ℕ) → (length t ≡ 641 → ⊥) → sound t ≡ false
-wrong-length t h = go (sound t) refl
+pub wrong-length : (board : Board) (t : List ℕ) → (length t ≡ 641 → ⊥) → sound board t ≡ false
+wrong-length board t h = go (sound board t) refl
   where
-    go : (b : Bool) → sound t ≡ b → b ≡ false
-    go true q = absurd (h (sound-means t .0 q .size))
+    go : (b : Bool) → sound board t ≡ b → b ≡ false
+    go true q = absurd (h (sound-means board t .0 q .size))
     go false q = refl
 
 -- a line below base, a line from end on, a line between
@@ -125,5 +126,5 @@ module _ (k : K) (l : ℕ) where
   in-memory h g = rw (le-leb (k .base) l h, lt-ltb l (k .stop) g) refl
 
 -- .. of the copy that was made of the words
-pub listed-copy : {m t : List ℕ} {l : ℕ} {before : List ℕ} {r : Outcome} {after : List ℕ} → m ≡ t → Listed m l before r after → Listed t l before r after
-listed-copy {l = l} {before} {r} {after} e h = subst (λ (x : List ℕ). Listed x l before r after) e h
+pub listed-copy : {board : Board} {m t : List ℕ} {l : ℕ} {before : List ℕ} {r : Outcome} {after : List ℕ} → m ≡ t → Listed board m l before r after → Listed board t l before r after
+listed-copy {board} {l = l} {before} {r} {after} e h = subst (λ (x : List ℕ). Listed board x l before r after) e h

@@ -1,7 +1,7 @@
 -- How many slot words the listing of holders looks at. The descent adds up the searches on its way down, the deepest holder's among them: in a sound
 -- table that is the sum over the holders, since who was given the line is one further down the way. No sum is above 512.
 use mathlib.Core.Path.{_≡_, refl, ap, sym, subst, _∙_}
-use mathlib.Core.Bool.{true, cond}
+use mathlib.Core.Bool.{cond}
 use mathlib.Core.List.{List, [], _∷_, _++_}
 use Prim.Native.Nat.{ℕ, zero, suc, _+_, _*_, _-_, _≤_, _<_}
 use native.Mathlib.Decide.{ℕ-discrete}
@@ -11,13 +11,9 @@ use lib.ListN.{length}
 use borrow.Author.Tests.{eq-eqb, ne-eqb}
 use Rattle.loops.specs.Laws.Climb.{Steps, no-step, one-step, climb-root, climb-suc, climb-enough, steps→reaches}
 use Rattle.tables.specs.State.{Opt, none, some, Entry, K}
-use Rattle.tables.specs.View.{view}
 use Rattle.tables.specs.Search.{lowest, holdsAt, lookedAt, lookFor}
 use Rattle.tables.specs.Laws.Search.{lowest-some}
 use Rattle.sound.specs.Core.{Core}
-use Rattle.sound.specs.Clauses.{sound}
-use Rattle.sound.specs.Laws.Core.{sound-core}
-use Rattle.sound.specs.Laws.List.{sound-means}
 use Rattle.sound.specs.Holders.{receiver, givenBy, heir, deepest, trail, holdersOf, sumOver, looksOf}
 use Rattle.sound.specs.Laws.Holders.{holders-few, deepest-down}
 
@@ -152,12 +148,9 @@ module _ {k : K} {l p left count s : ℕ} (d : Descending k l p left count) (loo
       }
 
 -- at its end it has added up the sum over the holders
-module _ (t : List ℕ) {l p left count s : ℕ} (q : sound t ≡ true) (d : Descending (view t .k) l p left count) (looks : s ≡ lookFor (view t .k) l p .count) where
-  sum-is : looksFrom (view t .k) l 0 15 ≡ looksOf (view t .k) l
-  sum-is = looks-sum (sound-core t (sound-means t .0 q)) l
+module _ {k : K} {l p left count s : ℕ} (h : Core k) (d : Descending k l p left count) (looks : s ≡ lookFor k l p .count) where
+  pub descent-here : heir k l p ≡ 0 → count + s ≡ looksOf k l
+  descent-here n = omega (arith, looks, looks-here k l p left n, d .adds, looks-sum h l)
 
-  pub descent-here : heir (view t .k) l p ≡ 0 → count + s ≡ looksOf (view t .k) l
-  descent-here h = omega (arith, looks, looks-here (view t .k) l p left h, d .adds, sum-is)
-
-  pub descent-last : left ≡ 0 → count + s ≡ looksOf (view t .k) l
-  descent-last z = omega (arith, looks, looks-last (view t .k) l p left z, d .adds, sum-is)
+  pub descent-last : left ≡ 0 → count + s ≡ looksOf k l
+  descent-last z = omega (arith, looks, looks-last k l p left z, d .adds, looks-sum h l)

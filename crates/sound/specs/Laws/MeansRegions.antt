@@ -11,6 +11,7 @@ use borrow.Author.Tests.{eqb-true, eq-eqb, ne-eqb}
 use Rattle.loops.specs.Every.{all}
 use Rattle.loops.specs.Laws.Every.{all-at, all-of, bool-ext}
 use Rattle.words.specs.declared.Rights.{Rights}
+use Rattle.shapes.specs.declared.Board.{Board}
 use Rattle.tables.specs.State.{Opt, none, some, Entry, K, allRights}
 use Rattle.tables.specs.Laws.State.{not-none, same-at}
 use Rattle.tables.specs.View.{view}
@@ -96,11 +97,11 @@ module _ (l : List ℕ) (p : ℕ) where
       to h r q i u v (no z) (yes b) = absurd (below h r q i b u v)
       to h r q i u v (no z) (no b) = absurd (below h q r i (omega arith) v u)
 
-pub s10-means : (l : List ℕ) (p : ℕ) → p < 16 → (s10 (view l) p ≡ true) ↔ S10 (view l) p
+pub s10-means : (board : Board) (l : List ℕ) (p : ℕ) → p < 16 → (s10 board (view l) p ≡ true) ↔ S10 board (view l) p
 unfolding s10
-s10-means l p hp = (
-  λ q. let (a, b) = and-says _ _ q in record { names = names-means l p .0 a; once = once-means l p .0 b },
-  λ h. and-true _ _ (names-means l p .1 (h .names)) (once-means l p .1 (h .once)),
+s10-means board l p hp = (
+  λ q. let (a, b) = and-says _ _ q in record { loaded = record { names = names-means l p .0 a; once = once-means l p .0 b } },
+  λ h. and-true _ _ (names-means l p .1 (h .loaded .names)) (once-means l p .1 (h .loaded .once)),
 )
 
 -- ── S11 ──

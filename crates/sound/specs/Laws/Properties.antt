@@ -5,13 +5,13 @@ use Prim.Native.Nat.{ℕ, _≤_, _<_}
 use native.Mathlib.Decide.{ℕ-discrete}
 use native.Mathlib.Omega.{arith}
 use Rattle.loops.specs.Climb.{Reaches, at-root, by-step}
+use Rattle.shapes.specs.declared.Board.{Board}
 use Rattle.tables.specs.State.{some, Entry, K, Table}
 use Rattle.tables.specs.Laws.State.{same-at}
 use Rattle.tables.specs.View.{view}
-use Rattle.tables.specs.Laws.View.{slot-bounds, region-bounds}
 use Rattle.tables.specs.Lines.{In, Holds}
-use Rattle.sound.specs.Sound.{Present, Sound}
-use Rattle.sound.specs.Laws.Sound.{s9-of, s10-of}
+use Rattle.sound.specs.Sound.{Present, S9, Loaded, Sound}
+use Rattle.sound.specs.Laws.Sound.{s9-all, loaded-all}
 use Rattle.sound.specs.Core.{Core}
 use Rattle.sound.specs.Laws.Core.{sound-core, core-sound}
 use Rattle.sound.specs.Properties.{Accessible, Isolated, EqualRights, Above, itself, higher}
@@ -69,16 +69,13 @@ core-rights h = record {
 }
 
 -- ── every sound table is isolated ──
-pub sound-isolated : (l : List ℕ) → Sound l → Isolated (view l)
-sound-isolated l h =
-    let c = sound-core l h in
-    record {
-      vertical = λ p d n s u. rw (s .parent) at (parent-holds c (s .other) u);
-      horizontal = λ p d f n s t m u v. m (siblings-one c (s .other) (t .other) (s .parent ∙ sym (t .parent)) u v);
-      kernel = λ p q n u v.
-          let o = u .entry in
-          s9-of h p (slot-bounds l p (u .i) (u .e) (o .at) .0) (u .i) (u .e) (o .at) .0 (o .opened) q (v .j) (v .a) n (v .at) (v .holds) (u .holds);
-      regions = λ p r i u.
-          let ((e, a), o) = s10-of h p (region-bounds l p r i u .0) .names r i u in
-          (e, record { at = a; opened = o });
-    }
+pub isolated : {t : Table} → Core (t .k) → ((p : ℕ) → S9 t p) → ((p : ℕ) → Loaded t p) → Isolated t
+isolated c s9 loaded = record {
+  vertical = λ p d n s u. rw (s .parent) at (parent-holds c (s .other) u);
+  horizontal = λ p d f n s t m u v. m (siblings-one c (s .other) (t .other) (s .parent ∙ sym (t .parent)) u v);
+  kernel = λ p q n u v. let o = u .entry in s9 p (u .i) (u .e) (o .at) .0 (o .opened) q (v .j) (v .a) n (v .at) (v .holds) (u .holds);
+  regions = λ p r i u. let ((e, a), o) = loaded p .names r i u in (e, record { at = a; opened = o });
+}
+
+pub sound-isolated : {board : Board} (l : List ℕ) → Sound board l → Isolated (view l)
+sound-isolated l h = isolated (sound-core l h) (s9-all h) (loaded-all h)

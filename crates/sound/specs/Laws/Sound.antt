@@ -5,10 +5,12 @@ use Prim.Native.Nat.{ℕ, _<_}
 use native.Mathlib.Omega.{arith}
 use Rattle.words.specs.Kind.{Zeroed}
 use Rattle.words.specs.Words.{first}
+use Rattle.shapes.specs.declared.Board.{Board}
 use Rattle.tables.specs.View.{firstWord, view}
-use Rattle.sound.specs.Sound.{S1, S2, S3, S4, S5, S6, S7, S8, S9, S10, S11, Sound}
+use Rattle.tables.specs.Laws.View.{slot-bounds, region-bounds}
+use Rattle.sound.specs.Sound.{S1, S2, S3, S4, S5, S6, S7, S8, S9, Loaded, S10, S11, Sound}
 
-module _ {l : List ℕ} (h : Sound l) where
+module _ {board : Board} {l : List ℕ} (h : Sound board l) where
   pub s1-of : S1 (view l .k)
   s1-of = h .clauses 1 (omega arith) (omega arith) 0 (omega arith) refl
 
@@ -39,8 +41,18 @@ module _ {l : List ℕ} (h : Sound l) where
   pub s9-of : (p : ℕ) → p < 16 → S9 (view l) p
   s9-of = h .clauses 9 (omega arith) (omega arith)
 
-  pub s10-of : (p : ℕ) → p < 16 → S10 (view l) p
+  pub s10-of : (p : ℕ) → p < 16 → S10 board (view l) p
   s10-of = h .clauses 10 (omega arith) (omega arith)
 
   pub s11-of : (p : ℕ) → p < 16 → S11 (view l .k) p
   s11-of = h .clauses 11 (omega arith) (omega arith)
+
+  -- S9 and the regions at any number: past the last partition there is nothing
+  pub s9-all : (p : ℕ) → S9 (view l) p
+  s9-all p i e u = s9-of p (slot-bounds l p i e u .0) i e u
+
+  pub loaded-all : (p : ℕ) → Loaded (view l) p
+  loaded-all p = record {
+    names = λ r i u. s10-of p (region-bounds l p r i u .0) .loaded .names r i u;
+    once = λ r q i u. s10-of p (region-bounds l p r i u .0) .loaded .once r q i u;
+  }

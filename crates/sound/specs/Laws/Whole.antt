@@ -1,36 +1,47 @@
 -- The table of a sound table's words is right; and canonical words of a right table are sound.
 use mathlib.Core.Path.{_≡_}
+use mathlib.Core.Bool.{true}
 use mathlib.Core.List.{List}
 use Prim.Native.Nat.{ℕ, _+_, _/_, _<_}
 use native.Mathlib.Omega.{arith}
+use Rattle.shapes.specs.declared.Board.{Board}
 use Rattle.tables.specs.State.{none, Table}
 use Rattle.tables.specs.Laws.State.{none-of, not-none}
 use Rattle.tables.specs.View.{view}
-use Rattle.tables.specs.Laws.View.{slot-bounds, region-bounds}
+use Rattle.tables.specs.Laws.View.{region-bounds}
 use Rattle.tables.specs.Encode.{Canon}
 use Rattle.tables.specs.Laws.Encode.{canon-length}
 use Rattle.tables.specs.Laws.FitView.{zero-slot, zero-structure, fit-view}
 use Rattle.tables.specs.Laws.Canonical.{first-clean, Nothing, absent-zero}
 use Rattle.sound.specs.Sound.{Clause, Sound}
-use Rattle.sound.specs.Laws.Sound.{s9-of, s10-of}
-use Rattle.sound.specs.Laws.List.{each-clause}
+use Rattle.sound.specs.Clauses.{sound}
+use Rattle.sound.specs.Core.{Core}
+use Rattle.sound.specs.Laws.Sound.{s9-all, loaded-all}
+use Rattle.sound.specs.Laws.List.{each-clause, sound-means}
 use Rattle.sound.specs.Laws.Canonical.{canon-s3}
 use Rattle.sound.specs.Laws.Core.{core-sound, sound-core}
+use Rattle.sound.specs.Properties.{Isolated}
+use Rattle.sound.specs.Laws.Properties.{isolated}
 use Rattle.sound.specs.Whole.{Right}
 
 -- a sound table is right ..
-pub sound-right : {l : List ℕ} → Canon l → Sound l → Right (view l)
-sound-right {l} c h = record {
+pub sound-right : {board : Board} {l : List ℕ} → Canon l → Sound board l → Right (view l)
+sound-right {l = l} c h = record {
   core = sound-core l h;
   stop = fit-view c .stop;
   closed = fit-view c .closed;
   eight = λ p r i u. region-bounds l p r i u .1;
-  s9 = λ p i e u. s9-of h p (slot-bounds l p i e u .0) i e u;
-  s10 = λ p. record {
-    names = λ r i u. s10-of h p (region-bounds l p r i u .0) .names r i u;
-    once = λ r q i u. s10-of h p (region-bounds l p r i u .0) .once r q i u;
-  };
+  s9 = s9-all h;
+  s10 = loaded-all h;
 }
+
+-- a right table is isolated
+pub right-isolated : {t : Table} → Right t → Isolated t
+right-isolated h = isolated (h .core) (h .s9) (h .s10)
+
+-- a table that passed the test
+pub tested : (board : Board) (t : List ℕ) → sound board t ≡ true → Core (view t .k)
+tested board t q = sound-core t (sound-means board t .0 q)
 
 -- an absent partition has nothing
 nothing : {t : Table} → Right t → (p : ℕ) → t .k .area p 0 ≡ none → Nothing t p
@@ -44,13 +55,13 @@ nothing {t} h p z =
     }
 
 -- .. and canonical words whose table is right are sound
-pub right-sound : {l : List ℕ} → Canon l → Right (view l) → Sound l
-right-sound {l} c h =
+pub right-sound : (board : Board) {l : List ℕ} → Canon l → Right (view l) → Sound board l
+right-sound board {l} c h =
     let g = core-sound (h .core) in
     record {
       size = canon-length c;
       clauses =
-          each-clause (λ n. (p : ℕ) → p < 16 → Clause l n p)
+          each-clause (λ n. (p : ℕ) → p < 16 → Clause board l n p)
           (λ p b z. g .s1)
           (λ p b. record { absent = λ u. absent-zero c p b (nothing h p u); root = g .s2-root p; parent = g .s2-parent p; area = g .s2-area p; walk = g .s2-walk p })
           (λ p b. (λ z. first-clean c, canon-s3 c p b))
@@ -60,6 +71,6 @@ right-sound {l} c h =
           (λ p b. g .s7 p)
           (λ p b. g .s8 p)
           (λ p b. h .s9 p)
-          (λ p b. h .s10 p)
+          (λ p b. record { loaded = h .s10 p })
           (λ p b. g .s11 p);
     }

@@ -1,6 +1,7 @@
 use mathlib.Core.Path.{ap}
 use Prim.Native.Nat.{ℕ, _-_, _≤_}
 use lib.ListN.{replicate, length-replicate}
+use Rattle.shapes.specs.declared.Board.the-variants.{V7}
 use Rattle.tables.specs.Laws.Top.{top-16}
 use Rattle.runs.specs.declared.listing.Plan.{Plan}
 use Rattle.runs.specs.Laws.Listing.{plan-fits, marks-size}
@@ -22,8 +23,8 @@ print-runs-spec =
     Inv-loop
     μ-loop
     (λ c κs. (top-16 _, length-replicate {A = ℕ} 513 0))
-    (λ c. (omega arith, omega (arith, ap (λ (p : Plan). p .number) (c .plan-of .ensures .0), plan-fits (c .before .before .args .t .now) 512 .1)))
-    (λ c κs. (marks-size (c .before .before .before .before .before .args .t .now) (replicate 513 0) (length-replicate {A = ℕ} 513 0) (c .before .before .before .plan-of .ensures .1), omega arith))
+    (λ c. (omega arith, omega (arith, ap (λ (p : Plan). p .number) (c .plan-of .ensures .0), plan-fits V7 (c .before .before .args .t .now) 512 .1)))
+    (λ c κs. (marks-size V7 (c .before .before .before .before .before .args .t .now) (replicate 513 0) (length-replicate {A = ℕ} 513 0) (c .before .before .before .plan-of .ensures .1), omega arith))
     (λ c κs. search needs)
     (λ c. search needs)
     (λ c. search needs)

@@ -7,6 +7,7 @@ use native.Mathlib.Decide.{ℕ-discrete}
 use native.Mathlib.Omega.{arith}
 use Rattle.loops.specs.Climb.{Reaches, at-root, by-step}
 use Rattle.words.specs.declared.call_word.CallFields.{CallFields}
+use Rattle.shapes.specs.declared.Board.{Board}
 use Rattle.tables.specs.State.{Opt, none, some, Entry, Area, nowhere, K, Table}
 use Rattle.tables.specs.Laws.State.{not-none}
 use Rattle.tables.specs.Update.{upd, upd1}
@@ -184,13 +185,13 @@ module _ {b : ℕ} {t : Table} (h : Right t) (home : Present (t .k) b) (inside :
       let s = settled-step {new = k} {region = t .region} (record { alike = λ q o. same; stays = home; tree = λ q v. inl (v, refl) }) (λ p r o. refl) in
       rw (z ∙ sym (settled-same h)) s
 
-  pub serve-step : (f : CallFields) {v w : ℕ} {new : Table} → serve t f ≡ done v w new → Step b t new
-  serve-step f z =
+  pub serve-step : (board : Board) (f : CallFields) {v w : ℕ} {new : Table} → serve board t f ≡ done v w new → Step b t new
+  serve-step board f z =
       let p = f .partition .0 in
       let i = f .slot .0 in
       let u = f .other in
       let l = f .line .0 in
-      done-each t f z (record {
+      done-each board t f z (record {
         create = λ _ x. let (e, ok, q) = create-done h i x in rw q (settled-step (create-frame e (ok .area .absent)) (λ p r o. refl));
         delete = λ _ x. let (ok, q) = delete-done h p x in rw q (remove-step ok);
         prepare = λ _ x. let (e, ok, q) = prepare-done h p i x in rw q (settled-step (area-frame _ _ (own-in (ok .who))) (λ p r o. refl));
@@ -199,7 +200,7 @@ module _ {b : ℕ} {t : Table} (h : Right t) (home : Present (t .k) b) (inside :
         take = λ _ x. let (j, e, g, ok, q) = take-done h i x in rw q (settled-step (two-frame _ _ _ _ (child-in (given-child (h .core) (k .current) i e (ok .at) (ok .given)))) (λ p r o. refl));
         cut = λ _ x. let (e, ok, q) = cut-done h i l x in rw q (settled-step (two-frame _ _ _ _ inside) (λ p r o. refl));
         merge = λ _ x. let (e, g, ok, q) = merge-done h i u x in rw q (settled-step (two-frame _ _ _ _ inside) (λ p r o. refl));
-        load = λ _ _ x. let (e, ok, q) = load-done h p i u x in rw q (region-step _ _ (ok .who));
+        load = λ _ _ x. let (e, ok, q) = load-done board h p i u x in rw q (region-step _ _ (ok .who));
         unload = λ _ _ x. let (c, _, q) = unload-done h p u x in rw q (region-step _ _ c);
         readRegion = λ _ x. same-step (readRegion-same h p u x);
         find = λ _ x. same-step (find-same h p l x);

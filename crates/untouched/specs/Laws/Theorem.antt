@@ -9,6 +9,7 @@ use native.Mathlib.Omega.{arith}
 use Rattle.loops.specs.Climb.{Reaches, at-root, by-step}
 use Rattle.words.specs.Kind.{fieldsIn}
 use Rattle.words.specs.Words.{call}
+use Rattle.shapes.specs.declared.Board.{Board}
 use Rattle.tables.specs.State.{Opt, none, some, Entry, K, Table}
 use Rattle.tables.specs.View.{recordWord, view}
 use Rattle.tables.specs.Encode.{slotWord, partWord, Canon}
@@ -108,33 +109,33 @@ module _ {b : ℕ} where
       no : (p : ℕ) → Outside (t .k) b p → ⊥
       no p o = o .out (rw z (none-outside (h .core .s2-climb p (o .present))))
 
-  call-left : {l : List ℕ} → Good l → (w : ℕ) → Under (view l .k .parent) b (view l .k .current) → Left b (view l) (view (wordsAfter l (callOn l w)))
+  call-left : {board : Board} {l : List ℕ} → Good board l → (w : ℕ) → Under (view l .k .parent) b (view l .k .current) → Left b (view l) (view (wordsAfter l (callOn board l w)))
   unfolding wordsAfter
-  call-left {l} g w u = one (callOn l w) refl (ℕ-discrete b 0)
+  call-left {board} {l} g w u = one (callOn board l w) refl (ℕ-discrete b 0)
     where
       right : Right (view l)
       right = sound-right (sound-canon (g .small) (g .sound)) (g .sound)
 
-      one : (r : Result) → callOn l w ≡ r → Dec (b ≡ 0) → Left b (view l) (view (wordsAfter l r))
+      one : (r : Result) → callOn board l w ≡ r → Dec (b ≡ 0) → Left b (view l) (view (wordsAfter l r))
       one (refused n) z d = left-same
       one (done v x new) z (yes e) = root-left right e
       one (done v x new) z (no e) =
-          let q = call-right l w (g .small) z in
+          let q = call-right board l w (g .small) z in
           let home = up-present (right .core) (right .core .s1-current) u in
-          rw (view-encode new (right-fit q)) (step-left right q e home (serve-step right home u (fieldsIn call w) (served l w (g .small) z .2)))
+          rw (view-encode new (right-fit q)) (step-left right q e home (serve-step right home u board (fieldsIn call w) (served board l w (g .small) z .2)))
 
   -- THE THEOREM, of the tables
-  pub after-left : {l : List ℕ} → Good l → (ws : List ℕ) → Within b l ws → Left b (view l) (view (afterAll l ws))
+  pub after-left : {board : Board} {l : List ℕ} → Good board l → (ws : List ℕ) → Within board b l ws → Left b (view l) (view (afterAll board l ws))
   unfolding Within afterAll wordsAfter
   after-left g [] h = left-same
-  after-left {l} g (w ∷ ws) (u, h) = left-on (call-left g w u) (after-left (next (callOn l w) refl) ws h)
+  after-left {board} {l} g (w ∷ ws) (u, h) = left-on (call-left g w u) (after-left (next (callOn board l w) refl) ws h)
     where
-      next : (r : Result) → callOn l w ≡ r → Good (wordsAfter l r)
-      next (done v x new) z = right-good (call-right l w (g .small) z)
+      next : (r : Result) → callOn board l w ≡ r → Good board (wordsAfter l r)
+      next (done v x new) z = right-good board (call-right board l w (g .small) z)
       next (refused n) z = g
 
 -- ── of the words ──
-module _ {l : List ℕ} (g : Good l) where
+module _ {board : Board} {l : List ℕ} (g : Good board l) where
   canon : Canon l
   canon = sound-canon (g .small) (g .sound)
 
@@ -148,18 +149,18 @@ module _ {l : List ℕ} (g : Good l) where
 same-words : {t new : Table} (p o : ℕ) → Same t new p → partWord new p o ≡ partWord t p o
 same-words {t} {new} p o s = part-ext t new p o (s .alike .parent) (s .alike .area) (λ x r. s .region r x) (s .alike .slot) (s .opened)
 
-module _ (l ws : List ℕ) (b : ℕ) (g : Good l) (calls : Within b l ws) where
-  good-after : Good (afterAll l ws)
+module _ {board : Board} (l ws : List ℕ) (b : ℕ) (g : Good board l) (calls : Within board b l ws) where
+  good-after : Good board (afterAll board l ws)
   good-after = after-good g ws
 
-  left : Left b (view l) (view (afterAll l ws))
+  left : Left b (view l) (view (afterAll board l ws))
   left = after-left g ws calls
 
   -- the whole record of who is beside the branch, of the table
-  pub beside-same : (p : ℕ) → Beside (view l .k) b p → Same (view l) (view (afterAll l ws)) p
+  pub beside-same : (p : ℕ) → Beside (view l .k) b p → Same (view l) (view (afterAll board l ws)) p
   beside-same p q = left .beside p q .1
 
-  higher-alike : (p : ℕ) → Higher (view l .k) b p → Alike (view l .k) (view (afterAll l ws) .k) p
+  higher-alike : (p : ℕ) → Higher (view l .k) b p → Alike (view l .k) (view (afterAll board l ws) .k) p
   unfolding Within afterAll
   higher-alike p q = go ws calls left
     where
@@ -170,30 +171,30 @@ module _ (l ws : List ℕ) (b : ℕ) (g : Good l) (calls : Within b l ws) where
       outside u (yes z) = absurd (q .other (top-only (right .core .s2-root .2) z (q .above) ∙ sym z))
       outside u (no n) = above-outside (right .core) n (up-present (right .core) (right .core .s1-current) u) (q .above) (q .other)
 
-      go : (ws : List ℕ) → Within b l ws → Left b (view l) (view (afterAll l ws)) → Alike (view l .k) (view (afterAll l ws) .k) p
+      go : (ws : List ℕ) → Within board b l ws → Left b (view l) (view (afterAll board l ws)) → Alike (view l .k) (view (afterAll board l ws) .k) p
       go [] _ _ = record { parent = refl; area = λ j. refl; slot = λ i. refl }
       go (w ∷ ws) (u, _) f = f .outside p (outside u (ℕ-discrete b 0)) .1
 
   -- a word of who is above k, below the slots and not that of the regions
-  low : (p o : ℕ) → p < 16 → o < 8 → (o ≡ 5 → ⊥) → Higher (view l .k) b p → {v w : ℕ} → recordWord (afterAll l ws) p o ≡ v → recordWord l p o ≡ w → v ≡ w
+  low : (p o : ℕ) → p < 16 → o < 8 → (o ≡ 5 → ⊥) → Higher (view l .k) b p → {v w : ℕ} → recordWord (afterAll board l ws) p o ≡ v → recordWord l p o ≡ w → v ≡ w
   low p o hp ho n q x y =
       sym x
       ∙ word-of good-after p o hp (omega arith)
-      ∙ part-low (view l) (view (afterAll l ws)) p o (higher-alike p q .parent) (higher-alike p q .area) ho n
+      ∙ part-low (view l) (view (afterAll board l ws)) p o (higher-alike p q .parent) (higher-alike p q .area) ho n
       ∙ sym (word-of g p o hp (omega arith))
       ∙ y
 
   -- THE THEOREM, of the words
-  pub untouched : Untouched b l (afterAll l ws)
+  pub untouched : Untouched b l (afterAll board l ws)
   untouched = record {
     beside = λ p o hp ho q. word-of good-after p o hp ho ∙ same-words p o (beside-same p q) ∙ sym (word-of g p o hp ho);
-    higher-areas = λ p j hp hj q. low p j hp (omega arith) (λ z. omega arith) q (area-word (afterAll l ws) p j) (area-word l p j);
-    higher-blanks = λ p o hp ho q. low p (6 + o) hp (omega arith) (λ z. omega arith) q (blank-word (afterAll l ws) p o) (blank-word l p o);
+    higher-areas = λ p j hp hj q. low p j hp (omega arith) (λ z. omega arith) q (area-word (afterAll board l ws) p j) (area-word l p j);
+    higher-blanks = λ p o hp ho q. low p (6 + o) hp (omega arith) (λ z. omega arith) q (blank-word (afterAll board l ws) p o) (blank-word l p o);
     higher-slots = λ p i hp hi q. record {
       entry = view l .k .slot p i;
       was = view l .opened p i;
-      is = view (afterAll l ws) .opened p i;
+      is = view (afterAll board l ws) .opened p i;
       before-is = sym (slot-word l p i) ∙ slot-of g p i hp hi;
-      after-is = sym (slot-word (afterAll l ws) p i) ∙ slot-of good-after p i hp hi ∙ ap (λ (x : Opt Entry). slotWord x (view (afterAll l ws) .opened p i)) (higher-alike p q .slot i);
+      after-is = sym (slot-word (afterAll board l ws) p i) ∙ slot-of good-after p i hp hi ∙ ap (λ (x : Opt Entry). slotWord x (view (afterAll board l ws) .opened p i)) (higher-alike p q .slot i);
     };
   }

@@ -9,6 +9,7 @@ use borrow.Author.Tests.{eq-eqb}
 use Rattle.words.specs.Kind.{fieldsIn, zeroed}
 use Rattle.words.specs.Words.{call}
 use Rattle.words.specs.declared.call_word.CallFields.{CallFields}
+use Rattle.shapes.specs.declared.Board.{Board}
 use Rattle.tables.specs.State.{Opt, none, some, Entry, K, Table}
 use Rattle.tables.specs.View.{view}
 use Rattle.tables.specs.Encode.{slotWord}
@@ -114,33 +115,33 @@ module _ {t u : Table} {p : ℕ} (s : Sees t u p) where
   read-alike r = rw (own (t .k), own (u .k)) (check-alike 3 true _ _ (check-alike 16 (ltb r 8) _ _ (ap (Done 0) (region-same r))))
 
   -- a call word of service 11 or 12 whose P is p
-  serve-alike : (f : CallFields) → Reads f → f .partition .0 ≡ p → outcomeOf (serve (putCurrent t p) f) ≡ outcomeOf (serve (putCurrent u p) f)
+  serve-alike : (board : Board) (f : CallFields) → Reads f → f .partition .0 ≡ p → outcomeOf (serve board (putCurrent t p) f) ≡ outcomeOf (serve board (putCurrent u p) f)
   unfolding serve
-  serve-alike f e z = check-alike 2 (known f) _ _ (go e)
+  serve-alike board f e z = check-alike 2 (known f) _ _ (go e)
     where
-      go : Reads f → outcomeOf (perform (putCurrent t p) f) ≡ outcomeOf (perform (putCurrent u p) f)
-      go (inl e) = rw (perform-at 11 (putCurrent t p) f e, perform-at 11 (putCurrent u p) f e, z) (read-alike (f .other))
-      go (inr e) = rw (perform-at 12 (putCurrent t p) f e, perform-at 12 (putCurrent u p) f e, z) (find-alike (f .line .0))
+      go : Reads f → outcomeOf (perform board (putCurrent t p) f) ≡ outcomeOf (perform board (putCurrent u p) f)
+      go (inl e) = rw (perform-at board 11 (putCurrent t p) f e, perform-at board 11 (putCurrent u p) f e, z) (read-alike (f .other))
+      go (inr e) = rw (perform-at board 12 (putCurrent t p) f e, perform-at board 12 (putCurrent u p) f e, z) (find-alike (f .line .0))
 
 -- so are the words of a table in which p is made current, and p is their caller
-module _ {l : List ℕ} (p : ℕ) (g : Good l) (v : Present (view l .k) p) where
+module _ {board : Board} {l : List ℕ} (p : ℕ) (g : Good board l) (v : Present (view l .k) p) where
   pub turned : Right (putCurrent (view l) p)
   turned = turned-right (sound-right (sound-canon (g .small) (g .sound)) (g .sound)) v
 
-  pub turned-caller : callerOf (turnedTo p l) ≡ p
+  pub turned-caller : callerOf board (turnedTo p l) ≡ p
   unfolding callerOf
-  turned-caller = rw (sound-means (turnedTo p l) .1 (right-good turned .sound), view-encode (putCurrent (view l) p) (right-fit turned)) refl
+  turned-caller = rw (sound-means board (turnedTo p l) .1 (right-good board turned .sound), view-encode (putCurrent (view l) p) (right-fit turned)) refl
 
 -- a call on words with p current is its service on that table
-turned-serves : {l : List ℕ} (p : ℕ) → Good l → Present (view l .k) p → (w : ℕ)
-    → callOn (turnedTo p l) w ≡ check 2 (zeroed call w) (serve (putCurrent (view l) p) (fieldsIn call w))
+turned-serves : {board : Board} {l : List ℕ} (p : ℕ) → Good board l → Present (view l .k) p → (w : ℕ)
+    → callOn board (turnedTo p l) w ≡ check 2 (zeroed call w) (serve board (putCurrent (view l) p) (fieldsIn call w))
 unfolding check
-turned-serves {l} p g v w =
+turned-serves {board} {l} p g v w =
     let h = turned p g v in
-    call-as (turnedTo p l) w ∙ rw (sound-means (turnedTo p l) .1 (right-good h .sound), view-encode (putCurrent (view l) p) (right-fit h)) refl
+    call-as board (turnedTo p l) w ∙ rw (sound-means board (turnedTo p l) .1 (right-good board h .sound), view-encode (putCurrent (view l) p) (right-fit h)) refl
 
-module _ (l ws vs : List ℕ) (b : ℕ) (g : Good l) (one : Within b l ws) (two : Within b l vs) (p : ℕ) (s : Beside (view l .k) b p) where
-  sees : Sees (view (afterAll l ws)) (view (afterAll l vs)) p
+module _ {board : Board} (l ws vs : List ℕ) (b : ℕ) (g : Good board l) (one : Within board b l ws) (two : Within board b l vs) (p : ℕ) (s : Beside (view l .k) b p) where
+  sees : Sees (view (afterAll board l ws)) (view (afterAll board l vs)) p
   sees =
       let x = beside-same l ws b g one p s in
       let y = beside-same l vs b g two p s in
@@ -150,18 +151,18 @@ module _ (l ws vs : List ℕ) (b : ℕ) (g : Good l) (one : Within b l ws) (two 
         region = λ r. x .region r ∙ sym (y .region r);
       }
 
-  pub still-present : (ws : List ℕ) → Within b l ws → Present (view (afterAll l ws) .k) p
+  pub still-present : (ws : List ℕ) → Within board b l ws → Present (view (afterAll board l ws) .k) p
   still-present ws h = let (a, u) = s .outside .present in (a, beside-same l ws b g h p s .alike .area 0 ∙ u)
 
   -- THE THEOREM, of two lists: after either, with p current, find and read region on itself have the same outcome
-  pub same-answers : SameAnswers p (afterAll l ws) (afterAll l vs)
+  pub same-answers : SameAnswers board p (afterAll board l ws) (afterAll board l vs)
   same-answers w e z =
       rw (turned-serves p (after-good g ws) (still-present ws one) w, turned-serves p (after-good g vs) (still-present vs two) w)
-      (check-alike 2 (zeroed call w) _ _ (serve-alike sees (fieldsIn call w) e z))
+      (check-alike 2 (zeroed call w) _ _ (serve-alike sees board (fieldsIn call w) e z))
 
 -- REQUEST 112, over words
-pub branch-words : BranchWords
-branch-words = record {
+pub branch-words : (board : Board) → BranchWords board
+branch-words board = record {
   untouched = λ {k} l ws a h w. untouched l ws k (record { small = a; sound = h }) w;
   answers = λ {k} {p} l ws vs a h w v q. same-answers l ws vs k (record { small = a; sound = h }) w v p q;
 }

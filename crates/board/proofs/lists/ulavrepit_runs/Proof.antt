@@ -54,18 +54,19 @@ use denote.Triple.Clauses.{ensured, lasts}
 use denote.Triple.Table.{entered, cited}
 use denote.Triple.Walked.{says, Stays, stay-slice, stay-none-slice, walkOf, goes-slice, goes-none-slice, Walks, ends-at, walked, walk-meets}
 use denote.Exit.{yes}
+use Rattle.shapes.specs.declared.Board.the-variants.{V7}
 use Rattle.runs.specs.declared.Run.{Run}
 use Rattle.runs.specs.Marks.{runAt}
 use Rattle.runs.specs.Listing.{marksIn}
 use Rattle.runs.specs.Laws.Listing.{plan-fits, listed}
 use Rattle.runs.specs.Laws.Stored.{stored, length-stored, stored-is}
-use Rattle.board.specs.declared.lists.Ready.{Ready}
-use Rattle.board.specs.Board.{handed, resultOf}
-use Rattle.board.specs.Lists.{readyOf, Handed}
+use Rattle.face.specs.declared.lists.Ready.{Ready}
+use Rattle.face.specs.Face.{handed, resultOf}
+use Rattle.face.specs.Lists.{readyOf, Handed}
 use Rattle.runs.proofs.Run as R
 use Rattle.runs.proofs.Run.Laws as R′
-use Rattle.board.proofs.lists.Ready as P
-use Rattle.board.proofs.lists.Ready.Laws as P′
+use Rattle.face.proofs.lists.Ready as P
+use Rattle.face.proofs.lists.Ready.Laws as P′
 use Rattle.board.proofs.lists.plan_bytes as plan-bytes
 use Rattle.board.proofs.lists.plan_bytes.Symbol as plan-bytes-def
 use Rattle.board.proofs.lists.plan_bytes.Symbol.{name as #plan-bytes}
@@ -148,13 +149,13 @@ module _ {M : Type 1} (𝓤 : URA M) (H : Heap 𝓤) (A : Atoms 𝓤) (W : Given
   t = x₀ .now
 
   abbrev plan : Ready
-  plan = readyOf t (length ys)
+  plan = readyOf V7 t (length ys)
 
   abbrev n : ℕ
   n = plan .number
 
   abbrev marks : List ℕ
-  marks = marksIn (handed t) zeros
+  marks = marksIn V7 (handed t) zeros
 
   -- run i, and the list when i runs are stored
   abbrev f : ℕ → Run
@@ -190,10 +191,10 @@ module _ {M : Type 1} (𝓤 : URA M) (H : Heap 𝓤) (A : Atoms 𝓤) (W : Given
   Own = ShrSlice (named 0) κ₀ u8 .own x₀ (s₀ ∷ [])
 
   -- the n runs are stored
-  said : Handed t ys (plan .answer) (zs n)
+  said : Handed V7 t ys (plan .answer) (zs n)
   said =
-      let h = listed (handed t) ys in
-      record { answer = ap (resultOf 0) (h .outcome); records = stored-is f n ys (plan-fits (handed t) (length ys) .0) ∙ h .records }
+      let h = listed V7 (handed t) ys in
+      record { answer = ap (resultOf 0) (h .outcome); records = stored-is f n ys (plan-fits V7 (handed t) (length ys) .0) ∙ h .records }
 
   exits : Is u64 (plan .answer) (vint w64 (plan .answer) ∷ []) → ent 𝓤 (⋆ 𝓤 H A (‵ (fobs γ (codedHoleys R.the-row .code (heres R.the-row (zs n)))) ∷ ‵ (fbor κ (Held R.the-row (length (zs n)) b o γ)) ∷ ‵ (flft κ q) ∷ ‵ (flft κ₀ q₀) ∷ ‵ Own ∷ [])) (Post (vint w64 (plan .answer)))
   exits is =
@@ -291,13 +292,13 @@ module _ {M : Type 1} (𝓤 : URA M) (H : Heap 𝓤) (A : Atoms 𝓤) (W : Given
         typed is = LL.lawful R.the-type R′.the-laws 𝓤 H A W .typed (f i) _ is .0
 
         small : i < 512
-        small = omega (arith, less, plan-fits (handed t) (length ys) .1)
+        small = omega (arith, less, plan-fits V7 (handed t) (length ys) .1)
 
         next-fits : i + 1 < 2 ^ 64
         next-fits = omega (arith, small)
 
         in-list : i < length ys
-        in-list = omega (arith, less, plan-fits (handed t) (length ys) .0)
+        in-list = omega (arith, less, plan-fits V7 (handed t) (length ys) .0)
 
         far : i * 12 < 2 ^ 64
         far = near i (length ys) (room .1) in-list

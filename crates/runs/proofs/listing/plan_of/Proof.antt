@@ -1,6 +1,7 @@
 use mathlib.Core.Path.{refl, _∙_}
 use native.Mathlib.Omega.{arith}
 use borrow.Author.Needs.{needs}
+use Rattle.sound.specs.Laws.Whole.{tested}
 use Rattle.runs.specs.Laws.Listing.{decided-unsound, decided-sound, decided-order, plan-unsound, plan-short, plan-done, marks-unsound, marks-sound}
 use Rattle.runs.proofs.listing.plan_of.Statement.{statement}
 use Rattle.runs.proofs.listing.plan_of.Tie as tie
@@ -13,12 +14,12 @@ plan-of-spec =
     (λ c κs. search needs)
     (λ c.
     let u = decided-unsound (c .before .before .is-ordered .ensures) (c .before .if1 .taken) in
-    (c .refuse .ensures ∙ plan-unsound _ _ u, marks-unsound _ _ u))
-    (λ c κs. (decided-sound (c .before .before .before .is-ordered .ensures) (c .before .before .if1 .left), decided-order (c .before .before .before .is-ordered .ensures) (c .before .before .if1 .left), c .before .before .before .before .before .before .pre .1))
+    (c .refuse .ensures ∙ plan-unsound _ _ _ u, marks-unsound _ _ _ u))
+    (λ c κs. (tested _ _ (decided-sound (c .before .before .before .is-ordered .ensures) (c .before .before .if1 .left)), decided-order (c .before .before .before .is-ordered .ensures) (c .before .before .if1 .left), c .before .before .before .before .before .before .pre .1))
     (λ c κs. search needs)
     (λ c.
     let s = decided-sound (c .before .before .before .before .before .before .is-ordered .ensures) (c .before .before .before .before .before .if1 .left) in
-    (c .refuse2 .ensures ∙ plan-short _ _ s (c .before .before .mark-runs .ensures .0) (c .before .if2 .taken), marks-sound _ _ s (c .before .before .mark-runs .ensures .1)))
+    (c .refuse2 .ensures ∙ plan-short _ _ _ s (c .before .before .mark-runs .ensures .0) (c .before .if2 .taken), marks-sound _ _ _ s (c .before .before .mark-runs .ensures .1)))
     (λ c.
     let s = decided-sound (c .before .before .before .before .before .is-ordered .ensures) (c .before .before .before .before .if1 .left) in
-    (plan-done _ _ s (c .before .mark-runs .ensures .0) (omega arith), marks-sound _ _ s (c .before .mark-runs .ensures .1))))
+    (plan-done _ _ _ s (c .before .mark-runs .ensures .0) (omega arith), marks-sound _ _ _ s (c .before .mark-runs .ensures .1))))

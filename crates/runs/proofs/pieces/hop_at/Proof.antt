@@ -2,7 +2,7 @@ use native.Mathlib.Omega.{arith}
 use borrow.Author.Needs.{needs}
 use Prim.Native.Nat.{_-_}
 use Rattle.tables.specs.View.{view}
-use Rattle.runs.specs.Laws.Pieces.{tested, holder-small}
+use Rattle.runs.specs.Laws.Pieces.{holder-small}
 use Rattle.runs.specs.Laws.Places.{Hopping, pass-in, pass-on, pass-here, passed-set}
 use Rattle.runs.proofs.pieces.hop_at.Statement.{statement}
 use Rattle.runs.proofs.pieces.hop_at.Tie as tie
@@ -20,20 +20,20 @@ hop-at-spec =
     Inv-loop
     μ-loop
     (λ c. search needs)
-    (λ c. omega (arith, holder-small (tested _ (c .before .pre .0)) (c .before .pre .3)))
-    (λ c. omega (arith, holder-small (tested _ (c .before .pre .0)) (c .before .pre .3)))
-    (λ c. record { passing = c .before .before .pre .2 .at _ (holder-small (tested _ (c .before .before .pre .0)) (c .before .before .pre .3)); passed = c .before .before .pre .2 })
-    (λ c κs. pass-in (tested _ (c .before .before .before .before .pre .0)) (c .before .before .before .before .pre .1) (c .before .before .before .before .pre .3) (c .before .loop .inv .passing))
-    (λ c. omega (arith, holder-small (tested _ (c .before .before .before .before .before .before .before .before .pre .0)) (c .before .before .before .before .before .before .before .before .pre .3)))
-    (λ c. omega (arith, holder-small (tested _ (c .before .before .before .before .before .before .before .before .pre .0)) (c .before .before .before .before .before .before .before .before .pre .3)))
+    (λ c. omega (arith, holder-small (c .before .pre .0) (c .before .pre .3)))
+    (λ c. omega (arith, holder-small (c .before .pre .0) (c .before .pre .3)))
+    (λ c. record { passing = c .before .before .pre .2 .at _ (holder-small (c .before .before .pre .0) (c .before .before .pre .3)); passed = c .before .before .pre .2 })
+    (λ c κs. pass-in (c .before .before .before .before .pre .0) (c .before .before .before .before .pre .1) (c .before .before .before .before .pre .3) (c .before .loop .inv .passing))
+    (λ c. omega (arith, holder-small (c .before .before .before .before .before .before .before .before .pre .0) (c .before .before .before .before .before .before .before .before .pre .3)))
+    (λ c. omega (arith, holder-small (c .before .before .before .before .before .before .before .before .pre .0) (c .before .before .before .before .before .before .before .before .pre .3)))
     (λ c. (
-      pass-here (tested _ (c .before .before .before .before .before .before .before .before .before .before .pre .0)) (c .before .before .before .before .before .before .before .before .before .before .pre .1) (c .before .before .before .before .before .before .before .before .before .before .pre .3) (c .before .before .before .before .before .before .before .loop .inv .passing) _ (c .before .before .before .before .before .entry-at .ensures .slot) (omega arith) (c .before .before .before .before .before .entry-at .ensures .given-small),
+      pass-here (c .before .before .before .before .before .before .before .before .before .before .pre .0) (c .before .before .before .before .before .before .before .before .before .before .pre .1) (c .before .before .before .before .before .before .before .before .before .before .pre .3) (c .before .before .before .before .before .before .before .loop .inv .passing) _ (c .before .before .before .before .before .entry-at .ensures .slot) (omega arith) (c .before .before .before .before .before .entry-at .ensures .given-small),
       passed-set (c .before .before .before .before .before .before .before .loop .inv .passed) (c .before .before .before .before .before .before .before .loop .inv .passing),
     ))
     (λ c. search needs)
     (λ c. search needs)
     (λ c. record {
-      passing = pass-on (tested _ (c .before .before .before .before .before .before .before .before .pre .0)) (c .before .before .before .before .before .before .before .before .pre .1) (c .before .before .before .before .before .before .before .before .pre .3) (c .before .before .before .before .before .loop .inv .passing) _ (c .before .before .before .entry-at .ensures .slot) (omega arith);
+      passing = pass-on (c .before .before .before .before .before .before .before .before .pre .0) (c .before .before .before .before .before .before .before .before .pre .1) (c .before .before .before .before .before .before .before .before .pre .3) (c .before .before .before .before .before .loop .inv .passing) _ (c .before .before .before .entry-at .ensures .slot) (omega arith);
       passed = c .before .before .before .before .before .loop .inv .passed;
     })
-    (λ c. absurd (omega (arith, pass-in (tested _ (c .before .before .before .before .pre .0)) (c .before .before .before .before .pre .1) (c .before .before .before .before .pre .3) (c .before .loop .inv .passing) .1))))
+    (λ c. absurd (omega (arith, pass-in (c .before .before .before .before .pre .0) (c .before .before .before .before .pre .1) (c .before .before .before .before .pre .3) (c .before .loop .inv .passing) .1))))

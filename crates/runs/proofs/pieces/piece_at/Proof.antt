@@ -3,7 +3,7 @@ use native.Mathlib.Omega.{arith}
 use borrow.Author.Needs.{needs}
 use Prim.Native.Nat.{_-_}
 use Rattle.tables.specs.View.{view}
-use Rattle.runs.specs.Laws.Pieces.{tested, stop-small}
+use Rattle.runs.specs.Laws.Pieces.{stop-small}
 use Rattle.runs.specs.Laws.Ways.{Walking, climbs, walk-start, walk-holds, walk-here, low-small, walk-down, walk-last}
 use Rattle.runs.proofs.pieces.piece_at.Statement.{statement}
 use Rattle.runs.proofs.pieces.piece_at.Tie as tie
@@ -25,16 +25,16 @@ piece-at-spec =
     (λ c. omega (arith, c .climb .ensures .climbing .within, c .before .before .pre .2 .way .deep, c .before .before .pre .2 .way .size))
     (λ c κs. search needs)
     (λ c. walk-start (c .before .before .before .before .before .before .pre .2) (c .before .before .before .before .climb .ensures) (c .before .before .fields .ensures))
-    (λ c κs. (c .before .before .before .before .before .before .before .before .before .pre .0, c .before .before .before .before .before .before .before .before .before .pre .1, c .before .before .loop .inv .passed, walk-holds (tested _ (c .before .before .before .before .before .before .before .before .before .pre .0)) (c .before .before .loop .inv) .holds))
+    (λ c κs. (c .before .before .before .before .before .before .before .before .before .pre .0, c .before .before .before .before .before .before .before .before .before .pre .1, c .before .before .loop .inv .passed, walk-holds (c .before .before .before .before .before .before .before .before .before .pre .0) (c .before .before .loop .inv) .holds))
     (λ c κs. search needs)
-    (λ c. walk-here (tested _ (c .before .before .before .before .before .before .before .before .before .before .before .before .before .before .before .pre .0)) (c .before .before .before .before .before .before .before .before .loop .inv) (c .before .before .before .before .before .hop-at .ensures .0) (c .before .before .before .lower .ensures) (c .before .before .before .before .before .hop-at .ensures .1) (omega arith) (c .if1 .taken))
+    (λ c. walk-here (c .before .before .before .before .before .before .before .before .before .before .before .before .before .before .before .pre .0) (c .before .before .before .before .before .before .before .before .loop .inv) (c .before .before .before .before .before .hop-at .ensures .0) (c .before .before .before .lower .ensures) (c .before .before .before .before .before .hop-at .ensures .1) (omega arith) (c .if1 .taken))
     (λ c. search needs)
     (λ c κs. (
-      low-small (tested _ (c .before .before .before .before .before .before .before .before .before .before .before .before .before .before .before .pre .0)) (c .before .before .before .before .before .before .before .before .loop .inv) (c .before .before .before .before .before .hop-at .ensures .0) (c .before .before .before .lower .ensures) (c .before .before .before .before .before .hop-at .ensures .1) (omega arith) (stop-small (c .before .before .before .before .before .before .before .before .before .before .before .before .before .before .before .args .t .now)),
+      low-small (c .before .before .before .before .before .before .before .before .before .before .before .before .before .before .before .pre .0) (c .before .before .before .before .before .before .before .before .loop .inv) (c .before .before .before .before .before .hop-at .ensures .0) (c .before .before .before .lower .ensures) (c .before .before .before .before .before .hop-at .ensures .1) (omega arith) (stop-small (c .before .before .before .before .before .before .before .before .before .before .before .before .before .before .before .args .t .now)),
       c .before .before .before .before .before .hop-at .ensures .0 .small,
     ))
     (λ c. omega (arith, c .before .before .before .before .before .before .before .before .before .loop .inv .way .deep))
     (λ c. omega (arith, c .before .before .before .before .before .before .before .before .before .loop .inv .way .deep, c .before .before .before .before .before .before .before .before .before .loop .inv .way .size))
     (λ c. search needs)
-    (λ c. walk-down (tested _ (c .before .before .before .before .before .before .before .before .before .before .before .before .before .before .before .before .pre .0)) (c .before .before .before .before .before .before .before .before .before .loop .inv) (c .before .before .before .before .before .before .hop-at .ensures .0) (c .before .before .before .before .lower .ensures) (c .before .before .before .before .before .before .hop-at .ensures .1) (omega arith) (stop-small (c .before .before .before .before .before .before .before .before .before .before .before .before .before .before .before .before .args .t .now)) (c .mark-of .ensures) (c .before .if1 .left))
-    (λ c. walk-last (tested _ (c .before .before .before .before .before .before .before .before .pre .0)) (c .before .loop .inv) (omega arith)))
+    (λ c. walk-down (c .before .before .before .before .before .before .before .before .before .before .before .before .before .before .before .before .pre .0) (c .before .before .before .before .before .before .before .before .before .loop .inv) (c .before .before .before .before .before .before .hop-at .ensures .0) (c .before .before .before .before .lower .ensures) (c .before .before .before .before .before .before .hop-at .ensures .1) (omega arith) (stop-small (c .before .before .before .before .before .before .before .before .before .before .before .before .before .before .before .before .args .t .now)) (c .mark-of .ensures) (c .before .if1 .left))
+    (λ c. walk-last (c .before .before .before .before .before .before .before .before .pre .0) (c .before .loop .inv) (omega arith)))

@@ -10,6 +10,6 @@ call-table-spec =
     tie.close
     (tie.spec
     (λ c κs. c .before .pre)
-    (λ c. answers-unsound _ _ (sym (c .before .is-sound .ensures) ∙ not-true _ (c .if1 .taken)))
+    (λ c. answers-unsound _ _ _ (sym (c .before .is-sound .ensures) ∙ not-true _ (c .if1 .taken)))
     (λ c κs. sym (c .before .before .is-sound .ensures) ∙ not-false _ (c .before .if1 .left))
     (λ c. c .serve-word .ensures))

@@ -8,6 +8,6 @@ region-spec =
     tie.close
     (tie.spec
     (λ c κs. (c .before .before .before .pre .0, c .before .before .before .pre .1 .partition, c .before .before .before .pre .2))
-    (λ c. ran-as (region-unloads _ (c .before .before .before .before .args .f) (c .before .before .if1 .taken)) (c .unload .ensures))
+    (λ c. ran-as (region-unloads _ _ (c .before .before .before .before .args .f) (c .before .before .if1 .taken)) (c .unload .ensures))
     (λ c κs. (c .before .before .before .pre .0, c .before .before .before .pre .1 .partition, c .before .before .before .pre .1 .slot, c .before .before .before .pre .2))
-    (λ c. ran-as (region-loads _ (c .before .before .before .before .args .f) (c .before .before .if1 .left)) (c .load .ensures)))
+    (λ c. ran-as (region-loads _ _ (c .before .before .before .before .args .f) (c .before .before .if1 .left)) (c .load .ensures)))

@@ -11,6 +11,6 @@ serve-spec =
     tie.close
     (tie.spec
     (λ c κs. search needs)
-    (λ c. ran-refused (serve-unknown _ _ (sym (c .before .known .ensures) ∙ not-true _ (c .if1 .taken))))
+    (λ c. ran-refused (serve-unknown _ _ _ (sym (c .before .known .ensures) ∙ not-true _ (c .if1 .taken))))
     (λ c κs. (c .before .before .before .pre .0, c .before .before .before .pre .1, sym (c .before .before .known .ensures) ∙ not-false _ (c .before .if1 .left), c .before .before .before .pre .2))
-    (λ c. ran-as (serve-known _ _ (sym (c .before .before .before .known .ensures) ∙ not-false _ (c .before .before .if1 .left))) (c .perform .ensures)))
+    (λ c. ran-as (serve-known _ _ _ (sym (c .before .before .before .known .ensures) ∙ not-false _ (c .before .before .if1 .left))) (c .perform .ensures)))

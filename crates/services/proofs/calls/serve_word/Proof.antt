@@ -16,10 +16,10 @@ serve-word-spec =
     (λ c κs. search needs)
     (λ c. search needs)
     (λ c κs.
-    let h = sound-means _ .0 (c .before .before .before .before .before .before .before .before .before .before .pre) in
+    let h = sound-means _ _ .0 (c .before .before .before .before .before .before .before .before .before .before .pre) in
     let canon = sound-canon (c .before .before .before .before .before .before .before .before .fits2 .ensures) h in
     (canon, read-small _ (sym (c .before .before .before .before .read .ensures) ∙ c .before .before .read2 .given .1), sound-right canon h))
     (λ c κs. search needs)
     (λ c. search needs)
-    (λ c. answers-served _ _ (c .before .before .before .before .before .before .before .before .before .before .before .before .before .before .pre) (c .before .before .before .before .before .before .before .before .before .before .first .ensures .current) (sym (c .before .before .before .before .before .before .before .before .read .ensures) ∙ c .before .before .before .before .before .before .read2 .given .1) (c .before .before .before .serve .ensures) (c .either .ensures))
-    (λ c. answers-unread _ _ (c .before .before .before .before .before .before .before .before .before .pre) (c .before .before .before .before .before .first .ensures .current) (sym (c .before .before .before .read .ensures) ∙ c .before .read3 .given .1)))
+    (λ c. answers-served _ _ _ (c .before .before .before .before .before .before .before .before .before .before .before .before .before .before .pre) (c .before .before .before .before .before .before .before .before .before .before .first .ensures .current) (sym (c .before .before .before .before .before .before .before .before .read .ensures) ∙ c .before .before .before .before .before .before .read2 .given .1) (c .before .before .before .serve .ensures) (c .either .ensures))
+    (λ c. answers-unread _ _ _ (c .before .before .before .before .before .before .before .before .before .pre) (c .before .before .before .before .before .first .ensures .current) (sym (c .before .before .before .read .ensures) ∙ c .before .read3 .given .1)))

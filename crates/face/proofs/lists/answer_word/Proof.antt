@@ -1,10 +1,10 @@
 use mathlib.Core.Path.{ap, sym, subst, _∙_}
-use Rattle.board.specs.Board.{resultOf}
-use Rattle.board.specs.Lists.{Small}
+use Rattle.face.specs.Face.{resultOf}
+use Rattle.face.specs.Lists.{Small}
 use native.Mathlib.Omega.{arith}
 use borrow.Author.Needs.{needs}
-use Rattle.board.proofs.lists.answer_word.Statement.{statement}
-use Rattle.board.proofs.lists.answer_word.Tie as tie
+use Rattle.face.proofs.lists.answer_word.Statement.{statement}
+use Rattle.face.proofs.lists.answer_word.Tie as tie
 
 pub answer-word-spec : {M : Type 1} → statement M
 unfolding resultOf

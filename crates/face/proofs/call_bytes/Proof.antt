@@ -5,18 +5,18 @@ use borrow.Author.Tests.{not-false}
 use Rattle.memory.specs.Bytes.{bytesOf}
 use Rattle.tables.specs.Laws.Top.{top-at}
 use Rattle.rules.specs.Laws.Brief.{call-brief, first-small, number-small}
-use Rattle.board.specs.Laws.Board.{call-none, call-lent, call-tells, call-told, call-stands, call-kept, call-caller}
+use Rattle.face.specs.Laws.Face.{call-none, call-lent, call-tells, call-told, call-stands, call-kept, call-caller}
 use native.Mathlib.Omega.{arith}
 use borrow.Author.Needs.{needs}
-use Rattle.board.proofs.ulavrepit_call.Statement.{statement}
-use Rattle.board.proofs.ulavrepit_call.Tie as tie
+use Rattle.face.proofs.call_bytes.Statement.{statement}
+use Rattle.face.proofs.call_bytes.Tie as tie
 
-pub ulavrepit-call-spec : {M : Type 1} → statement M
-ulavrepit-call-spec =
+pub call-bytes-spec : {M : Type 1} → statement M
+call-bytes-spec =
     tie.close
     (tie.spec
     (λ c κs. (omega arith, omega arith, omega arith))
-    (λ c. call-none _ (c .before .if1 .taken) (c .packed .ensures))
+    (λ c. call-none _ _ (c .before .if1 .taken) (c .packed .ensures))
     (λ c κs. (c .before .before .if1 .left, refl))
     (λ c κs. top-at (c .before .load .ensures .0) (c .before .load .ensures .1))
     (λ c. search needs)
@@ -27,9 +27,9 @@ ulavrepit-call-spec =
     let small = c .before .before .before .before .before .before .before .before .before .before .before .before .before .slice-known .given in
     let done = c .before .before .before .before .outcome .given .1 in
     (size, call-tells _ size load answer (λ i. small i .fits) done, call-told _ size load answer (λ i. small i .fits) done))
-    (λ c κs. (omega arith, omega (arith, call-caller _ (c .before .before .before .before .before .before .before .before .before .before .if1 .left) (c .before .before .before .before .before .before .before .load .ensures .0) (c .before .before .before .before .before .call-table .ensures)), omega (arith, first-small (call-brief _ _) (sym (c .before .before .before .before .before .call-table .ensures .ran .outcome) ∙ c .before .before .outcome .given .1))))
+    (λ c κs. (omega arith, omega (arith, call-caller _ (c .before .before .before .before .before .before .before .before .before .before .if1 .left) (c .before .before .before .before .before .before .before .load .ensures .0) (c .before .before .before .before .before .call-table .ensures)), omega (arith, first-small (call-brief _ _ _) (sym (c .before .before .before .before .before .call-table .ensures .ran .outcome) ∙ c .before .before .outcome .given .1))))
     (λ c. search needs)
-    (λ c κs. (omega (arith, number-small (call-brief _ _) (sym (c .before .before .before .before .call-table .ensures .ran .outcome) ∙ c .before .outcome2 .given .1)), omega (arith, call-caller _ (c .before .before .before .before .before .before .before .before .before .if1 .left) (c .before .before .before .before .before .before .load .ensures .0) (c .before .before .before .before .call-table .ensures)), omega arith))
+    (λ c κs. (omega (arith, number-small (call-brief _ _ _) (sym (c .before .before .before .before .call-table .ensures .ran .outcome) ∙ c .before .outcome2 .given .1)), omega (arith, call-caller _ (c .before .before .before .before .before .before .before .before .before .if1 .left) (c .before .before .before .before .before .before .load .ensures .0) (c .before .before .before .before .call-table .ensures)), omega arith))
     (λ c. ⊎-elim (λ z. ap length (z .6) ∙ z .3 .kept .1 .0) (λ z. ap length (z .1)) (c .before .if2 .came))
     (λ c.
     let size = c .before .before .before .before .before .before .before .before .before .before .before .if1 .left in
@@ -37,7 +37,7 @@ ulavrepit-call-spec =
     let answer = c .before .before .before .before .before .before .call-table .ensures in
     let small = c .before .before .before .before .before .before .before .before .before .before .before .before .slice-known .given in
     call-lent _ size load answer (c .before .before .before .outcome .given .1) (c .packed2 .ensures)
-    (⊎-elim {C = c .before .if2 .table ≡ bytesOf (c .before .before .before .before .before .before .call-table .last .0)}
+    (⊎-elim {C = c .before .if2 .table ≡ bytesOf (c .before .before .before .before .before .before .call-table .last .1 .0)}
     (λ z. z .6 ∙ z .3 .ensures)
     (λ z. z .1 ∙ call-stands _ size load answer (λ i. small i .fits) (not-false _ (z .0 .left)))
     (c .before .if2 .came))

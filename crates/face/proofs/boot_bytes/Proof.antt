@@ -2,14 +2,14 @@ use mathlib.Core.Path.{sym, _∙_}
 use lib.ListN.{length-replicate}
 use Prim.Native.Nat.{ℕ}
 use Rattle.rules.specs.Laws.Brief.{boot-brief, first-small, number-small}
-use Rattle.board.specs.Laws.Board.{boot-root, boot-none, boot-lent, boot-kept}
+use Rattle.face.specs.Laws.Face.{boot-root, boot-none, boot-lent, boot-kept}
 use native.Mathlib.Omega.{arith}
 use borrow.Author.Needs.{needs}
-use Rattle.board.proofs.ulavrepit_boot.Statement.{statement}
-use Rattle.board.proofs.ulavrepit_boot.Tie as tie
+use Rattle.face.proofs.boot_bytes.Statement.{statement}
+use Rattle.face.proofs.boot_bytes.Tie as tie
 
-pub ulavrepit-boot-spec : {M : Type 1} → statement M
-ulavrepit-boot-spec =
+pub boot-bytes-spec : {M : Type 1} → statement M
+boot-bytes-spec =
     tie.close
     (tie.spec
     (λ c κs. (omega arith, omega arith, omega arith))

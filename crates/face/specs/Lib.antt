@@ -1,3 +1,3 @@
-pub mod Board
+pub mod Face
 pub mod Lists
 pub mod Laws

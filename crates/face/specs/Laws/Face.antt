@@ -7,6 +7,7 @@ use native.Mathlib.Omega.{arith}
 use lib.ListN.{length, getD}
 use lib.Dec.{eqb, leb, ltb}
 use borrow.Author.Tests.{eq-eqb, ne-eqb}
+use Rattle.shapes.specs.declared.Board.{Board}
 use Rattle.tables.specs.State.{none, Table}
 use Rattle.tables.specs.View.{view}
 use Rattle.tables.specs.Encode.{encode}
@@ -34,18 +35,18 @@ use Rattle.rules.specs.Laws.Calls.{caller-small, answers-unsound}
 use Rattle.rules.specs.Calls.{Answers}
 use Rattle.rules.specs.Laws.Reads.{answers-stand}
 use Rattle.isolation.specs.Whole.{call-sound}
-use Rattle.board.specs.Board.{handed, packed, resultOf, secondAfter, bytesAfter, Lent, CallLent, ListLent}
+use Rattle.face.specs.Face.{handed, packed, resultOf, secondAfter, bytesAfter, Lent, CallLent, ListLent}
 
 -- two results are equal: the result, and every byte
 pub lent-one : {caller : ℕ} {res : Result} {before : List ℕ} {r s : ℕ} {a b : List ℕ} → Lent caller res before r a → Lent caller res before s b → (r ≡ s) × (a ≡ b)
 lent-one x y = (x .result ∙ sym (y .result), x .bytes ∙ sym (y .bytes))
 
-pub call-lent-one : {before : List ℕ} {w s : ℕ} {r r′ : ℕ} {a b : List ℕ} {v v′ : ℕ} → CallLent before w s r a v → CallLent before w s r′ b v′ → (r ≡ r′) × (a ≡ b) × (v ≡ v′)
+pub call-lent-one : {board : Board} {before : List ℕ} {w s : ℕ} {r r′ : ℕ} {a b : List ℕ} {v v′ : ℕ} → CallLent board before w s r a v → CallLent board before w s r′ b v′ → (r ≡ r′) × (a ≡ b) × (v ≡ v′)
 call-lent-one x y =
     let (r, bytes) = lent-one (x .table) (y .table) in
     (r, bytes, x .second ∙ sym (y .second))
 
-pub list-lent-one : {table : List ℕ} {l : ℕ} {before : List ℕ} {s r r′ : ℕ} {a b : List ℕ} {v v′ : ℕ} → ListLent table l before s r a v → ListLent table l before s r′ b v′ → (r ≡ r′) × (a ≡ b) × (v ≡ v′)
+pub list-lent-one : {board : Board} {table : List ℕ} {l : ℕ} {before : List ℕ} {s r r′ : ℕ} {a b : List ℕ} {v v′ : ℕ} → ListLent board table l before s r a v → ListLent board table l before s r′ b v′ → (r ≡ r′) × (a ≡ b) × (v ≡ v′)
 list-lent-one x y = (x .result ∙ sym (y .result), x .bytes ∙ sym (y .bytes), x .second ∙ sym (y .second))
 
 -- ── what is handed over ──
@@ -58,8 +59,8 @@ module _ (b : List ℕ) (h : length b ≡ 5128 → ⊥) where
   unfolding handed
   handed-none = rw (ne-eqb (length b) 5128 h) refl
 
-  pub handed-unsound : sound (handed b) ≡ false
-  handed-unsound = rw handed-none (wrong-length [] (λ z. omega arith))
+  pub handed-unsound : (board : Board) → sound board (handed b) ≡ false
+  handed-unsound board = rw handed-none (wrong-length board [] (λ z. omega arith))
 
 -- ── the exits of a function that writes the table ──
 module _ {c : ℕ} {res : Result} {a m : List ℕ} {o : Outcome} (ran : Ran res a o m) (b : List ℕ) {r : ℕ} where
@@ -83,9 +84,9 @@ module _ {c : ℕ} {res : Result} {a m : List ℕ} {o : Outcome} (ran : Ran res 
       go (refused n) z = refl
 
 -- ── what is done leaves a sound table, so that its headers tell the absent partitions ──
-tells : {res : Result} {a m : List ℕ} {o : Outcome} {v w : ℕ} → Ran res a o m → o ≡ Done v w → ((x y : ℕ) (t : Table) → res ≡ done x y t → Sound (encode t)) → HeaderTells m
+tells : {board : Board} {res : Result} {a m : List ℕ} {o : Outcome} {v w : ℕ} → Ran res a o m → o ≡ Done v w → ((x y : ℕ) (t : Table) → res ≡ done x y t → Sound board (encode t)) → HeaderTells m
 unfolding outcomeOf wordsAfter
-tells {res} {a} {m} ran q sound-after = go res refl
+tells {res = res} {a} {m} ran q sound-after = go res refl
   where
     go : (r : Result) → res ≡ r → HeaderTells m
     go (done x y t) e = subst HeaderTells (sym (ran .words ∙ ap (wordsAfter a) e)) (header-tells (sound-after x y t e))
@@ -125,20 +126,20 @@ module _ (b : List ℕ) (base end : ℕ) {a m : List ℕ} {o : Outcome} (size : 
   boot-kept q p = lent-refused (ran-as any ran) b q p
 
 -- ── a call ──
-pub call-none : (b : List ℕ) {w s r : ℕ} → (length b ≡ 5128 → ⊥) → r ≡ packed 1 0 0 → CallLent b w s r b s
+pub call-none : (board : Board) (b : List ℕ) {w s r : ℕ} → (length b ≡ 5128 → ⊥) → r ≡ packed 1 0 0 → CallLent board b w s r b s
 unfolding secondAfter outcomeOf
-call-none b {w} {s} h p =
-    let n = answers-unsound (handed b) w (handed-unsound b h) in
+call-none board b {w} {s} h p =
+    let n = answers-unsound board (handed b) w (handed-unsound b h board) in
     record {
       table = lent-refused (n .ran) b refl (p ∙ ap (λ (c : ℕ). packed 1 c 0) (n .caller));
       second = ap (secondAfter s) (n .ran .outcome);
     }
 
-module _ (b : List ℕ) {a m : List ℕ} {w : ℕ} {x : Answer} (size : length b ≡ 5128) (load : a ≡ wordsOf b) (h : Answers a w x m) where
-  here : Answers (handed b) w x m
-  here = subst (λ (l : List ℕ). Answers l w x m) (load ∙ handed-is b size) h
+module _ {board : Board} (b : List ℕ) {a m : List ℕ} {w : ℕ} {x : Answer} (size : length b ≡ 5128) (load : a ≡ wordsOf b) (h : Answers board a w x m) where
+  here : Answers board (handed b) w x m
+  here = subst (λ (l : List ℕ). Answers board l w x m) (load ∙ handed-is b size) h
 
-  pub call-lent : {s r v y : ℕ} {n : List ℕ} {s′ : ℕ} → x .outcome ≡ Done v y → r ≡ packed 0 (x .caller .0) v → n ≡ bytesOf m → s′ ≡ y → CallLent b w s r n s′
+  pub call-lent : {s r v y : ℕ} {n : List ℕ} {s′ : ℕ} → x .outcome ≡ Done v y → r ≡ packed 0 (x .caller .0) v → n ≡ bytesOf m → s′ ≡ y → CallLent board b w s r n s′
   unfolding secondAfter
   call-lent {s} {v = v} q p e z = record {
     table = lent-done (here .ran) b q (p ∙ ap (λ (c : ℕ). packed 0 c v) (here .caller)) e;
@@ -146,16 +147,16 @@ module _ (b : List ℕ) {a m : List ℕ} {w : ℕ} {x : Answer} (size : length b
   }
 
   pub call-tells : {v y : ℕ} → ((i : ℕ) → getD b i 0 < 256) → x .outcome ≡ Done v y → HeaderTells m
-  call-tells small q = tells (h .ran) q (λ x y t. call-sound a w (subst Words (sym load) (words-small b small)))
+  call-tells small q = tells (h .ran) q (λ x y t. call-sound board a w (subst Words (sym load) (words-small b small)))
 
   -- it was asked of a sound table, so that the bytes before it tell them too
   pub call-told : {v y : ℕ} → ((i : ℕ) → getD b i 0 < 256) → x .outcome ≡ Done v y → BytesTell b
   unfolding callOn outcomeOf
-  call-told {v} {y} small q = bytes-tell size (λ i _. small i) (subst HeaderTells load (header-tells (go (sound a) refl)))
+  call-told {v} {y} small q = bytes-tell size (λ i _. small i) (subst HeaderTells load (header-tells (go (sound board a) refl)))
     where
-      go : (s : Bool) → sound a ≡ s → Sound a
-      go true e = sound-means a .0 e
-      go false e = let u : callOn a w ≡ refused 1 = rw e refl in absurd (refused-done (sym (ap outcomeOf u) ∙ sym (h .ran .outcome) ∙ q))
+      go : (s : Bool) → sound board a ≡ s → Sound board a
+      go true e = sound-means board a .0 e
+      go false e = let u : callOn board a w ≡ refused 1 = rw e refl in absurd (refused-done (sym (ap outcomeOf u) ∙ sym (h .ran .outcome) ∙ q))
 
   -- where its answer stands, the bytes are those of the table already
   pub call-stands : ((i : ℕ) → getD b i 0 < 256) → x .stands ≡ true → b ≡ bytesOf m
@@ -164,7 +165,7 @@ module _ (b : List ℕ) {a m : List ℕ} {w : ℕ} {x : Answer} (size : length b
       (ap bytesOf (answers-stand (subst Words (sym load) (words-small b small)) h q ∙ load)
       ∙ bytes-words b size (λ i _. small i))
 
-  pub call-kept : {s r n : ℕ} → x .outcome ≡ Refused n → r ≡ packed n (x .caller .0) 0 → CallLent b w s r b s
+  pub call-kept : {s r n : ℕ} → x .outcome ≡ Refused n → r ≡ packed n (x .caller .0) 0 → CallLent board b w s r b s
   unfolding secondAfter
   call-kept {s} {n = n} q p = record {
     table = lent-refused (here .ran) b q (p ∙ ap (λ (c : ℕ). packed n c 0) (here .caller));
@@ -172,13 +173,13 @@ module _ (b : List ℕ) {a m : List ℕ} {w : ℕ} {x : Answer} (size : length b
   }
 
   pub call-caller : x .caller .0 < 16
-  call-caller = rw (here .caller) (caller-small (handed b))
+  call-caller = rw (here .caller) (caller-small board (handed b))
 
 -- ── holders ──
-module _ (t : List ℕ) (l size : ℕ) where
-  pub holders-first : {v w : ℕ} → holdersOutcome t l size ≡ Done v w → v < 32
+module _ (board : Board) (t : List ℕ) (l size : ℕ) where
+  pub holders-first : {v w : ℕ} → holdersOutcome board t l size ≡ Done v w → v < 32
   unfolding holdersOutcome
-  holders-first {v} {w} q = go (sound t) (inMemory (view t .k) l) (leb 16 size) q
+  holders-first {v} {w} q = go (sound board t) (inMemory (view t .k) l) (leb 16 size) q
     where
       go : (x y z : Bool) → cond x (cond y (cond z (Done (length (holdersOf (view t .k) l)) (looksOf (view t .k) l)) (Refused 17)) (Refused 7)) (Refused 1) ≡ Done v w → v < 32
       go true true true q = let e = done-first q in omega (arith, holders-few (view t .k) l)
@@ -186,9 +187,9 @@ module _ (t : List ℕ) (l size : ℕ) where
       go true false z q = absurd (refused-done q)
       go false y z q = absurd (refused-done q)
 
-  pub holders-number : {n : ℕ} → holdersOutcome t l size ≡ Refused n → n < 18
+  pub holders-number : {n : ℕ} → holdersOutcome board t l size ≡ Refused n → n < 18
   unfolding holdersOutcome
-  holders-number {n} q = go (sound t) (inMemory (view t .k) l) (leb 16 size) q
+  holders-number {n} q = go (sound board t) (inMemory (view t .k) l) (leb 16 size) q
     where
       go : (x y z : Bool) → cond x (cond y (cond z (Done (length (holdersOf (view t .k) l)) (looksOf (view t .k) l)) (Refused 17)) (Refused 7)) (Refused 1) ≡ Refused n → n < 18
       go true true true q = absurd (refused-done (sym q))
@@ -196,17 +197,17 @@ module _ (t : List ℕ) (l size : ℕ) where
       go true false z q = let e = refused-number q in omega arith
       go false y z q = let e = refused-number q in omega arith
 
-pub list-none : (b : List ℕ) {l : ℕ} {list : List ℕ} {s r : ℕ} → (length b ≡ 5128 → ⊥) → r ≡ packed 1 0 0 → ListLent b l list s r list s
+pub list-none : (board : Board) (b : List ℕ) {l : ℕ} {list : List ℕ} {s r : ℕ} → (length b ≡ 5128 → ⊥) → r ≡ packed 1 0 0 → ListLent board b l list s r list s
 unfolding resultOf secondAfter
-list-none b {l} {list} {s} h p =
-    let n : Listed (handed b) l list (Refused 1) list = listed-unsound (handed-unsound b h) in
+list-none board b {l} {list} {s} h p =
+    let n : Listed board (handed b) l list (Refused 1) list = listed-unsound (handed-unsound b h board) in
     record { result = p ∙ ap (resultOf 0) (n .outcome); bytes = n .bytes; second = ap (secondAfter s) (n .outcome) }
 
-module _ (b : List ℕ) {a : List ℕ} {l : ℕ} {list list′ : List ℕ} {o : Outcome} (size : length b ≡ 5128) (load : a ≡ wordsOf b) (h : Listed a l list o list′) where
-  listed : Listed (handed b) l list o list′
+module _ {board : Board} (b : List ℕ) {a : List ℕ} {l : ℕ} {list list′ : List ℕ} {o : Outcome} (size : length b ≡ 5128) (load : a ≡ wordsOf b) (h : Listed board a l list o list′) where
+  listed : Listed board (handed b) l list o list′
   listed = listed-copy (load ∙ handed-is b size) h
 
-  pub list-lent : {s r v y s′ : ℕ} → o ≡ Done v y → r ≡ packed 0 0 v → s′ ≡ y → ListLent b l list s r list′ s′
+  pub list-lent : {s r v y s′ : ℕ} → o ≡ Done v y → r ≡ packed 0 0 v → s′ ≡ y → ListLent board b l list s r list′ s′
   unfolding resultOf secondAfter
   list-lent {s} q p z = record {
     result = p ∙ ap (resultOf 0) (sym q ∙ listed .outcome);
@@ -214,7 +215,7 @@ module _ (b : List ℕ) {a : List ℕ} {l : ℕ} {list list′ : List ℕ} {o : 
     second = z ∙ ap (secondAfter s) (sym q ∙ listed .outcome);
   }
 
-  pub list-kept : {s r n : ℕ} → o ≡ Refused n → r ≡ packed n 0 0 → ListLent b l list s r list′ s
+  pub list-kept : {s r n : ℕ} → o ≡ Refused n → r ≡ packed n 0 0 → ListLent board b l list s r list′ s
   unfolding resultOf secondAfter
   list-kept {s} q p = record {
     result = p ∙ ap (resultOf 0) (sym q ∙ listed .outcome);

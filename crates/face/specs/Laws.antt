@@ -1,2 +1,2 @@
-pub mod Board
+pub mod Face
 pub mod Lists

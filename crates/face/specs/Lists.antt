@@ -3,14 +3,15 @@ use mathlib.Core.Path.{_≡_}
 use mathlib.Core.List.{List}
 use Prim.Native.Nat.{ℕ, _^_, _<_}
 use lib.ListN.{length}
+use Rattle.shapes.specs.declared.Board.{Board}
 use Rattle.tables.specs.declared.Outcome.{Outcome}
 use Rattle.tables.specs.declared.Outcome.the-variants.{Done, Refused}
 use Rattle.runs.specs.declared.Run.{Run}
 use Rattle.runs.specs.declared.listing.Plan.{Plan}
 use Rattle.runs.specs.Runs.{runsOutcome, runsRecords}
 use Rattle.runs.specs.Listing.{planOf}
-use Rattle.board.specs.declared.lists.Ready.{Ready}
-use Rattle.board.specs.Board.{handed, resultOf}
+use Rattle.face.specs.declared.lists.Ready.{Ready}
+use Rattle.face.specs.Face.{handed, resultOf}
 
 abbrev pub Small : Outcome → Type 0
 Small (Done first second) = first < 2 ^ 32
@@ -19,10 +20,10 @@ Small (Refused why) = why < 2 ^ 8
 abbrev pub readyFrom : Plan → Ready
 readyFrom p = record { number = p .number; answer = resultOf 0 (p .outcome) }
 
-abbrev pub readyOf : List ℕ → ℕ → Ready
-readyOf b size = readyFrom (planOf (handed b) size)
+abbrev pub readyOf : Board → List ℕ → ℕ → Ready
+readyOf b table size = readyFrom (planOf b (handed table) size)
 
 -- what the export promises: its answer, and every record of the list
-pub record Handed (b : List ℕ) (before : List Run) (r : ℕ) (after : List Run) : Type 0 where
-  pub answer : r ≡ resultOf 0 (runsOutcome (handed b) (length before))
-  pub records : after ≡ runsRecords (handed b) before
+pub record Handed (b : Board) (table : List ℕ) (before : List Run) (r : ℕ) (after : List Run) : Type 0 where
+  pub answer : r ≡ resultOf 0 (runsOutcome b (handed table) (length before))
+  pub records : after ≡ runsRecords b (handed table) before

@@ -5,6 +5,7 @@ use mathlib.Core.List.{List, []}
 use Prim.Native.Nat.{ℕ, _+_, _*_, _^_}
 use lib.ListN.{length}
 use lib.Dec.{eqb}
+use Rattle.shapes.specs.declared.Board.{Board}
 use Rattle.tables.specs.Encode.{encode}
 use Rattle.memory.specs.Bytes.{wordsOf, bytesOf}
 use Rattle.tables.specs.Outcomes.{answered}
@@ -43,12 +44,12 @@ pub record Lent (caller : ℕ) (res : Result) (before : List ℕ) (r : ℕ) (aft
   pub bytes : after ≡ bytesAfter before res
 
 -- .. and the second value, of a call of word w
-pub record CallLent (before : List ℕ) (w s r : ℕ) (after : List ℕ) (s′ : ℕ) : Type 0 where
-  pub table : Lent (callerOf (handed before)) (callOn (handed before) w) before r after
-  pub second : s′ ≡ secondAfter s (outcomeOf (callOn (handed before) w))
+pub record CallLent (b : Board) (before : List ℕ) (w s r : ℕ) (after : List ℕ) (s′ : ℕ) : Type 0 where
+  pub table : Lent (callerOf b (handed before)) (callOn b (handed before) w) before r after
+  pub second : s′ ≡ secondAfter s (outcomeOf (callOn b (handed before) w))
 
 -- what holders of line l promises: its result, every byte of the list, the second value
-pub record ListLent (table : List ℕ) (l : ℕ) (before : List ℕ) (s r : ℕ) (after : List ℕ) (s′ : ℕ) : Type 0 where
-  pub result : r ≡ resultOf 0 (holdersOutcome (handed table) l (length before))
-  pub bytes : after ≡ holdersBytes (handed table) l before
-  pub second : s′ ≡ secondAfter s (holdersOutcome (handed table) l (length before))
+pub record ListLent (b : Board) (table : List ℕ) (l : ℕ) (before : List ℕ) (s r : ℕ) (after : List ℕ) (s′ : ℕ) : Type 0 where
+  pub result : r ≡ resultOf 0 (holdersOutcome b (handed table) l (length before))
+  pub bytes : after ≡ holdersBytes b (handed table) l before
+  pub second : s′ ≡ secondAfter s (holdersOutcome b (handed table) l (length before))

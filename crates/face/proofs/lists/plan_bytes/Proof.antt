@@ -1,0 +1,24 @@
+use mathlib.Core.Path.{refl, ap, sym, subst, _∙_}
+use mathlib.Core.List.{List}
+use Prim.Native.Nat.{ℕ}
+use native.Mathlib.Omega.{arith}
+use borrow.Author.Needs.{needs}
+use Rattle.tables.specs.Laws.Top.{top-at}
+use Rattle.runs.specs.declared.listing.Plan.{Plan}
+use Rattle.runs.specs.Listing.{planOf, marksIn}
+use Rattle.face.specs.Face.{resultOf}
+use Rattle.face.specs.Lists.{Small}
+use Rattle.face.specs.Laws.Lists.{ready-none, ready-plan, plan-answers}
+use Rattle.face.proofs.lists.plan_bytes.Statement.{statement}
+use Rattle.face.proofs.lists.plan_bytes.Tie as tie
+
+pub plan-bytes-spec : {M : Type 1} → statement M
+unfolding resultOf
+plan-bytes-spec =
+    tie.close
+    (tie.spec
+    (λ c. ready-none _ _ _ _ (λ z. omega (arith, z)))
+    (λ c κs. (omega arith, refl))
+    (λ c κs. (top-at (c .before .before .load .ensures .0) (c .before .before .load .ensures .1), c .before .before .before .before .before .before .pre))
+    (λ c κs. subst (λ (p : Plan). Small (p .outcome)) (sym (c .plan-of .ensures .0)) (plan-answers _ _ _))
+    (λ c. ready-plan _ _ _ _ (c .before .before .before .before .before .before .if1 .left) (c .before .plan-of .ensures .0 ∙ ap (λ (l : List ℕ). planOf (c .before .before .before .before .before .before .before .before .args .board) l (c .before .before .before .before .before .before .before .before .args .size)) (c .before .before .before .before .load .ensures .0)) (c .before .plan-of .ensures .1 ∙ ap (λ (l : List ℕ). marksIn (c .before .before .before .before .before .before .before .before .args .board) l (c .before .before .before .before .before .before .before .before .args .marks .now)) (c .before .before .before .before .load .ensures .0)) (c .answer-word .ensures)))
