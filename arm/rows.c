@@ -111,7 +111,7 @@ int main(void)
     row("clear out a child with two of its own, typical", call, ulavrepit_clear_out(1), 0);
     row("runs, typical", list_runs, 0, 0);
     row("no service (refused 2), typical", call, 0, 2);
-    start[sizeof start - 1] ^= 1;
+    start[LAST_ZERO_BYTE] ^= 1;
     row("find, typical with the last zero bit set (refused 1)", call, ulavrepit_find(0, 8000), 1);
 
     good = make_densest(&library, start) && good;

@@ -230,7 +230,7 @@ static void rows(void)
     table_rows(typical, 8000);
     undone_row("cut and merge, typical", ulavrepit_cut(10, 8000), ulavrepit_merge(10, 11));
     undone_row("give and take, typical", ulavrepit_give(1, 10, ULAVREPIT_READ), ulavrepit_take(10));
-    table[sizeof table - 1] ^= 1;
+    table[LAST_ZERO_BYTE] ^= 1;
     report(do_calls, &refused_table, WORDS);
 
     have_table(make_densest, "the densest table");

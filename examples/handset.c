@@ -1,8 +1,9 @@
 /*
  * A handset's firmware sets up its three parts with libulavrepit.a: a form store, a label reader and a
- * bought-in radio uploader, each with memory of its own. Then it makes the mistake that the kernel is
- * there for: a block that the store has is given to the uploader as well. At last it replaces the reader, which
- * has started a helper of its own by then: both go at once.
+ * bought-in radio uploader, which the store starts in its own memory. Then it makes the mistake that the kernel is
+ * there for: a block that the store has is given to the reader as well. The store lends the uploader a buffer
+ * whole, and so has it back whatever the uploader tries. At last the reader is replaced, which has started a helper
+ * of its own by then: both go at once.
  *
  *   make example     or     cc -Iinclude examples/handset.c build/libulavrepit.a
  */
@@ -21,7 +22,7 @@ static uint32_t call(const char *what, uint64_t word)
     return answer.first;
 }
 
-/* Cuts so many lines off the front of the root's largest block; answers their slot. The rest moves on. */
+/* Cuts so many lines off the front of the caller's largest block; answers their slot. The rest moves on. */
 static uint32_t carve(uint32_t *rest, uint32_t *rest_start, uint32_t lines)
 {
     uint32_t slot = *rest;
@@ -55,6 +56,28 @@ static void print_holders(uint32_t line)
         puts(" nobody: it is not the kernel's");
 }
 
+/* The store starts the uploader in its own memory, from its first line on, and lends it a buffer; what is left is the store's. */
+static void lend_buffer(uint32_t store, uint32_t first_line)
+{
+    uint32_t rest = 0, start = first_line, uploader = 3, read_write = ULAVREPIT_READ + ULAVREPIT_WRITE;
+    call("switch", ulavrepit_switch(store));
+    uint32_t given = add_part("uploader of the store", &rest, &start, 256, read_write);
+    uint32_t buffer = carve(&rest, &start, 64), line = start - 64;
+    uint32_t lent = call("give", ulavrepit_give_whole(uploader, buffer, read_write));
+    printf("the store lends it lines %u to %u whole\n", (unsigned)line, (unsigned)start);
+    print_holders(line);
+
+    call("switch", ulavrepit_switch(uploader));
+    call("the uploader cuts its own block", ulavrepit_cut(0, line - 128)); /* that is done */
+    call("the uploader cuts the buffer", ulavrepit_cut(lent, line + 32));
+    call("switch", ulavrepit_switch(store));
+    call("the store takes the uploader's own block", ulavrepit_take(given));
+    call("take", ulavrepit_take(buffer));
+    puts("the store takes the buffer back");
+    print_holders(line);
+    call("switch", ulavrepit_switch(0));
+}
+
 /* The reader starts a helper in its own memory, from its first line on: then it can't be deleted, but cleared out. */
 static void replace_reader(uint32_t reader, uint32_t first_line)
 {
@@ -82,20 +105,22 @@ int main(void)
     call("prepare", ulavrepit_prepare(0, carve(&rest, &start, ULAVREPIT_AREA_LINES)));
     uint32_t forms = add_part("store", &rest, &start, 1024, read_write);
     add_part("reader", &rest, &start, 128, ULAVREPIT_ALL_RIGHTS);
-    add_part("uploader", &rest, &start, 256, read_write);
 
     print_holders(400);
     print_holders(1400);
     print_holders(4096);
-    call("give the store's block to the uploader", ulavrepit_give(3, forms, read_write));
+    call("give the store's block to the reader", ulavrepit_give(2, forms, read_write));
     print_holders(400);
 
-    /* The right way: it comes back from the store first. */
+    /* The right way: it comes back from the store first, as it does as long as the store hasn't cut it. */
     call("take", ulavrepit_take(forms));
-    call("give", ulavrepit_give(3, forms, ULAVREPIT_READ));
-    puts("the store's block is taken back and given to the uploader, to read");
+    call("give", ulavrepit_give(2, forms, ULAVREPIT_READ));
+    puts("the store's block is taken back and given to the reader, to read");
     print_holders(400);
+    call("take", ulavrepit_take(forms));
+    call("give", ulavrepit_give(1, forms, read_write));
 
+    lend_buffer(1, 304);
     replace_reader(2, 1360);
     return 0;
 }

@@ -56,8 +56,8 @@ enum {
 enum {
     ULAVREPIT_DONE = 0,
     ULAVREPIT_REFUSED_TABLE = 1,          /* not 5,128 bytes, or not sound (boot: length only) */
-    ULAVREPIT_REFUSED_WORD = 2,           /* no such service, a zero bit set, a field that it doesn't use not 0;
-                                             service 9: R above 1, or R = 1 and S not 0 */
+    ULAVREPIT_REFUSED_WORD = 2,           /* no such service, a zero bit set, a field that it doesn't use not 0 (W is
+                                             give's alone); service 9: R above 1, or R = 1 and S not 0 */
     ULAVREPIT_REFUSED_PARTITION = 3,      /* P is not as the service says */
     ULAVREPIT_REFUSED_NO_ENTRY = 4,       /* slot S (merge: S or T) is no entry; structure T absent or above 3 */
     ULAVREPIT_REFUSED_NOT_OPEN = 5,       /* the entry serves the kernel */
@@ -73,6 +73,7 @@ enum {
     ULAVREPIT_REFUSED_IN_USE = 15,        /* P has a child; the structure has an entry, or is the root's first */
     ULAVREPIT_REFUSED_REGION = 16,        /* T above 7; S already in another region */
     ULAVREPIT_REFUSED_LIST = 17,          /* the list is too short */
+    ULAVREPIT_REFUSED_WHOLE = 18,         /* create, prepare, give, cut: the entry is lent whole */
     ULAVREPIT_REFUSED_ENGINE = 21         /* the line engine alone gives it, and no other number */
 };
 
@@ -191,7 +192,7 @@ static inline ulavrepit_answer ulavrepit_runs_answer(const uint8_t *table, uint6
     return ulavrepit_unpack_answer(ulavrepit_runs(table, table_len, list, list_len), 0);
 }
 
-/* ---- call words: service 4, P 4, S 5, T 5, R 3, L 27, zero 16 bits, most significant first ---- */
+/* ---- call words: service 4, P 4, S 5, T 5, R 3, L 27, W 1, zero 15 bits, most significant first ---- */
 
 /* What the packers answer for a field too wide: no call, refused with 2 by any sound table. */
 #define ULAVREPIT_NO_CALL UINT64_C(0xffffffffffffffff)
@@ -204,6 +205,9 @@ static inline uint64_t ulavrepit_word(uint32_t service, uint32_t partition, uint
     return (uint64_t)service << 60 | (uint64_t)partition << 56 | (uint64_t)slot << 51 | (uint64_t)other << 46 |
            (uint64_t)rights << 43 | (uint64_t)line << 16;
 }
+
+/* W: to be added to the word of a give. */
+enum { ULAVREPIT_WHOLE = 0x8000 };
 
 /* A new child, whose record lies in the caller's entry. First: the child's number. */
 static inline uint64_t ulavrepit_create(uint32_t slot)
@@ -235,7 +239,17 @@ static inline uint64_t ulavrepit_give(uint32_t child, uint32_t slot, uint32_t ri
     return ulavrepit_word(ULAVREPIT_GIVE, child, slot, 0, rights, 0);
 }
 
-/* A block that was given comes back, if the child has it whole, open and not given on. */
+/*
+ * The same, and the child's entry has the whole mark: it is found and loaded, but neither cut nor given on, and no child or
+ * structure is made of it. So taking it back is never refused 14. Lend whole what you must have back, such as a buffer; give
+ * what the child is to make its own.
+ */
+static inline uint64_t ulavrepit_give_whole(uint32_t child, uint32_t slot, uint32_t rights)
+{
+    return ulavrepit_give(child, slot, rights) | ULAVREPIT_WHOLE; /* no call stays no call */
+}
+
+/* A block that was given comes back, if the child has it in one piece, open and not given on. */
 static inline uint64_t ulavrepit_take(uint32_t slot)
 {
     return ulavrepit_word(ULAVREPIT_TAKE, 0, slot, 0, 0, 0);
@@ -300,6 +314,7 @@ typedef struct {
     uint32_t rights;        /* ULAVREPIT_READ + .. */
     uint32_t given;         /* the child that holds it too, or 0 */
     uint32_t start, end;
+    uint32_t whole; /* 0 or 1; lent whole by the parent */
 } ulavrepit_entry;
 
 static inline ulavrepit_entry ulavrepit_unpack_entry(uint64_t word)
@@ -311,6 +326,7 @@ static inline ulavrepit_entry ulavrepit_unpack_entry(uint64_t word)
     entry.given = (uint32_t)(word >> 55 & 15);
     entry.start = (uint32_t)(word >> 28 & ULAVREPIT_LAST_LINE);
     entry.end = (uint32_t)(word >> 1 & ULAVREPIT_LAST_LINE);
+    entry.whole = (uint32_t)(word & 1);
     return entry;
 }
 

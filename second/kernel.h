@@ -60,7 +60,7 @@ typedef struct {
     bool present, open;
     uint8_t rights;
     uint8_t given;
-    uint8_t zero;
+    bool whole; /* lent whole: found, loaded and taken back, and no more */
     uint32_t start, end;
 } second_slot;
 

@@ -39,7 +39,7 @@ static const field H_PRESENT = {0, 1}, H_PARENT = {1, 4}, H_START = {5, 27}, H_E
                    H_ZERO = {59, 5};
 static const field T_PRESENT = {0, 1}, T_START = {1, 27}, T_END = {28, 27}, T_ZERO = {55, 9};
 static const field E_PRESENT = {0, 1}, E_OPEN = {1, 1}, E_RIGHTS = {2, 3}, E_GIVEN = {5, 4},
-                   E_START = {9, 27}, E_END = {36, 27}, E_ZERO = {63, 1};
+                   E_START = {9, 27}, E_END = {36, 27}, E_WHOLE = {63, 1};
 
 static unsigned header_at(unsigned p) { return 1 + 40 * p; }
 static unsigned structure_at(unsigned p, unsigned i) { return 1 + 40 * p + 1 + i; }
@@ -84,6 +84,9 @@ static uint8_t *region_byte(uint8_t *table, unsigned p, unsigned r)
 
 /* ======================= Calls ======================= */
 
+/* W of a call word, give's alone. */
+#define WHOLE UINT64_C(0x8000)
+
 static uint64_t word_of(unsigned service, unsigned p, unsigned s, unsigned t, unsigned r, uint32_t l)
 {
     return (uint64_t)service << 60 | (uint64_t)p << 56 | (uint64_t)s << 51 | (uint64_t)t << 46 |
@@ -97,7 +100,7 @@ enum {
 };
 
 /* The fields that each service uses, by its number. */
-static const char *const used[SERVICES + 1] = {"", "S", "P", "PS", "PT", "PSR", "S", "SL", "ST", "PSTR",
+static const char *const used[SERVICES + 1] = {"", "S", "P", "PS", "PT", "PSRW", "S", "SL", "ST", "PSTR",
                                                "", "PT", "PL", "P", "P"};
 
 #define UNTOUCHED UINT64_C(0x5a5a5a5a5a5a5a5a)
@@ -408,17 +411,17 @@ static void test_refusal_1_and_2(void)
 
     good = true;
     for (unsigned service = 1; service <= SERVICES; service++)
-        for (unsigned bit = 0; bit < 16; bit++) {
+        for (unsigned bit = 0; bit < 15; bit++) {
             result a = call_word_on(table, word_of(service, 0, 0, 0, 0, 0) | UINT64_C(1) << bit);
             good = good && a.clean && a.refusal == 2 && a.caller == 1;
         }
     check(good, "a zero bit set in a call word: 2");
 
-    static const char letters[] = "PSTRL";
-    static const unsigned high[] = {60, 56, 51, 46, 43}, low[] = {56, 51, 46, 43, 16};
+    static const char letters[] = "PSTRLW";
+    static const unsigned high[] = {60, 56, 51, 46, 43, 16}, low[] = {56, 51, 46, 43, 16, 15};
     good = true;
     for (unsigned service = 1; service <= SERVICES; service++)
-        for (unsigned f = 0; f < 5; f++)
+        for (unsigned f = 0; f < 6; f++)
             for (unsigned bit = low[f]; bit < high[f]; bit++) {
                 uint8_t copy[SECOND_BYTES];
                 memcpy(copy, table, SECOND_BYTES);
@@ -637,6 +640,71 @@ static void test_give_take_cut_merge(void)
     check(is_refused(MERGE, 0, 2, 1, 0, 0, 12) && is_done(MERGE, 0, 0, 2, 0, 0, 0, 0) &&
               get(table, slot_at(1, 0), E_RIGHTS) == 4 && get(table, slot_at(1, 1), E_RIGHTS) == 6,
           "pieces of two grants may differ: 12; those of one have equal rights, and so has the whole");
+}
+
+/* The session's X, but for the last give: that one lends slot 3 whole. */
+static bool make_lent(void)
+{
+    make_b();
+    for (unsigned i = 1; i < 6; i++)
+        call_word_on(table, session[i]);
+    result a = call_word_on(table, session[6] | WHOLE);
+    return a.clean && a.refusal == 0 && a.first == 0 && a.second == 0 && second_unsound(table, SECOND_BYTES) == 0;
+}
+
+static void test_lending_whole(void)
+{
+    check(make_lent() && get_word(table, slot_at(1, 0)) == UINT64_C(0xf000001200000401) &&
+              get_word(table, slot_at(0, 3)) == UINT64_C(0xf880001200000400),
+          "give with W: the mark is in the child's entry, and not in the caller's");
+    check(is_done(FIND, 1, 0, 0, 0, 300, 0, UINT64_C(0xf000001200000401)) && goes(LOAD, 1, 0, 2, 0, 0) &&
+              is_done(READ, 1, 0, 2, 0, 0, 0, UINT64_C(0xf000001200000401)) && goes(LOAD, 1, 0, 2, 1, 0),
+          "a whole entry is found, loaded, read and unloaded, with its mark");
+    check(goes(SWITCH, 1, 0, 0, 0, 0) && is_refused(CUT, 0, 0, 0, 0, 400, 18) &&
+              is_refused(CREATE, 0, 0, 0, 0, 0, 18) && is_refused(PREPARE, 1, 0, 0, 0, 0, 18),
+          "cut, create and prepare of a whole entry: 18");
+    check(is_refused(CUT, 0, 0, 0, 0, 288, 7) && is_refused(CUT, 0, 0, 0, 0, 512, 7) &&
+              is_refused(CUT, 0, 1, 0, 0, 400, 4) && is_refused(MERGE, 0, 0, 0, 0, 0, 11),
+          "cut of it where there is no line: 7; merge: never 18");
+    check(goes(SWITCH, 0, 0, 0, 0, 0) && is_done(TAKE, 0, 3, 0, 0, 0, 0, 0) && get_word(table, slot_at(1, 0)) == 0 &&
+              get_word(table, slot_at(0, 3)) == UINT64_C(0xf800001200000400),
+          "take of a block lent whole: done, and the mark is gone");
+    check(is_done(GIVE, 1, 3, 0, 6, 0, 0, 0) && get_word(table, slot_at(1, 0)) == UINT64_C(0xf000001200000400),
+          "given again without W, it has no mark");
+
+    /* 1 has a child 2 with a structure, from slots 0 and 1; slots 3, of 10 lines, and 4 are lent to 1 whole. */
+    make_x();
+    bool good = goes(SWITCH, 1, 0, 0, 0, 0) && goes(CUT, 0, 0, 0, 0, 304) && goes(CUT, 0, 1, 0, 0, 320) &&
+                goes(CREATE, 0, 0, 0, 0, 0) && goes(PREPARE, 2, 1, 0, 0, 0) && goes(SWITCH, 0, 0, 0, 0, 0) &&
+                goes(CUT, 0, 1, 0, 0, 522);
+    good = good && call_word_on(table, word_of(GIVE, 1, 1, 0, 6, 0) | WHOLE).first == 3 &&
+           call_word_on(table, word_of(GIVE, 1, 4, 0, 6, 0) | WHOLE).first == 4 && goes(SWITCH, 1, 0, 0, 0, 0);
+    check(good && is_refused(CREATE, 0, 3, 0, 0, 0, 9) && is_refused(PREPARE, 2, 3, 0, 0, 0, 9) &&
+              is_refused(PREPARE, 0, 4, 0, 0, 0, 3) && is_refused(CREATE, 0, 4, 0, 0, 0, 18) &&
+              is_refused(PREPARE, 2, 4, 0, 0, 0, 18),
+          "create and prepare: 9 and 3 before 18");
+    check(is_refused(GIVE, 2, 4, 0, 7, 0, 10) && is_refused(GIVE, 0, 4, 0, 4, 0, 3) && is_refused(GIVE, 2, 4, 0, 4, 0, 18) &&
+              call_word_on(table, word_of(GIVE, 2, 4, 0, 4, 0) | WHOLE).refusal == 18,
+          "give of a whole entry: 18, with W too, after 3 and 10");
+    check(is_refused(MERGE, 0, 2, 3, 0, 0, 12) && is_refused(MERGE, 0, 3, 4, 0, 0, 12) &&
+              is_refused(MERGE, 0, 4, 3, 0, 0, 11),
+          "merge with a whole entry: 12 or 11");
+    good = true;
+    for (unsigned i = 5; i < 8; i++)
+        good = good && is_done(CUT, 0, 2, 0, 0, 500 - i, i, 0);
+    check(good && is_refused(CUT, 0, 4, 0, 0, 600, 8), "cut of a whole entry without a free slot: 8");
+    check(goes(SWITCH, 0, 0, 0, 0, 0) && is_refused(TAKE, 0, 3, 0, 0, 0, 14) && is_done(TAKE, 0, 4, 0, 0, 0, 0, 0) &&
+              is_done(TAKE, 0, 1, 0, 0, 0, 0, 0) && is_done(CLEAR_OUT, 1, 0, 0, 0, 0, 2, 0),
+          "what was lent whole comes back whatever the child did, what was given need not");
+    check(make_lent() && is_done(DELETE, 1, 0, 0, 0, 0, 0, 0) && get_word(table, slot_at(0, 3)) == UINT64_C(0xf800001200000400),
+          "delete takes back what was lent whole");
+
+    good = make_lent();
+    for (unsigned service = 0; service < 16; service++) {
+        result a = call_word_on(table, word_of(service, service == GIVE ? 9 : 0, 0, 0, 0, 0) | WHOLE);
+        good = good && a.clean && a.refusal == (service == GIVE ? 3 : 2);
+    }
+    check(good && call_word_on(table, word_of(TAKE, 0, 3, 0, 0, 0) | WHOLE).refusal == 2, "W set for another service than give: 2");
 }
 
 /* Service 9 takes both: R = 0 loads, R = 1 with S = 0 unloads. */
@@ -932,9 +1000,6 @@ static void test_clauses(void)
     clause(3, structure_at(1, 3), T_ZERO, 1, "S3: zero bit of an absent structure");
     clause_word(3, header_at(1) + 6, 1, "S3: word 6");
     clause_word(3, header_at(1) + 7, UINT64_C(1) << 63, "S3: word 7");
-    clause(3, slot_at(1, 0), E_ZERO, 1, "S3: zero bit of an entry");
-    clause(3, slot_at(1, 4), E_ZERO, 1, "S3: a lone last bit in an empty slot");
-    clause(3, slot_at(1, 31), E_ZERO, 1, "S3: a lone last bit in a slot of an absent structure");
     clause_word(3, regions_at(1), UINT64_C(0x000000c300000000), "S3: first zero bit of a region");
     clause_word(3, regions_at(1), UINT64_C(0x000000a300000000), "S3: second zero bit of a region");
     clause_word(3, regions_at(1), UINT64_C(0x0000000300000000), "S3: a slot in a region not loaded");
@@ -958,6 +1023,8 @@ static void test_clauses(void)
     clause(5, slot_at(1, 5), E_GIVEN, 2, "S5: given in an empty slot");
     clause(5, slot_at(1, 5), E_START, 1, "S5: start in an empty slot");
     clause(5, slot_at(1, 5), E_END, 1, "S5: end in an empty slot");
+    clause(5, slot_at(1, 5), E_WHOLE, 1, "S5: a lone last bit in an empty slot");
+    clause(5, slot_at(1, 31), E_WHOLE, 1, "S5: a lone last bit in a slot of an absent structure");
     clause(6, slot_at(1, 3), E_START, 399, "S6: one line in two entries");
     clause(6, slot_at(0, 2), E_END, 1024, "S6: an entry over all others");
     clause(7, 0, BASE, 255, "S7: root's entries begin after base");
@@ -974,6 +1041,11 @@ static void test_clauses(void)
     clause(7, slot_at(1, 3), E_END, 513, "S7: the child's entries end after the grant");
     clause(7, slot_at(1, 3), E_START, 401, "S7: a gap in the child");
     clause(7, slot_at(2, 0), E_START, 319, "S7: the grandchild's entry is not inside");
+    clause(7, slot_at(1, 3), E_WHOLE, 1, "S7: a piece of a grant is whole");
+    clause(7, slot_at(1, 2), E_WHOLE, 1, "S7: a piece of a grant that is given on is whole");
+    clause(7, slot_at(0, 1), E_WHOLE, 1, "S7: an entry of the root is whole");
+    clause(7, slot_at(0, 3), E_WHOLE, 1, "S7: a given entry of the root is whole");
+    clause(0, slot_at(2, 0), E_WHOLE, 1, "sound with a whole entry that equals its grant");
     clause(8, header_at(1), H_START, 255, "S8: header area longer than the entry");
     clause(8, header_at(1), H_END, 273, "S8: header area not an entry");
     clause(8, structure_at(2, 0), T_END, 321, "S8: structure area not an entry");
@@ -991,9 +1063,39 @@ static void test_clauses(void)
     clause(11, slot_at(2, 0), E_RIGHTS, 3, "S11: a right that the parent's entry around it lacks");
     clause(0, slot_at(2, 0), E_RIGHTS, 6, "sound with all rights of the parent's entry");
 
+    /* A whole entry that equals its grant, but is closed, given on, or open by its bit alone. */
+    make_x();
+    bool good = goes(SWITCH, 1, 0, 0, 0, 0) && goes(PREPARE, 1, 0, 0, 0, 0);
+    set(table, slot_at(1, 0), E_WHOLE, 1);
+    check(good && second_unsound(table, SECOND_BYTES) == 7, "S7: a whole entry is closed");
+    set(table, slot_at(1, 0), E_OPEN, 1);
+    check(second_unsound(table, SECOND_BYTES) == 9, "S9: a whole entry over an area, with its open bit set");
+    make_y();
+    set(table, header_at(2), H_PARENT, 0); /* 2 is the root's, and has nothing */
+    set(table, header_at(2), H_START, 512);
+    set(table, header_at(2), H_END, 1000);
+    set_word(table, slot_at(2, 0), 0);
+    set(table, slot_at(1, 2), E_GIVEN, 0);
+    set_word(table, structure_at(2, 0), 0);
+    set(table, slot_at(0, 1), E_OPEN, 0);
+    for (unsigned s = 0; s < 2; s++)
+        set(table, slot_at(1, s), E_OPEN, 1);
+    set(table, slot_at(0, 3), E_OPEN, 1);
+    set_word(table, regions_at(0), UINT64_C(0x0084000000000000));
+    good = second_unsound(table, SECOND_BYTES) == 0;
+    check(good, "two children of the root, the one with pieces: sound");
+    for (unsigned s = 1; s < 4; s++)
+        set_word(table, slot_at(1, s), 0);
+    set_word(table, regions_at(1), 0);
+    set(table, slot_at(1, 0), E_END, 512);
+    set(table, slot_at(1, 0), E_WHOLE, 1);
+    check(second_unsound(table, SECOND_BYTES) == 0, "a whole entry beside a sibling: sound");
+    set(table, slot_at(1, 0), E_GIVEN, 2);
+    check(second_unsound(table, SECOND_BYTES) == 7, "S7: a whole entry is given");
+
     /* Two grants side by side, one entry of the child over both. */
     make_x();
-    bool good = goes(GIVE, 1, 1, 0, 6, 0);
+    good = goes(GIVE, 1, 1, 0, 6, 0);
     set_word(table, slot_at(1, 1), 0);
     set(table, slot_at(1, 0), E_END, 1024);
     check(good && second_unsound(table, SECOND_BYTES) == 7, "S7: a child's entry over two grants");
@@ -1034,6 +1136,7 @@ static unsigned m_given(const uint8_t *t, unsigned p, unsigned s) { return get(t
 static unsigned m_rights(const uint8_t *t, unsigned p, unsigned s) { return get(t, slot_at(p, s), E_RIGHTS); }
 static uint32_t m_start(const uint8_t *t, unsigned p, unsigned s) { return get(t, slot_at(p, s), E_START); }
 static uint32_t m_end(const uint8_t *t, unsigned p, unsigned s) { return get(t, slot_at(p, s), E_END); }
+static bool m_whole(const uint8_t *t, unsigned p, unsigned s) { return get(t, slot_at(p, s), E_WHOLE) == 1; }
 static unsigned m_region(const uint8_t *t, unsigned p, unsigned r) { return t[8 * regions_at(p) + r]; }
 
 static bool m_child(const uint8_t *t, unsigned p, unsigned of)
@@ -1110,6 +1213,14 @@ static unsigned m_around(const uint8_t *t, unsigned p, uint32_t start, uint32_t 
     return s;
 }
 
+/* The entry has the very lines that p's parent gave it in one entry. */
+static bool m_is_grant(const uint8_t *t, unsigned p, unsigned s)
+{
+    unsigned around = p == 0 ? 32 : m_around(t, p, m_start(t, p, s), m_end(t, p, s));
+    return around < 32 && m_end(t, m_parent(t, p), around) - m_start(t, m_parent(t, p), around) ==
+                              m_end(t, p, s) - m_start(t, p, s);
+}
+
 /* The number of the lowest clause that fails, or 0; -2 where the numbers are too large to tell. */
 static int m_unsound(const uint8_t *t)
 {
@@ -1150,9 +1261,6 @@ static int m_unsound(const uint8_t *t)
                 return 3;
         for (unsigned r = 0; r < 8; r++)
             if ((m_region(t, p, r) & 0x60) != 0 || (m_region(t, p, r) < 0x80 && m_region(t, p, r) != 0))
-                return 3;
-        for (unsigned s = 0; s < 32; s++)
-            if (get(t, slot_at(p, s), E_ZERO) != 0)
                 return 3;
     }
 
@@ -1196,6 +1304,8 @@ static int m_unsound(const uint8_t *t)
             if (m_given(t, p, s) != 0 && !m_child(t, m_given(t, p, s), p))
                 return 7;
             if (p != 0 && m_entry(t, p, s) && m_around(t, p, m_start(t, p, s), m_end(t, p, s)) == 32)
+                return 7;
+            if (m_whole(t, p, s) && (!m_open(t, p, s) || m_given(t, p, s) != 0 || !m_is_grant(t, p, s)))
                 return 7;
         }
         if (p == 0 || !m_present(t, p))
@@ -1262,13 +1372,14 @@ static int m_unsound(const uint8_t *t)
 }
 
 typedef struct {
-    unsigned service, p, s, t, r, l;
+    unsigned service, p, s, t, r, l, w;
 } fields;
 
 static fields fields_of(uint64_t w)
 {
     fields f = {(unsigned)(w >> 60), (unsigned)(w >> 56 & 15), (unsigned)(w >> 51 & 31),
-                (unsigned)(w >> 46 & 31), (unsigned)(w >> 43 & 7), (unsigned)(w >> 16 & 0x7ffffff)};
+                (unsigned)(w >> 46 & 31), (unsigned)(w >> 43 & 7), (unsigned)(w >> 16 & 0x7ffffff),
+                (unsigned)(w >> 15 & 1)};
     return f;
 }
 
@@ -1283,8 +1394,8 @@ static fields called(uint64_t w)
 
 /* The checks of each, ended by 0. */
 static const unsigned char checks[SERVICES + 1][8] = {
-    {0}, {4, 5, 6, 8, 9}, {3, 15}, {3, 4, 5, 6, 8, 9}, {3, 4, 15}, {3, 4, 5, 6, 8, 10}, {4, 6, 14},
-    {4, 5, 6, 7, 8}, {4, 5, 6, 11, 12}, {3, 4, 5, 16}, {3, 16}, {3, 16}, {3, 7}, {3}, {3}};
+    {0}, {4, 5, 6, 8, 9, 18}, {3, 15}, {3, 4, 5, 6, 8, 9, 18}, {3, 4, 15}, {3, 4, 5, 6, 8, 10, 18}, {4, 6, 14},
+    {4, 5, 6, 7, 8, 18}, {4, 5, 6, 11, 12}, {3, 4, 5, 16}, {3, 16}, {3, 16}, {3, 7}, {3}, {3}};
 
 static unsigned m_free(const uint8_t *t, unsigned p)
 {
@@ -1370,6 +1481,8 @@ static bool m_applies(const uint8_t *t, fields f, unsigned number)
         for (unsigned r = 0; r < 8; r++)
             n += f.service == LOAD && r != f.t && m_region(t, f.p, r) == (0x80 | f.s);
         return n != 0;
+    case 18:
+        return m_whole(t, c, f.s);
     default:
         return false;
     }
@@ -1434,7 +1547,7 @@ static void m_effect(uint8_t *t, fields f, uint32_t *first, uint64_t *second)
         break;
     case GIVE:
         n = m_free(t, f.p);
-        set_word(t, slot_at(f.p, n), m_entry_word(f.r, start, end));
+        set_word(t, slot_at(f.p, n), m_entry_word(f.r, start, end) + f.w);
         set(t, slot_at(c, f.s), E_GIVEN, f.p);
         *first = n;
         break;
@@ -1496,13 +1609,13 @@ static void m_settle(uint8_t *t)
 static unsigned m_refusal(const uint8_t *t, uint64_t word)
 {
     fields f = fields_of(word);
-    if (f.service < 1 || f.service == 10 || f.service > SERVICES || (word & 0xffff) != 0 ||
+    if (f.service < 1 || f.service == 10 || f.service > SERVICES || (word & 0x7fff) != 0 ||
         (f.service == LOAD && (f.r > 1 || (f.r == 1 && f.s != 0))) ||
         (f.p != 0 && strchr(used[f.service], 'P') == NULL) ||
         (f.s != 0 && strchr(used[f.service], 'S') == NULL) ||
         (f.t != 0 && strchr(used[f.service], 'T') == NULL) ||
         (f.r != 0 && strchr(used[f.service], 'R') == NULL) ||
-        (f.l != 0 && strchr(used[f.service], 'L') == NULL))
+        (f.l != 0 && strchr(used[f.service], 'L') == NULL) || (f.w != 0 && strchr(used[f.service], 'W') == NULL))
         return 2;
     f = called(word);
     for (unsigned i = 0; checks[f.service][i] != 0; i++)
@@ -1524,7 +1637,7 @@ static result m_call(uint8_t *t, uint64_t word)
 
 /* ---- what is generated ---- */
 
-static uint64_t seed = UINT64_C(0x9e3779b97f4a7c13);
+static uint64_t seed = UINT64_C(0x9e3779b97f4a7c15);
 
 static uint64_t random_word(void)
 {
@@ -1553,6 +1666,24 @@ static unsigned some_entry(const uint8_t *t, unsigned p)
     return (s + tries) % 32;
 }
 
+/* Some entry that is whole, or some slot. */
+static unsigned some_whole(const uint8_t *t, unsigned p)
+{
+    unsigned s = below(32), tries = 0;
+    while (tries < 32 && !m_whole(t, p, (s + tries) % 32))
+        tries++;
+    return (s + tries) % 32;
+}
+
+/* It has an entry with which more can be done than to load it. */
+static bool has_something(const uint8_t *t, unsigned p)
+{
+    for (unsigned s = 0; s < 32; s++)
+        if (m_entry(t, p, s) && !m_whole(t, p, s))
+            return true;
+    return false;
+}
+
 static unsigned some_relative(const uint8_t *t, unsigned c)
 {
     unsigned p = below(16), tries = 0;
@@ -1565,14 +1696,14 @@ static unsigned some_relative(const uint8_t *t, unsigned c)
     return (p + tries) % 16;
 }
 
-/* The shortest or longest open, not given entry of 16 lines or more; some slot if there is none. */
+/* The shortest or longest open entry, not given and not whole, of 16 lines or more; some slot if there is none. */
 static unsigned fit_entry(const uint8_t *t, unsigned p, bool shortest)
 {
     unsigned found = 32;
     uint32_t length = 0;
     for (unsigned s = 0; s < 32; s++) {
         uint32_t n = m_end(t, p, s) - m_start(t, p, s);
-        if (!m_entry(t, p, s) || !m_open(t, p, s) || m_given(t, p, s) != 0 || n < 16)
+        if (!m_entry(t, p, s) || !m_open(t, p, s) || m_given(t, p, s) != 0 || m_whole(t, p, s) || n < 16)
             continue;
         if (found == 32 || (shortest ? n < length : n > length)) {
             found = s;
@@ -1593,20 +1724,23 @@ static uint64_t one_word(const uint8_t *t, const unsigned char weights[SERVICES 
         pick -= weights[service++];
 
     unsigned p = chance(90) ? some_relative(t, c) : below(16);
-    if (c != 0 && !m_entry(t, c, some_entry(t, c)) && chance(50))
+    if (c != 0 && !has_something(t, c) && chance(50))
         return word_of(SWITCH, m_parent(t, c), 0, 0, 0, 0);
-    if (service == SWITCH && m_child(t, p, c) && !m_entry(t, p, some_entry(t, p)) && chance(80))
+    if (service == SWITCH && m_child(t, p, c) && !has_something(t, p) && chance(80))
         service = m_free(t, p) < 32 ? GIVE : PREPARE;
     unsigned of = service == LOAD ? p : c;
     unsigned s = chance(90) ? some_entry(t, of) : below(32);
     unsigned u = 0, r = 0;
     uint32_t l = 0;
+    uint64_t w = 0;
     switch (service) {
     case CREATE:
     case PREPARE:
         if (chance(90))
             s = fit_entry(t, c, true);
-        if (m_end(t, c, s) - m_start(t, c, s) > 40 && chance(95)) { /* not all of it */
+        else if (chance(50))
+            s = some_whole(t, c);
+        if (!m_whole(t, c, s) && m_end(t, c, s) - m_start(t, c, s) > 40 && chance(95)) { /* not all of it */
             service = CUT;
             l = m_start(t, c, s) + 16 + below(3);
         }
@@ -1618,6 +1752,7 @@ static uint64_t one_word(const uint8_t *t, const unsigned char weights[SERVICES 
         if (chance(60))
             s = fit_entry(t, c, false);
         r = chance(80) ? m_rights(t, c, s) & (below(8) | below(8)) : below(8);
+        w = chance(weights[SWITCH] > 10 ? 3 : 15) ? WHOLE : 0; /* seldom where chains are to grow */
         break;
     case CUT:
         if (chance(30))
@@ -1645,7 +1780,7 @@ static uint64_t one_word(const uint8_t *t, const unsigned char weights[SERVICES 
     bool has_p = checks[service][0] == 3, has_s = service != DELETE && service != COLLECT && service < UNLOAD;
     if (service == UNLOAD)
         return word_of(LOAD, p, 0, u, 1, 0);
-    return word_of(service, has_p ? p : 0, has_s ? s : 0, u, r, l & 0x7ffffff);
+    return word_of(service, has_p ? p : 0, has_s ? s : 0, u, r, l & 0x7ffffff) | w;
 }
 
 /* Mostly one that the model accepts, if there is one among five; at times a broken one. */
@@ -1659,7 +1794,7 @@ static uint64_t likely_word(const uint8_t *t, const unsigned char weights[SERVIC
     return word;
 }
 
-static unsigned long met[SERVICES + 1][18], accepted;
+static unsigned long met[SERVICES + 1][19], accepted;
 static uint32_t most_removed; /* by one clear out */
 
 /* Calls the program and the model, and compares everything. */
@@ -1729,7 +1864,7 @@ static void damage(uint8_t *t)
     uint64_t w;
     if (chance(50))
         p = 0;
-    switch (below(24)) {
+    switch (below(25)) {
     case 0: t[below(SECOND_BYTES)] ^= (uint8_t)(1u << below(8)); break;
     case 1: t[8 * header_at(p) + below(8 * 40)] ^= (uint8_t)(1u << below(8)); break;
     case 2: set_word(t, below(SECOND_WORDS), random_word()); break;
@@ -1777,6 +1912,7 @@ static void damage(uint8_t *t)
                         set(t, slot_at(q, s), E_RIGHTS, m_rights(t, q, s) & left);
             }
         break;
+    case 24: set(t, slot_at(p, s), E_WHOLE, 1); break;
     }
 }
 
@@ -1794,7 +1930,7 @@ static void test_generated(void)
          good_damaged = true, good_noise = true;
     unsigned deepest = 0;
 
-    for (unsigned round = 0; round < 80; round++) {
+    for (unsigned round = 0; round < 160; round++) {
         uint32_t base = chance(20) ? 0 : below(100);
         boot_to(base, chance(20) ? base + 1 + below(200) : base + 500 + below(LINES - 100 - 500));
         for (unsigned i = 0; i < 400; i++) {
@@ -1939,6 +2075,7 @@ int main(void)
     test_full();
     test_prepare_and_collect();
     test_give_take_cut_merge();
+    test_lending_whole();
     test_one_service_for_a_region();
     test_regions_find_switch();
     test_clear_out_refusals();

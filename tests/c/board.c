@@ -318,6 +318,47 @@ static void test_rights(void)
     check(refused(ulavrepit_find(1, 400), 1), "refused 1: entries inside one grant whose rights differ");
 }
 
+/* ---- lending whole ---- */
+
+/* X but for its give, which lends slot 3 whole. */
+static bool make_lent(void)
+{
+    bool good = make_b();
+    for (unsigned i = 0; i < 5; i++)
+        good = done(session[i].word, session[i].first, 0) && good;
+    return good && done(UINT64_C(0x5118300000008000), 0, 0);
+}
+
+static void test_whole(void)
+{
+    check(make_lent() && table_word(now.table, slot_at(1, 0)) == UINT64_C(0xf000001200000401) &&
+              table_word(now.table, slot_at(0, 3)) == UINT64_C(0xf880001200000400),
+          "a block lent whole: the mark is in the child's entry alone");
+    check(done(ulavrepit_find(1, 300), 0, UINT64_C(0xf000001200000401)) && done(ulavrepit_load(1, 0, 5), 0, 0) &&
+              done(ulavrepit_read_region(1, 5), 0, UINT64_C(0xf000001200000401)) && done(ulavrepit_unload(1, 5), 0, 0),
+          "it is found, loaded and unloaded, and find and read region show the mark");
+    check(done(ulavrepit_switch(1), 0, 0) && refused(ulavrepit_cut(0, 400), 18) && refused(ulavrepit_create(0), 18) &&
+              refused(ulavrepit_prepare(1, 0), 18) && refused(ulavrepit_cut(0, 512), 7) && refused(ulavrepit_merge(0, 0), 11),
+          "refused 18: cut, create and prepare of it, after their other numbers");
+    check(done(ulavrepit_switch(0), 0, 0) && done(ulavrepit_take(3), 0, 0) &&
+              table_word(now.table, slot_at(1, 0)) == 0 && done(ulavrepit_find(0, 300), 3, UINT64_C(0xf800001200000400)),
+          "it is taken back");
+    bool good = make_x() && done(ulavrepit_cut(1, 768), 4, 0) && done(ulavrepit_give_whole(1, 1, ULAVREPIT_READ), 1, 0) &&
+                done(ulavrepit_switch(1), 0, 0) && done(ulavrepit_cut(0, 304), 2, 0) && done(ulavrepit_cut(2, 320), 3, 0) &&
+                done(ulavrepit_create(0), 2, 0) && done(ulavrepit_prepare(2, 2), 0, 0);
+    check(good && refused(ulavrepit_give(2, 1, ULAVREPIT_WRITE), 10) && refused(ulavrepit_give(2, 1, ULAVREPIT_READ), 18) &&
+              refused(ulavrepit_give_whole(2, 1, ULAVREPIT_READ), 18) && refused(ulavrepit_merge(3, 1), 12),
+          "refused 18: give of it, whole or not, after 10; merge never meets it");
+    check(done(ulavrepit_switch(0), 0, 0) && refused(ulavrepit_take(3), 14) && done(ulavrepit_take(1), 0, 0),
+          "whatever the child did with the rest");
+    good = make_lent();
+    for (uint32_t service = 0; service < 16; service++)
+        good = refused(ulavrepit_word(service, 0, 0, 0, 0, 0) | ULAVREPIT_WHOLE, service == ULAVREPIT_GIVE ? 3 : 2) && good;
+    check(good && refused(ulavrepit_take(3) | ULAVREPIT_WHOLE, 2), "refused 2: W set for another service than give");
+    now.table[8 * slot_at(0, 1) + 7] ^= 1; /* the mark of an entry of the root's */
+    check(refused(ulavrepit_find(0, 300), 1), "refused 1: a whole entry that nobody gave");
+}
+
 static void test_caller(void)
 {
     check(make_x() && done(ulavrepit_switch(1), 0, 0) && current_of(now.table) == 1 &&
@@ -440,6 +481,9 @@ static void test_packing(void)
         good = good && packed[i] == session[i].word;
     check(good, "the packers make the session's words");
     check(ulavrepit_word(15, 15, 31, 31, 7, 134217727) == UINT64_C(0xffffffffffff0000), "the widest fields fit");
+    check(ulavrepit_give_whole(1, 3, ULAVREPIT_READ + ULAVREPIT_WRITE) == UINT64_C(0x5118300000008000) &&
+              ulavrepit_give_whole(16, 3, 0) == ULAVREPIT_NO_CALL,
+          "the packer of a give with W");
     check(ulavrepit_delete(1) == UINT64_C(0x2100000000000000) && ulavrepit_collect(1, 3) == UINT64_C(0x4100c00000000000) &&
               ulavrepit_take(3) == UINT64_C(0x6018000000000000) && ulavrepit_merge(1, 2) == UINT64_C(0x8008800000000000) &&
               ulavrepit_load(1, 2, 3) == UINT64_C(0x9110c00000000000) && ulavrepit_unload(1, 3) == UINT64_C(0x9100c80000000000) &&
@@ -458,12 +502,14 @@ static void test_unpacking(void)
 {
     ulavrepit_entry entry = ulavrepit_unpack_entry(UINT64_C(0xf100001400000400));
     check(entry.present == 1 && entry.open == 1 && entry.rights == ULAVREPIT_READ + ULAVREPIT_WRITE &&
-              entry.given == 2 && entry.start == 320 && entry.end == 512,
+              entry.given == 2 && entry.start == 320 && entry.end == 512 && entry.whole == 0,
           "the fields of an entry word");
     entry = ulavrepit_unpack_entry(UINT64_C(1) << 62 | UINT64_C(1) << 59 | UINT64_C(8) << 55 | UINT64_C(1) << 54 | 2);
     check(entry.present == 0 && entry.open == 1 && entry.rights == ULAVREPIT_EXECUTE && entry.given == 8 &&
-              entry.start == 1u << 26 && entry.end == 1,
+              entry.start == 1u << 26 && entry.end == 1 && entry.whole == 0,
           "each field of an entry word ends where the next begins");
+    entry = ulavrepit_unpack_entry(1);
+    check(entry.present == 0 && entry.end == 0 && entry.whole == 1, "the last bit of an entry word is the whole mark");
     make_b();
     ulavrepit_answer answer = ulavrepit_call_answer(now.table, sizeof now.table, ulavrepit_find(0, 300));
     check(answer.refusal == 0 && answer.first == 0 && answer.second == UINT64_C(0xf800001000000800),
@@ -486,6 +532,7 @@ int main(void)
     test_runs();
     test_refusals();
     test_rights();
+    test_whole();
     test_caller();
     test_regions();
     test_clear_out();

@@ -27,12 +27,14 @@ static bool same_so_far = true;
 static unsigned long calls, accepted, damaged, odd, listings, boots;
 static unsigned long most_runs, short_lists;
 static uint64_t most_looked; /* by one listing of holders */
-static unsigned long cells[LAST_SERVICE + 1][18]; /* by service, or unload, and refusal number */
+static unsigned long cells[LAST_SERVICE + 1][LAST_REFUSAL + 1]; /* by service, or unload, and refusal number */
 static unsigned long missed[REGION_MISSES];       /* refused with 2, by what was wrong */
 static unsigned long cleared[SECOND_PARTITIONS];  /* clear outs, by the number of partitions removed */
 static unsigned long alone[CLAUSES + 1];
+static unsigned long mismarked[MISMARKS];       /* S7 failed alone, by what is wrong with a whole entry */
 static unsigned long unlike[SECOND_PARTITIONS]; /* S11 failed alone, by who has unlike rights inside one grant */
 static unsigned long unsound_sessions, unsound_odd;
+static unsigned long lent_whole, taken_whole, kept_whole; /* blocks lent whole, those taken back, and takes refused 14 */
 static unsigned deepest;
 
 /* ---- one call of each ---- */
@@ -164,9 +166,34 @@ static void read_state(void)
             deepest = depth_in(&state, p);
 }
 
+/* The child has a whole entry of the very lines of the caller's entry. */
+static bool is_lent_whole(const second_slot *e)
+{
+    for (uint8_t i = 0; e->given != 0 && i < SECOND_SLOTS; i++) {
+        const second_slot *lent = &state.partitions[e->given].slots[i];
+        if (lent->whole && lent->start == e->start && lent->end == e->end)
+            return true;
+    }
+    return false;
+}
+
+/* What is lent whole comes back: document 02, request 104. The table is the one before the call. */
+static void note_lending(uint64_t word, unsigned refusal)
+{
+    const second_slot *e = &state.partitions[state.current].slots[word >> 51 & 31];
+    if (word >> 60 == ULAVREPIT_GIVE && (word & ULAVREPIT_WHOLE) != 0)
+        lent_whole += refusal == 0;
+    if (word >> 60 != ULAVREPIT_TAKE || !is_lent_whole(e))
+        return;
+    taken_whole += refusal == 0;
+    kept_whole += refusal == ULAVREPIT_REFUSED_IN_PIECES;
+}
+
 static void step(mood m)
 {
-    unsigned refusal = call_both(next_word(theirs.table, &state, m, &chance));
+    uint64_t word = next_word(theirs.table, &state, m, &chance);
+    unsigned refusal = call_both(word);
+    note_lending(word, refusal);
     calls++;
     accepted += refusal == 0;
     unsound_sessions += refusal == 1;
@@ -225,6 +252,7 @@ static void take_damaged_table(mood m)
     damaged += second_unsound(table, sizeof table) != 0;
     uint8_t failing = only_failing(table);
     alone[failing]++;
+    mismarked[failing == 7 ? mismarked_in(table) : ALL_ALLOWED]++;
     unlike[failing == 11 ? unlike_in(table) : 0]++;
     hand_over(table);
     call_both(next_word(theirs.table, &state, m, &chance));
@@ -295,12 +323,12 @@ static const char *const names[LAST_SERVICE + 1] = {"", "create", "delete", "pre
 
 static void print_cells(void)
 {
-    printf("# calls by service and answer: 0 done, 1 to 16 refused\n#            ");
-    for (unsigned refusal = 0; refusal < 17; refusal++)
+    printf("# calls by service and answer: 0 done, 1 to %u refused\n#            ", (unsigned)LAST_REFUSAL);
+    for (unsigned refusal = 0; refusal <= LAST_REFUSAL; refusal++)
         printf("%7u", refusal);
     for (unsigned service = 1; service <= LAST_SERVICE; service++) {
         printf("\n# %-11s", names[service]);
-        for (unsigned refusal = 0; refusal < 17; refusal++)
+        for (unsigned refusal = 0; refusal <= LAST_REFUSAL; refusal++)
             printf("%7lu", cells[service][refusal]);
     }
     printf("\n# clear outs by the number of partitions removed:");
@@ -311,11 +339,14 @@ static void print_cells(void)
     printf("\n# tables in which one clause failed alone:");
     for (unsigned clause = 1; clause <= CLAUSES; clause++)
         printf(" S%u %lu%s", clause, alone[clause], clause < CLAUSES ? "," : "\n");
+    printf("# .. S7 by a whole entry that is closed %lu, given on %lu, no grant %lu\n", mismarked[WHOLE_CLOSED],
+           mismarked[WHOLE_GIVEN], mismarked[WHOLE_NO_GRANT]);
     printf("# .. S11 by unlike rights inside one grant, by partition:");
     for (unsigned p = 1; p < SECOND_PARTITIONS; p++)
         printf(" %u: %lu%s", p, unlike[p], p < SECOND_PARTITIONS - 1 ? "," : "\n");
     printf("# the longest chain: %u levels below the root; the most runs: %lu; lists too short: %lu; slot words looked at by\n"
            "# one listing of holders: up to %" PRIu64 "\n", deepest, most_runs, short_lists, most_looked);
+    printf("# %lu blocks were lent whole, %lu taken back\n", lent_whole, taken_whole);
     printf("# %lu boots, %lu calls in sessions, %lu of them accepted, %lu listings, %lu odd tables, %lu damaged tables\n",
            boots, calls, accepted, listings, odd, damaged);
 }
@@ -325,7 +356,7 @@ static bool every_cell_met(void)
 {
     bool good = true;
     for (unsigned service = 1; service <= LAST_SERVICE; service++)
-        for (unsigned refusal = 0; refusal < 18; refusal++) {
+        for (unsigned refusal = 0; refusal <= LAST_REFUSAL; refusal++) {
             bool own = refusal <= 2;
             for (unsigned i = 0; service_checks[service][i] != 0; i++)
                 own = own || service_checks[service][i] == refusal;
@@ -362,6 +393,14 @@ static bool every_clause_failed_alone(unsigned long least)
     return true;
 }
 
+static bool every_mismark_met(unsigned long least)
+{
+    for (mismark m = WHOLE_CLOSED; m < MISMARKS; m++)
+        if (mismarked[m] < least)
+            return false;
+    return true;
+}
+
 /* At the first child, at the last, and at each between. */
 static bool every_child_unlike(void)
 {
@@ -391,6 +430,9 @@ int main(int count, char **words)
     check(every_cell_met(), "every service was done, and refused with each of its numbers, 1 and 2, and with no other");
     check(every_region_missed(last / 1000), "service 10, and 9 with R or S that is neither load nor unload, were met");
     check(every_clause_failed_alone(last / 200), "each of S1 to S11 failed alone in many tables");
+    check(every_mismark_met(last / 5000), "S7 failed alone by a whole entry that is closed, that is given on, that is no grant");
+    check(lent_whole >= last / 200 && taken_whole >= last / 500 && kept_whole == 0,
+          "blocks were lent whole and taken back, and no take of one was refused 14");
     check(every_child_unlike(), "S11 failed alone by unlike rights inside one grant, at each of the partitions 1 to 15");
     check(every_branch_cleared(), "branches of 1 to 15 partitions were cleared out");
     check(deepest == SECOND_PARTITIONS - 1, "chains of 15 levels below the root were met");

@@ -194,33 +194,31 @@ static bool rest_of_a_record(uint8_t *table, const second_table *t, dice *d)
     case 0: record[0] = (uint8_t)((1 + below(d, 15)) << 3); break;                         /* parent */
     case 1: record[3] = (uint8_t)(1 + below(d, 255)); break;                               /* area start */
     case 2: record[8 * 5 + below(d, 8)] = (uint8_t)(0x80 + below(d, 32)); break;           /* a region */
-    default: record[8 * (8 + below(d, 32)) + below(d, 7)] = (uint8_t)(1 + below(d, 255)); /* a slot */
+    default: record[8 * (8 + below(d, 32)) + below(d, 8)] = (uint8_t)(1 + below(d, 255)); /* a slot */
     }
     return true;
 }
 
 /* ---- S3 ---- */
 
-/* The zero bits of word i of a record. */
+/* The zero bits of word i of a record, up to the slots, which have none. */
 static uint64_t zero_bits(unsigned i)
 {
     if (i == 0)
         return 0x1f;
     if (i < 5)
         return 0x1ff;
-    if (i == 5)
-        return UINT64_C(0x6060606060606060);
-    return i < 8 ? UINT64_MAX : 1;
+    return i == 5 ? UINT64_C(0x6060606060606060) : UINT64_MAX;
 }
 
 static bool zero_bit_set(uint8_t *table, const second_table *t, dice *d)
 {
-    unsigned i = below(d, 41), bit = below(d, 64);
+    unsigned i = below(d, 9), bit = below(d, 64);
     uint8_t p = some_partition(t, is_present, d);
-    uint64_t mask = i == 40 ? 0x3f : zero_bits(i); /* 40: word 0 of the table */
+    uint64_t mask = i == 8 ? 0x3f : zero_bits(i); /* 8: word 0 of the table */
     while ((mask >> bit & 1) == 0)
         bit = (bit + 1) % 64;
-    unsigned word = i == 40 ? 0 : 1 + 40 * (unsigned)p + i;
+    unsigned word = i == 8 ? 0 : 1 + 40 * (unsigned)p + i;
     table[8 * word + 7 - bit / 8] |= (uint8_t)(1u << bit % 8);
     return true;
 }
@@ -326,11 +324,12 @@ static bool rest_of_an_entry(second_table *t, dice *d)
     if (!pick_slot(t, is_free, &p, &s, d))
         return false;
     second_slot *e = slot_in(t, p, s);
-    switch (below(d, 5)) {
+    switch (below(d, 6)) {
     case 0: e->open = true; break;
     case 1: e->rights = (uint8_t)(1 + below(d, 7)); break;
     case 2: e->given = (uint8_t)(1 + below(d, 15)); break;
     case 3: e->start = 1 + below(d, SECOND_LAST_LINE); break;
+    case 4: e->whole = true; break;
     default: e->end = 1 + below(d, SECOND_LAST_LINE);
     }
     return true;
@@ -484,6 +483,62 @@ static bool grants_in_one(second_table *t, dice *d)
             return true;
         }
     return false;
+}
+
+/* Few partitions have such an entry, so many are asked. */
+static bool mark_one(second_table *t, slot_test *passes, dice *d)
+{
+    uint8_t p, s;
+    bool found = false;
+    for (unsigned tries = 0; tries < SECOND_PARTITIONS && !found; tries++)
+        found = pick_slot(t, passes, &p, &s, d);
+    if (found)
+        slot_in(t, p, s)->whole = true;
+    return found;
+}
+
+/* A piece of a grant, or, of the root, an entry that nobody gave it. */
+static bool is_no_grant(const second_table *t, uint8_t p, uint8_t s)
+{
+    return is_usable(t, p, s) && !is_grant(t, p, s);
+}
+
+static bool is_grant_given_on(const second_table *t, uint8_t p, uint8_t s)
+{
+    return is_lent(t, p, s) && is_grant(t, p, s);
+}
+
+static bool is_grant_closed(const second_table *t, uint8_t p, uint8_t s)
+{
+    return is_closed(t, p, s) && is_grant(t, p, s);
+}
+
+static bool piece_is_whole(second_table *t, dice *d)
+{
+    return mark_one(t, is_no_grant, d);
+}
+
+static bool whole_is_given(second_table *t, dice *d)
+{
+    return mark_one(t, is_grant_given_on, d);
+}
+
+static bool whole_is_closed(second_table *t, dice *d)
+{
+    return mark_one(t, is_grant_closed, d);
+}
+
+mismark mismarked_in(const uint8_t *table)
+{
+    static second_table t;
+    second_read(table, &t);
+    for (uint8_t p = 0; p < SECOND_PARTITIONS; p++)
+        for (uint8_t s = 0; s < SECOND_SLOTS; s++) {
+            if (!is_whole(&t, p, s) || (is_idle(&t, p, s) && is_grant(&t, p, s)))
+                continue;
+            return !is_grant(&t, p, s) ? WHOLE_NO_GRANT : is_closed(&t, p, s) ? WHOLE_CLOSED : WHOLE_GIVEN;
+        }
+    return ALL_ALLOWED;
 }
 
 /* ---- S8 ---- */
@@ -692,7 +747,8 @@ static const way ways[] = {
     {6, false, one_line_twice, NULL}, {6, false, entry_twice, NULL},
     {7, false, hole, NULL}, {7, false, line_missing, NULL}, {7, false, line_too_many, NULL}, {7, false, given_to_no_child, NULL},
     {7, false, held_without_grant, NULL}, {7, false, grant_forgotten, NULL}, {7, false, more_memory, NULL},
-    {7, false, grants_in_one, NULL},
+    {7, false, grants_in_one, NULL}, {7, false, piece_is_whole, NULL}, {7, false, whole_is_given, NULL},
+    {7, false, whole_is_closed, NULL},
     {8, false, area_unlike_its_entry, NULL}, {8, false, area_twice, NULL}, {8, true, header_in_its_own_entry, NULL},
     {8, true, area_in_given_entry, NULL}, {8, true, area_in_strange_entry, NULL},
     {9, false, open_bit_turned, NULL},
@@ -803,6 +859,15 @@ static void lessen_rights(second_table *t, dice *d)
         }
 }
 
+/* Of the entries that may be whole, any are. */
+static void turn_marks(second_table *t, dice *d)
+{
+    for (uint8_t p = 1; p < SECOND_PARTITIONS; p++)
+        for (uint8_t s = 0; s < SECOND_SLOTS; s++)
+            if (is_idle(t, p, s) && is_grant(t, p, s))
+                slot_in(t, p, s)->whole = percent(d, 30);
+}
+
 /* Two children, or a child and a number that is not used, change their numbers. */
 static void renumber(second_table *t, dice *d)
 {
@@ -823,8 +888,8 @@ static void renumber(second_table *t, dice *d)
 
 void make_odd(second_table *t, dice *d)
 {
-    void (*const oddities[])(second_table *, dice *) = {scatter_entries, clear_first_structure, lessen_rights, renumber};
-    for (unsigned i = 0; i < 4; i++)
+    void (*const oddities[])(second_table *, dice *) = {scatter_entries, clear_first_structure, lessen_rights, turn_marks, renumber};
+    for (unsigned i = 0; i < sizeof oddities / sizeof *oddities; i++)
         if (percent(d, 60))
             oddities[i](t, d);
     t->current = some_partition(t, is_present, d);

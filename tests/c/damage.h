@@ -23,6 +23,10 @@ uint8_t damage(const second_table *sound, uint8_t *table, dice *d);
  */
 uint8_t only_failing(const uint8_t *table);
 
+/* What is wrong with the first whole entry that S7 doesn't allow: it is closed, given on, or not all of a grant. */
+typedef enum { ALL_ALLOWED, WHOLE_CLOSED, WHOLE_GIVEN, WHOLE_NO_GRANT, MISMARKS } mismark;
+mismark mismarked_in(const uint8_t *table);
+
 /* The lowest child with two entries inside one grant whose rights differ; 0 if none has. */
 uint8_t unlike_in(const uint8_t *table);
 

@@ -20,7 +20,7 @@ typedef struct {
 
 static void put_piece(second_partition *p, pieces *list, uint32_t start, uint32_t end, uint8_t given)
 {
-    second_slot entry = {true, true, 7, given, 0, start, end};
+    second_slot entry = {true, true, 7, given, false, start, end};
     p->slots[p->entry_count++] = entry;
     list->pieces[list->count].start = start;
     list->pieces[list->count++].end = end;

@@ -89,7 +89,7 @@ static void measure_services(uint32_t p, uint32_t s, uint32_t t, uint32_t line)
 {
     const uint64_t words[] = {
         ulavrepit_create(s), ulavrepit_delete(p), ulavrepit_prepare(p, s), ulavrepit_collect(p, t),
-        ulavrepit_give(p, s, t & 7), ulavrepit_take(s), ulavrepit_cut(s, line), ulavrepit_merge(s, t),
+        ulavrepit_give(p, s, t & 7), ulavrepit_give_whole(p, s, t & 7), ulavrepit_take(s), ulavrepit_cut(s, line), ulavrepit_merge(s, t),
         ulavrepit_load(p, s, t), ulavrepit_unload(p, t), ulavrepit_read_region(p, t), ulavrepit_find(p, line),
         ulavrepit_switch(p), ulavrepit_clear_out(p), 0};
     for (size_t i = 0; i < sizeof words / sizeof *words; i++)
@@ -111,13 +111,13 @@ static void measure_table(void)
             measure_services(p, s, (s + p) % 9, lines[s % 6]);
 }
 
-/* The table as it is, and with its last bit turned, which no sound table has set. */
+/* The table as it is, and with its last zero bit set. */
 static void measure_both(void)
 {
     measure_table();
-    start[sizeof start - 1] ^= 1;
+    start[LAST_ZERO_BYTE] ^= 1;
     measure_table();
-    start[sizeof start - 1] ^= 1;
+    start[LAST_ZERO_BYTE] ^= 1;
 }
 
 /* Each word is measured, and then carried out for good; all but the session's last are accepted. */

@@ -5,8 +5,8 @@
 #include <string.h>
 
 const uint8_t service_checks[LAST_SERVICE + 1][8] = {
-    {0}, {4, 5, 6, 8, 9}, {3, 15}, {3, 4, 5, 6, 8, 9}, {3, 4, 15}, {3, 4, 5, 6, 8, 10}, {4, 6, 14},
-    {4, 5, 6, 7, 8}, {4, 5, 6, 11, 12}, {3, 4, 5, 16}, {3, 16}, {3, 16}, {3, 7}, {3}, {3}};
+    {0}, {4, 5, 6, 8, 9, 18}, {3, 15}, {3, 4, 5, 6, 8, 9, 18}, {3, 4, 15}, {3, 4, 5, 6, 8, 10, 18}, {4, 6, 14},
+    {4, 5, 6, 7, 8, 18}, {4, 5, 6, 11, 12}, {3, 4, 5, 16}, {3, 16}, {3, 16}, {3, 7}, {3}, {3}};
 
 /* How often each service is tried, by mood. */
 static const uint8_t weights[MOODS][LAST_SERVICE + 1] = {
@@ -73,9 +73,28 @@ bool is_entry(const second_table *t, uint8_t p, uint8_t s)
     return slot_of(t, p, s)->present;
 }
 
-bool is_usable(const second_table *t, uint8_t p, uint8_t s)
+bool is_idle(const second_table *t, uint8_t p, uint8_t s)
 {
     return slot_of(t, p, s)->present && slot_of(t, p, s)->open && slot_of(t, p, s)->given == 0;
+}
+
+bool is_whole(const second_table *t, uint8_t p, uint8_t s)
+{
+    return slot_of(t, p, s)->present && slot_of(t, p, s)->whole;
+}
+
+bool is_usable(const second_table *t, uint8_t p, uint8_t s)
+{
+    return is_idle(t, p, s) && !is_whole(t, p, s);
+}
+
+bool is_grant(const second_table *t, uint8_t p, uint8_t s)
+{
+    const second_slot *e = slot_of(t, p, s), *parents = t->partitions[t->partitions[p].parent].slots;
+    if (p == 0 || !e->present)
+        return false;
+    uint8_t around = entry_around(t, p, e->start, e->end);
+    return around < SECOND_SLOTS && parents[around].start == e->start && parents[around].end == e->end;
 }
 
 bool is_closed(const second_table *t, uint8_t p, uint8_t s)
@@ -115,12 +134,12 @@ static uint32_t lines_of(const second_table *t, uint8_t p, uint8_t s)
 
 static bool is_short(const second_table *t, uint8_t p, uint8_t s)
 {
-    return is_usable(t, p, s) && lines_of(t, p, s) < SECOND_AREA_LINES;
+    return is_idle(t, p, s) && lines_of(t, p, s) < SECOND_AREA_LINES;
 }
 
 static bool lacks_rights(const second_table *t, uint8_t p, uint8_t s)
 {
-    return is_usable(t, p, s) && slot_of(t, p, s)->rights != 7;
+    return is_idle(t, p, s) && slot_of(t, p, s)->rights != 7;
 }
 
 static bool is_loaded(const second_table *t, uint8_t p, uint8_t s)
@@ -131,12 +150,12 @@ static bool is_loaded(const second_table *t, uint8_t p, uint8_t s)
     return false;
 }
 
-/* Given, and the child has it whole, open and not given on: so it can be taken. */
-static bool is_whole(const second_table *t, uint8_t p, uint8_t s)
+/* Given, and the child has it in one piece, open and not given on: so it can be taken. */
+static bool is_takeable(const second_table *t, uint8_t p, uint8_t s)
 {
     const second_slot *e = slot_of(t, p, s);
     for (uint8_t i = 0; e->given != 0 && i < SECOND_SLOTS; i++)
-        if (is_usable(t, e->given, i) && slot_of(t, e->given, i)->start == e->start &&
+        if (is_idle(t, e->given, i) && slot_of(t, e->given, i)->start == e->start &&
             slot_of(t, e->given, i)->end == e->end)
             return true;
     return false;
@@ -144,15 +163,15 @@ static bool is_whole(const second_table *t, uint8_t p, uint8_t s)
 
 static bool is_in_pieces(const second_table *t, uint8_t p, uint8_t s)
 {
-    return slot_of(t, p, s)->given != 0 && !is_whole(t, p, s);
+    return slot_of(t, p, s)->given != 0 && !is_takeable(t, p, s);
 }
 
-/* In pieces of a kind: the child has it whole, and has closed it or given it on. */
-static bool is_whole_in_use(const second_table *t, uint8_t p, uint8_t s)
+/* In pieces of a kind: the child has it in one, and has closed it or given it on. */
+static bool is_one_in_use(const second_table *t, uint8_t p, uint8_t s)
 {
     const second_slot *e = slot_of(t, p, s);
     for (uint8_t i = 0; e->given != 0 && i < SECOND_SLOTS; i++)
-        if (is_entry(t, e->given, i) && !is_usable(t, e->given, i) && slot_of(t, e->given, i)->start == e->start &&
+        if (is_entry(t, e->given, i) && !is_idle(t, e->given, i) && slot_of(t, e->given, i)->start == e->start &&
             slot_of(t, e->given, i)->end == e->end)
             return true;
     return false;
@@ -244,16 +263,18 @@ static uint8_t some_partition(const second_table *t, uint8_t service, uint8_t re
 
 /* ---- the fields of one service ---- */
 
-/* The test for slot S by which a service that wants an open entry, not given, comes to the refusal number. */
+/* The test for slot S by which a service that wants an open entry, not given, comes to the refusal number; 18 is the last one. */
 static slot_test *wanted(uint8_t refusal)
 {
     switch (refusal) {
+    case 0: return is_usable;
     case 4: return is_no_entry;
     case 5: return is_closed;
     case 6: return is_lent;
     case 9: return is_short;
     case 10: return lacks_rights;
-    default: return is_usable;
+    case 18: return is_whole;
+    default: return is_idle;
     }
 }
 
@@ -306,14 +327,14 @@ static uint64_t give(const second_table *t, uint8_t refusal, dice *d)
         rights = (rights & below(d, 8)) | (7 & ~rights);
     else if (percent(d, 60))
         rights &= below(d, 8) | below(d, 8);
-    return ulavrepit_give(p, s, rights);
+    return percent(d, 20) ? ulavrepit_give_whole(p, s, rights) : ulavrepit_give(p, s, rights);
 }
 
 static uint64_t take(const second_table *t, uint8_t refusal, dice *d)
 {
-    slot_test *passes = refusal == 4 ? is_no_entry : refusal == 6 ? is_not_given : is_whole;
+    slot_test *passes = refusal == 4 ? is_no_entry : refusal == 6 ? is_not_given : is_takeable;
     if (refusal == 14)
-        passes = percent(d, 50) ? is_in_pieces : is_whole_in_use;
+        passes = percent(d, 50) ? is_in_pieces : is_one_in_use;
     return ulavrepit_take(slot_or_any(t, t->current, passes, d));
 }
 
@@ -329,7 +350,7 @@ static uint64_t cut(const second_table *t, uint8_t refusal, dice *d)
     return ulavrepit_cut(s, line & SECOND_LAST_LINE);
 }
 
-/* Merge of two usable entries would be refused with the number, or accepted (0). */
+/* Merge of two open entries, not given, would be refused with the number, or accepted (0). */
 static bool merge_leads_to(const second_table *t, uint8_t refusal, uint8_t s, uint8_t u)
 {
     const second_slot *a = slot_of(t, t->current, s), *b = slot_of(t, t->current, u);
@@ -343,7 +364,7 @@ static bool merge_leads_to(const second_table *t, uint8_t refusal, uint8_t s, ui
 static uint64_t merge(const second_table *t, uint8_t refusal, dice *d)
 {
     if (refusal == 4 || refusal == 5 || refusal == 6) {
-        uint8_t a = slot_or_any(t, t->current, wanted(refusal), d), b = slot_or_any(t, t->current, is_usable, d);
+        uint8_t a = slot_or_any(t, t->current, wanted(refusal), d), b = slot_or_any(t, t->current, is_idle, d);
         return percent(d, 50) ? ulavrepit_merge(a, b) : ulavrepit_merge(b, a);
     }
     uint32_t first = below(d, SECOND_SLOTS * SECOND_SLOTS);
@@ -351,7 +372,7 @@ static uint64_t merge(const second_table *t, uint8_t refusal, dice *d)
     for (uint32_t i = 0; i < SECOND_SLOTS * SECOND_SLOTS; i++) {
         uint32_t pair = (first + i) % (SECOND_SLOTS * SECOND_SLOTS);
         uint8_t s = (uint8_t)(pair / SECOND_SLOTS), u = (uint8_t)(pair % SECOND_SLOTS);
-        if (is_usable(t, t->current, s) && is_usable(t, t->current, u) && merge_leads_to(t, turned ? 0 : refusal, s, u))
+        if (is_idle(t, t->current, s) && is_idle(t, t->current, u) && merge_leads_to(t, turned ? 0 : refusal, s, u))
             return turned ? ulavrepit_merge(u, s) : ulavrepit_merge(s, u);
     }
     return ulavrepit_merge(first / SECOND_SLOTS, first % SECOND_SLOTS);
@@ -409,10 +430,11 @@ static uint64_t find(const second_table *t, uint8_t refusal, dice *d)
     return ulavrepit_find(p, (refusal == 7 ? beyond[below(d, 5)] : held[below(d, 3)]) & SECOND_LAST_LINE);
 }
 
+/* An entry with which more can be done than to load it. */
 static bool has_entry(const second_table *t, uint8_t p)
 {
     for (uint8_t s = 0; s < SECOND_SLOTS; s++)
-        if (is_entry(t, p, s))
+        if (is_entry(t, p, s) && !is_whole(t, p, s))
             return true;
     return false;
 }
@@ -544,7 +566,7 @@ static uint8_t some_check(uint8_t service, dice *d)
     return service_checks[service][below(d, count)];
 }
 
-/* A partition without entries can do little: its parent has the word again, or it is not called at all. */
+/* A partition without such entries can do little: its parent has the word again, or it is not called at all. */
 static uint64_t unless_stuck(const second_table *t, uint64_t word, dice *d)
 {
     uint8_t p = (uint8_t)(word >> 56 & 15);
@@ -566,14 +588,15 @@ static uint8_t tried(const uint8_t *table, uint64_t word)
 
 /* Service and refusal that take a table of their kind, which is seldom met: so they are tried often. */
 static const uint8_t seldom[][2] = {
-    {ULAVREPIT_CREATE, 8}, {ULAVREPIT_DELETE, 15}, {ULAVREPIT_PREPARE, 8}, {ULAVREPIT_GIVE, 10}, {ULAVREPIT_TAKE, 14},
-    {ULAVREPIT_CUT, 8}, {ULAVREPIT_MERGE, 6}, {ULAVREPIT_MERGE, 11}, {ULAVREPIT_MERGE, 12}};
+    {ULAVREPIT_CREATE, 8}, {ULAVREPIT_CREATE, 18}, {ULAVREPIT_DELETE, 15}, {ULAVREPIT_PREPARE, 8}, {ULAVREPIT_PREPARE, 18},
+    {ULAVREPIT_GIVE, 10}, {ULAVREPIT_GIVE, 18}, {ULAVREPIT_TAKE, 14}, {ULAVREPIT_CUT, 8}, {ULAVREPIT_CUT, 18},
+    {ULAVREPIT_MERGE, 6}, {ULAVREPIT_MERGE, 11}, {ULAVREPIT_MERGE, 12}};
 
 /* A good word of any service with one bit turned: often in a field that the service doesn't use, or a zero bit. */
 static uint64_t bit_turned(const second_table *t, dice *d)
 {
     uint8_t service = (uint8_t)(1 + below(d, LAST_SERVICE));
-    return word_for(t, service, 0, d) ^ UINT64_C(1) << below(d, 64);
+    return word_for(t, service, 0, d) ^ (percent(d, 15) ? ULAVREPIT_WHOLE : UINT64_C(1) << below(d, 64));
 }
 
 /*

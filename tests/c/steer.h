@@ -21,6 +21,9 @@ typedef enum { MIXED, DEEP, WIDE, DENSE, LENDING, REGIONS, CLEARING, MOODS } moo
  */
 enum { UNLOAD = 10, LAST_SERVICE = 14 };
 
+/* No call is refused with a higher number. */
+enum { LAST_REFUSAL = 18 };
+
 /* The refusal numbers of each, from 01's column Checks and from 02, ended by 0. */
 extern const uint8_t service_checks[LAST_SERVICE + 1][8];
 
@@ -50,7 +53,10 @@ uint8_t entry_around(const second_table *t, uint8_t p, uint32_t start, uint32_t 
 typedef bool slot_test(const second_table *t, uint8_t p, uint8_t s);
 uint8_t some_slot(const second_table *t, uint8_t p, slot_test *passes, dice *d);
 
-bool is_usable(const second_table *t, uint8_t p, uint8_t s); /* an entry that is open and not given */
+bool is_usable(const second_table *t, uint8_t p, uint8_t s); /* an entry that is open, not given and not whole */
+bool is_idle(const second_table *t, uint8_t p, uint8_t s);   /* an entry that is open and not given, whole or not */
+bool is_whole(const second_table *t, uint8_t p, uint8_t s);  /* an entry with the whole mark */
+bool is_grant(const second_table *t, uint8_t p, uint8_t s);  /* an entry of a child that is all of what its parent gave */
 bool is_closed(const second_table *t, uint8_t p, uint8_t s); /* an entry that is not open */
 bool is_lent(const second_table *t, uint8_t p, uint8_t s);   /* an entry that is open and given */
 bool is_free(const second_table *t, uint8_t p, uint8_t s);   /* no entry, in a present structure */

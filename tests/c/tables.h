@@ -17,6 +17,9 @@ typedef struct {
     uint64_t (*runs)(const uint8_t *, uint64_t, ulavrepit_run *, uint64_t);
 } kernel;
 
+/* The last zero bit of a table is the least significant of this byte: word 7 of the last record, before its slots. */
+enum { LAST_ZERO_BYTE = 8 * (1 + 40 * 15 + 7) + 7 };
+
 /* The root alone, with one entry. */
 bool make_fresh(const kernel *k, uint8_t *table);
 

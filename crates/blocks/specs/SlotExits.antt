@@ -1,6 +1,6 @@
 -- Cut and give in code: what is asked of the entry read, and the table after it.
 use mathlib.Core.Path.{_≡_}
-use mathlib.Core.Bool.{true}
+use mathlib.Core.Bool.{Bool, true}
 use mathlib.Core.List.{List}
 use Prim.Native.Nat.{ℕ, _^_, _<_}
 use Rattle.words.specs.declared.Rights.{Rights}
@@ -26,9 +26,9 @@ pub record CanCut (l : List ℕ) (s k : ℕ) (f : SlotFields) : Type 0 where
   pub right : Right (view l)
 
 -- ── give ──
--- slot s of c is given to p, and slot n of p has its range with rights r
-abbrev pub handedTo : Table → ℕ → ℕ → ℕ → ℕ → Rights → SlotFields → Table
-handedTo t c s p n r f = putSlot (putSlot t c s (some (givenTo (entryOf f) p)) (f .opened)) p n (some (rangeOf (entryOf f) r)) (f .opened)
+-- slot s of c is given to p, and slot n of p has its range with rights r, whole if w is set
+abbrev pub handedTo : Table → ℕ → ℕ → ℕ → ℕ → Rights → Bool → SlotFields → Table
+handedTo t c s p n r w f = putSlot (putSlot t c s (some (givenTo (entryOf f) p)) (f .opened)) p n (some (rangeOf (entryOf f) r w)) (f .opened)
 
 -- p is a child of c, the caller, whose entry f in slot s is free
 pub record CanGive (l : List ℕ) (c p s : ℕ) (f : SlotFields) : Type 0 where

@@ -29,7 +29,7 @@ fn split_entry(t: &mut [u64; 641], c: Partition, s: Slot, n: Slot, l: Line, f: S
     writing::put_entry(t, c, n, high);
 }
 
-// the checks 7 and 8 of cut, and its effect, for the entry f in slot s
+// the checks 7, 8 and 18 of cut, and its effect, for the entry f in slot s
 fn cut_entry(t: &mut [u64; 641], s: Slot, l: Line, f: SlotFields) -> Outcome
     requires { ⌜ CanCut (now t) (s .0) (l .0) f ⌝ }
     ensures { λ r. ⌜ Ran (cut (view (now (t .entry))) (s .0) (l .0)) (now (t .entry)) r (now (t .exit)) ⌝ }
@@ -45,6 +45,9 @@ fn cut_entry(t: &mut [u64; 641], s: Slot, l: Line, f: SlotFields) -> Outcome
     let Found::At(n) = found else {
         return Outcome::Refused(8);
     };
+    if f.whole {
+        return Outcome::Refused(18);
+    }
     split_entry(t, c, s, n, l, f);
     Outcome::Done(n.0 as u64, 0)
 }
@@ -60,7 +63,7 @@ pub fn cut(t: &mut [u64; 641], s: Slot, l: Line) -> Outcome
     }
 }
 
-// slot s of c, whose entry is f, is given to p; slot n of p has its range with rights r
+// slot s of c, whose entry is f, is given to p; slot n of p has its range with rights r, whole or not
 fn hand_over(
     t: &mut [u64; 641],
     c: Partition,
@@ -68,10 +71,11 @@ fn hand_over(
     p: Partition,
     n: Slot,
     r: Rights,
+    whole: bool,
     f: SlotFields,
 )
     requires { ⌜ CanEntry (now t) (c .0) (s .0) f × (p .0 < 16) × (n .0 < 32) ⌝ }
-    ensures { λ _. ⌜ Is (now (t .exit)) (handedTo (view (now (t .entry))) (c .0) (s .0) (p .0) (n .0) r f) ⌝ }
+    ensures { λ _. ⌜ Is (now (t .exit)) (handedTo (view (now (t .entry))) (c .0) (s .0) (p .0) (n .0) r whole f) ⌝ }
 {
     let mut old = f;
     old.given = p;
@@ -80,20 +84,22 @@ fn hand_over(
     let mut new = f;
     new.given = nobody;
     new.rights = r;
+    new.whole = whole;
     writing::put_entry(t, p, n, new);
 }
 
-// the checks 8 and 10 of give, and its effect, for the caller c, its child p and the entry f in slot s
+// the checks 8, 10 and 18 of give, and its effect, for the caller c, its child p and the entry f in slot s
 fn give_entry(
     t: &mut [u64; 641],
     c: Partition,
     p: Partition,
     s: Slot,
     r: Rights,
+    whole: bool,
     f: SlotFields,
 ) -> Outcome
     requires { ⌜ CanGive (now t) (c .0) (p .0) (s .0) f ⌝ }
-    ensures { λ x. ⌜ Ran (give (view (now (t .entry))) (p .0) (s .0) r) (now (t .entry)) x (now (t .exit)) ⌝ }
+    ensures { λ x. ⌜ Ran (give (view (now (t .entry))) (p .0) (s .0) r whole) (now (t .entry)) x (now (t .exit)) ⌝ }
 {
     let found = tables::search::free_slot(t, p);
     let Found::At(n) = found else {
@@ -102,14 +108,17 @@ fn give_entry(
     if !shape::rights::rights_within(r, f.rights) {
         return Outcome::Refused(10);
     }
-    hand_over(t, c, s, p, n, r, f);
+    if f.whole {
+        return Outcome::Refused(18);
+    }
+    hand_over(t, c, s, p, n, r, whole, f);
     Outcome::Done(n.0 as u64, 0)
 }
 
-// 5: slot s, which is open, is given to the child p, and a free slot of p has its range with rights r: a right table stays settled
-pub fn give(t: &mut [u64; 641], p: Partition, s: Slot, r: Rights) -> Outcome
+// 5: slot s, which is open, is given to the child p, and a free slot of p has its range with rights r, whole or not: a right table stays settled
+pub fn give(t: &mut [u64; 641], p: Partition, s: Slot, r: Rights, whole: bool) -> Outcome
     requires { ⌜ Canon (now t) × (p .0 < 16) × (s .0 < 32) × Right (view (now t)) ⌝ }
-    ensures { λ x. ⌜ Ran (give (view (now (t .entry))) (p .0) (s .0) r) (now (t .entry)) x (now (t .exit)) ⌝ }
+    ensures { λ x. ⌜ Ran (give (view (now (t .entry))) (p .0) (s .0) r whole) (now (t .entry)) x (now (t .exit)) ⌝ }
 {
     let c = tables::read::first(t).current;
     if !tables::search::is_child(t, c, p) {
@@ -117,6 +126,6 @@ pub fn give(t: &mut [u64; 641], p: Partition, s: Slot, r: Rights) -> Outcome
     }
     match free_entry(t, s) {
         Picked::Refused(n) => Outcome::Refused(n),
-        Picked::Entry(f) => give_entry(t, c, p, s, r, f),
+        Picked::Entry(f) => give_entry(t, c, p, s, r, whole, f),
     }
 }

@@ -25,7 +25,7 @@ use Rattle.tables.specs.Settle.{meets, apart, clear, openBit, openAt, keep, set
 use Rattle.tables.specs.ZeroRecord.{zeroTo, zeroBlanks}
 use Rattle.tables.specs.Outcomes.{answered}
 use Rattle.tables.specs.declared.Outcome.{Outcome}
-use Rattle.sound.specs.Clauses.{when, has, isNowhere, long, s1, s2Root, s2Other, s2, blankRegion, s3Regions, s3First, s3, rooted, s4Area, s4Absent, s4, s5Slot, s5, apartE, s6, held, covered, s7Root, s7Given, grants, s7Inside, s7Cover, s7, equals, s8Backed, s8Apart, s8, s9, s10Names, s10Once, s10, full, within, s11Within, containsBoth, oneGrant, sameRights, s11Equal, s11, clauseAt, sound}
+use Rattle.sound.specs.Clauses.{when, has, isNowhere, long, s1, s2Root, s2Other, s2, blankRegion, s3Regions, s3First, s3, rooted, s4Area, s4Absent, s4, s5Slot, s5, apartE, s6, held, covered, s7Root, s7Given, grants, s7Inside, s7Cover, lends, undivided, s7Whole, s7, equals, s8Backed, s8Apart, s8, s9, s10Names, s10Once, s10, full, within, s11Within, containsBoth, oneGrant, sameRights, s11Equal, s11, clauseAt, sound}
 use Rattle.sound.specs.Holders.{receiver, givenBy, heir, deepest, trail, holdersOf, sumOver, looksOf, inMemory, holdersOutcome, holdersBytes}
 use Rattle.rules.specs.Ran.{outcomeOf}
 use Rattle.rules.specs.Rules.{Result, check, need, ownOrChild, parentOrChild, freeEntry, create, delete, prepare, vacant, collect, give, returned, take, cut, merge, elsewhere, load, unload, regionWord, readRegion, find, switch, ungive, branch, clearOut, noRights, uses, unused, regionCall, known, perform, serve, serveRead, callOn, bootOn, wordsAfter}
@@ -57,6 +57,7 @@ word n p s u l = wordOf call (record {
   other = u;
   rights = record { read = false; write = false; execute = false };
   line = record { 0 = l };
+  whole = false;
 })
 
 -- the word of service 9 with these fields: P, S, T, R as a number
@@ -120,7 +121,7 @@ session = run B calls
 
 -- ── D: X with a branch three deep: 1 has child 2, which has loaded a region, and 2 has child 3 ──
 abbrev piece : ℕ → ℕ → ℕ → Opt Entry
-piece start stop given = some (entry start stop given allRights)
+piece start stop given = some (entry start stop given allRights false)
 
 abbrev area : ℕ → ℕ → Opt Area
 area lo hi = some (record { lo = lo; hi = hi })
@@ -227,8 +228,24 @@ furtherCases B X D A =
     ∷ refuses X (word 14 2 0 0 0) 3
     ∷ []
 
+-- ── L: the session's give, lent whole (request 104) ──
+unfoldable pub L : List ℕ
+L = run B (0x7000000002000000 ∷ 0x7000000001100000 ∷ 0x1000000000000000 ∷ 0x7010000001200000 ∷ 0x3110000000000000 ∷ 0x5118300000008000 ∷ []) .1
+
+abbrev pub lentCases : List ℕ → List Case
+lentCases L =
+    let back = run L (word 13 1 0 0 0 ∷ word 7 0 0 0 400 ∷ word 12 1 0 0 300 ∷ word 13 0 0 0 0 ∷ word 6 0 3 0 0 ∷ []) in
+    -- root slot 3 is as it was without W, slot 0 of partition 1 has the mark
+    (slotWordAt L 0 3 ∷ slotWordAt L 1 0 ∷ [], 0xf880001200000400 ∷ 0xf000001200000401 ∷ [])
+    -- switch to 1; its cut at 400: 18; its find at 300: slot 0, with the mark; switch to 0; take slot 3: done
+    ∷ (back .0, 0 ∷ 0 ∷ 0 ∷ 18 ∷ 0 ∷ 0 ∷ 0 ∷ 0 ∷ 0xf000001200000401 ∷ 0 ∷ 0 ∷ 0 ∷ 0 ∷ 0 ∷ 0 ∷ [])
+    ∷ (slotWordAt (back .1) 0 3 ∷ slotWordAt (back .1) 1 0 ∷ [], 0xf800001200000400 ∷ 0 ∷ [])
+    -- W with take: 2
+    ∷ refuses L (word 6 0 3 0 0 + 2 ^ 15) 2
+    ∷ []
+
 abbrev pub cases : List Case
-cases = casesOf B session ++ furtherCases B (session .1) D A
+cases = casesOf B session ++ furtherCases B (session .1) D A ++ lentCases L
 
 -- ── a test that every case is right: the list is then computed once, not once for each side ──
 abbrev equal : List ℕ → List ℕ → Bool
@@ -263,13 +280,17 @@ right-both (c ∷ bs) cs g h =
 
 -- each part is computed by itself: a declaration has so many steps and no more
 base-right : right (casesOf B session) ≡ true
-unfolding B session D A carried rest tabFrom climb first header structure regions slot call firstWord recordWord areaWordAt regionsWordAt blankWordAt slotWordAt view viewK entryIn headerArea structureArea areaIn nth named inside parentAt encode slotWord headerWord structureWord regionFor regionsWord partWord wordFor pick upd upd1 both? ℕ-discrete lowest present absent absentChild child noStructure free holds lookedAt meets apart clear openBit openAt keep settle zeroTo zeroBlanks when has isNowhere long s1 s2Root s2Other s2 blankRegion s3Regions s3First s3 rooted s4Area s4Absent s4 s5Slot s5 apartE s6 held covered s7Root s7Given grants s7Inside s7Cover s7 equals s8Backed s8Apart s8 s9 s10Names s10Once s10 full within s11Within containsBoth oneGrant sameRights s11Equal s11 clauseAt sound receiver givenBy heir deepest trail holdersOf sumOver looksOf inMemory holdersOutcome holdersBytes check need ownOrChild parentOrChild freeEntry create prepare vacant collect give returned take cut merge elsewhere load switch ungive branch clearOut sum noRights uses unused regionCall known perform serve serveRead callOn bootOn wordsAfter outcomeOf
+unfolding B session D A carried rest tabFrom climb first header structure regions slot call firstWord recordWord areaWordAt regionsWordAt blankWordAt slotWordAt view viewK entryIn headerArea structureArea areaIn nth named inside parentAt encode slotWord headerWord structureWord regionFor regionsWord partWord wordFor pick upd upd1 both? ℕ-discrete lowest present absent absentChild child noStructure free holds lookedAt meets apart clear openBit openAt keep settle zeroTo zeroBlanks when has isNowhere long s1 s2Root s2Other s2 blankRegion s3Regions s3First s3 rooted s4Area s4Absent s4 s5Slot s5 apartE s6 held covered s7Root s7Given grants s7Inside s7Cover lends undivided s7Whole s7 equals s8Backed s8Apart s8 s9 s10Names s10Once s10 full within s11Within containsBoth oneGrant sameRights s11Equal s11 clauseAt sound receiver givenBy heir deepest trail holdersOf sumOver looksOf inMemory holdersOutcome holdersBytes check need ownOrChild parentOrChild freeEntry create prepare vacant collect give returned take cut merge elsewhere load switch ungive branch clearOut sum noRights uses unused regionCall known perform serve serveRead callOn bootOn wordsAfter outcomeOf
 base-right = refl
 
 further-right : right (furtherCases B (session .1) D A) ≡ true
-unfolding B session D A carried rest tabFrom climb first header structure regions slot call firstWord recordWord areaWordAt regionsWordAt blankWordAt slotWordAt view viewK entryIn headerArea structureArea areaIn nth named inside parentAt encode slotWord headerWord structureWord regionFor regionsWord partWord wordFor pick upd upd1 both? ℕ-discrete lowest present absent absentChild child hasChild noStructure free holds lookedAt meets apart clear openBit openAt keep settle zeroTo zeroBlanks when has isNowhere long s1 s2Root s2Other s2 blankRegion s3Regions s3First s3 rooted s4Area s4Absent s4 s5Slot s5 apartE s6 held covered s7Root s7Given grants s7Inside s7Cover s7 equals s8Backed s8Apart s8 s9 s10Names s10Once s10 full within s11Within containsBoth oneGrant sameRights s11Equal s11 clauseAt sound receiver givenBy heir deepest trail holdersOf sumOver looksOf inMemory holdersOutcome holdersBytes check need ownOrChild parentOrChild freeEntry create delete prepare vacant collect give returned take cut merge elsewhere load unload regionWord readRegion find switch ungive branch clearOut sum noRights uses unused regionCall known perform serve serveRead callOn bootOn wordsAfter outcomeOf
+unfolding B session D A carried rest tabFrom climb first header structure regions slot call firstWord recordWord areaWordAt regionsWordAt blankWordAt slotWordAt view viewK entryIn headerArea structureArea areaIn nth named inside parentAt encode slotWord headerWord structureWord regionFor regionsWord partWord wordFor pick upd upd1 both? ℕ-discrete lowest present absent absentChild child hasChild noStructure free holds lookedAt meets apart clear openBit openAt keep settle zeroTo zeroBlanks when has isNowhere long s1 s2Root s2Other s2 blankRegion s3Regions s3First s3 rooted s4Area s4Absent s4 s5Slot s5 apartE s6 held covered s7Root s7Given grants s7Inside s7Cover lends undivided s7Whole s7 equals s8Backed s8Apart s8 s9 s10Names s10Once s10 full within s11Within containsBoth oneGrant sameRights s11Equal s11 clauseAt sound receiver givenBy heir deepest trail holdersOf sumOver looksOf inMemory holdersOutcome holdersBytes check need ownOrChild parentOrChild freeEntry create delete prepare vacant collect give returned take cut merge elsewhere load unload regionWord readRegion find switch ungive branch clearOut sum noRights uses unused regionCall known perform serve serveRead callOn bootOn wordsAfter outcomeOf
 further-right = refl
+
+lent-right : right (lentCases L) ≡ true
+unfolding B L carried rest tabFrom climb first header structure regions slot call firstWord recordWord areaWordAt regionsWordAt blankWordAt slotWordAt view viewK entryIn headerArea structureArea areaIn nth named inside parentAt encode slotWord headerWord structureWord regionFor regionsWord partWord wordFor pick upd upd1 both? ℕ-discrete lowest present absent absentChild child hasChild noStructure free holds lookedAt meets apart clear openBit openAt keep settle zeroTo zeroBlanks when has isNowhere long s1 s2Root s2Other s2 blankRegion s3Regions s3First s3 rooted s4Area s4Absent s4 s5Slot s5 apartE s6 held covered s7Root s7Given grants s7Inside s7Cover lends undivided s7Whole s7 equals s8Backed s8Apart s8 s9 s10Names s10Once s10 full within s11Within containsBoth oneGrant sameRights s11Equal s11 clauseAt sound receiver givenBy heir deepest trail holdersOf sumOver looksOf inMemory holdersOutcome holdersBytes check need ownOrChild parentOrChild freeEntry create delete prepare vacant collect give returned take cut merge elsewhere load unload regionWord readRegion find switch ungive branch clearOut sum noRights uses unused regionCall known perform serve serveRead callOn bootOn wordsAfter outcomeOf
+lent-right = refl
 
 -- ── the statement: in every case, what is computed is what 01 and 02 say ──
 pub every-case : computed cases ≡ expected cases
-every-case = right-says cases (right-both (casesOf B session) (furtherCases B (session .1) D A) base-right further-right)
+every-case = right-says cases (right-both (casesOf B session) (furtherCases B (session .1) D A ++ lentCases L) base-right (right-both (furtherCases B (session .1) D A) (lentCases L) further-right lent-right))

@@ -1,6 +1,6 @@
 -- S7 and S11 by one walk: the entries of a partition by rising start, along those that its parent gave it.
 use mathlib.Core.Path.{_≡_}
-use mathlib.Core.Bool.{Bool, true, cond}
+use mathlib.Core.Bool.{Bool, true, false, cond}
 use mathlib.Core.List.{List}
 use Prim.Native.Nat.{ℕ, _≤_, _<_}
 use Rattle.words.specs.declared.Rights.{Rights}
@@ -46,7 +46,7 @@ pub data Tiled (E : ℕ → Entry) (n i lo hi : ℕ) (r : Rights) (x : ℕ) : Ty
 
 -- ── the entries of a partition by place ──
 unfoldable pub entryOr : Opt Entry → Entry
-entryOr none = entry 0 0 0 allRights
+entryOr none = entry 0 0 0 allRights false
 entryOr (some e) = e
 
 abbrev pub rowOf : List ℕ → List ℕ → ℕ → ℕ → Entry

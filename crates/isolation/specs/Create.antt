@@ -1,5 +1,6 @@
 -- Service 1, create: the absent number n becomes a child of the caller, with the area of entry e in its slot s.
 use mathlib.Core.Path.{_≡_}
+use mathlib.Core.Bool.{false}
 use Prim.Native.Nat.{ℕ, _+_, _≤_}
 use Rattle.tables.specs.State.{none, K, Table}
 use Rattle.tables.specs.Settle.{settle}
@@ -17,4 +18,5 @@ createLadder t s =
     freeLadder (t .k) s λ e.
     least 8 16 (Absent (t .k)) λ n.
     must 9 (e .start + 16 ≤ e .stop)
-    (finish n 0 (settle (createK (t .k) n e) (t .region)))
+    (must 18 (e .whole ≡ false)
+    (finish n 0 (settle (createK (t .k) n e) (t .region))))

@@ -1,4 +1,6 @@
 -- Service 7, cut: slot s of the caller ends at m, its free slot n gets the rest.
+use mathlib.Core.Path.{_≡_}
+use mathlib.Core.Bool.{false}
 use Prim.Native.Nat.{ℕ, _<_}
 use Rattle.tables.specs.State.{Table}
 use Rattle.tables.specs.Settle.{settle}
@@ -12,4 +14,5 @@ cutLadder t s l =
     freeLadder (t .k) s λ e.
     must 7 ((e .start < l) × (l < e .stop))
     (least 8 32 (FreeSlot (t .k) (t .k .current)) λ n.
-    finish n 0 (settle (cutK (t .k) s n l e) (t .region)))
+    must 18 (e .whole ≡ false)
+    (finish n 0 (settle (cutK (t .k) s n l e) (t .region))))

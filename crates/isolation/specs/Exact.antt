@@ -33,11 +33,12 @@ Rightless r = ((r .read ≡ false) × (r .write ≡ false)) × (r .execute ≡ f
 
 abbrev pub Unused : Uses → CallFields → Type 0
 Unused x f =
-    ((((x .p ≡ false → f .partition .0 ≡ 0)
+    (((((x .p ≡ false → f .partition .0 ≡ 0)
     × (x .s ≡ false → f .slot .0 ≡ 0))
     × (x .u ≡ false → f .other ≡ 0))
     × (x .r ≡ false → Rightless (f .rights)))
-    × (x .l ≡ false → f .line .0 ≡ 0)
+    × (x .l ≡ false → f .line .0 ≡ 0))
+    × (x .w ≡ false → f .whole ≡ false)
 
 -- service 9: R is not above 1, and where it is 1, S is 0
 abbrev pub RegionCall : CallFields → Type 0
@@ -59,7 +60,7 @@ numberedLadder b n t f =
     (cond (eqb n 2) (deleteLadder t p)
     (cond (eqb n 3) (prepareLadder t p s)
     (cond (eqb n 4) (collectLadder t p u)
-    (cond (eqb n 5) (giveLadder t p s (f .rights))
+    (cond (eqb n 5) (giveLadder t p s (f .rights) (f .whole))
     (cond (eqb n 6) (takeLadder t s)
     (cond (eqb n 7) (cutLadder t s l)
     (cond (eqb n 8) (mergeLadder t s u)

@@ -22,3 +22,4 @@ pub mod Switch
 pub mod ClearOut
 pub mod Boot
 pub mod Exact
+pub mod Lent

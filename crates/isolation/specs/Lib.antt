@@ -16,5 +16,6 @@ pub mod Switch
 pub mod ClearOut
 pub mod Boot
 pub mod Whole
+pub mod Lent
 pub mod Exact
 pub mod Laws

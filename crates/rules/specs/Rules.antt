@@ -61,7 +61,7 @@ areaOf e = record { lo = e .start; hi = e .stop }
 abbrev pub setSlot : K → ℕ → ℕ → Opt Entry → K
 setSlot k p i x = withSlot k (upd (k .slot) p i x)
 
--- ── 1 create: S; 4 5 6 8 9; lowest absent number becomes a child with area = entry S; child, 0 ──
+-- ── 1 create: S; 4 5 6 8 9 18; lowest absent number becomes a child with area = entry S; child, 0 ──
 abbrev pub createK : K → ℕ → Entry → K
 createK k n e = withArea k (upd1 (k .parent) n (k .current)) (upd (k .area) n 0 (some (areaOf e)))
 
@@ -70,7 +70,8 @@ create t s =
     freeEntry t s λ e.
     need 8 (lowest 16 (absentChild (t .k))) λ n.
     check 9 (long (areaOf e))
-    (done n 0 (settle (createK (t .k) n e) (t .region)))
+    (check 18 (not (e .whole))
+    (done n 0 (settle (createK (t .k) n e) (t .region))))
 
 -- ── 2 delete: P a child; 3 15; caller's given = P become 0, record P zero; 0, 0 ──
 unfoldable pub ungive : ℕ → Opt Entry → Opt Entry
@@ -101,7 +102,7 @@ delete t p =
     (check 15 (not (hasChild (t .k) p))
     (done 0 0 (remove t p (λ q. eqb q p))))
 
--- ── 3 prepare: P own or child, S; 3 4 5 6 8 9; lowest absent structure of P gets area = entry S; its number, 0 ──
+-- ── 3 prepare: P own or child, S; 3 4 5 6 8 9 18; lowest absent structure of P gets area = entry S; its number, 0 ──
 abbrev pub prepareK : K → ℕ → ℕ → Entry → K
 prepareK k p j e = withArea k (k .parent) (upd (k .area) p (1 + j) (some (areaOf e)))
 
@@ -111,7 +112,8 @@ prepare t p s =
     (freeEntry t s λ e.
     need 8 (lowest 4 (noStructure (t .k) p)) λ j.
     check 9 (long (areaOf e))
-    (done j 0 (settle (prepareK (t .k) p j e) (t .region))))
+    (check 18 (not (e .whole))
+    (done j 0 (settle (prepareK (t .k) p j e) (t .region)))))
 
 -- ── 4 collect: P own or child, T structure; 3 4 15; structure word zero; 0, 0 ──
 abbrev pub collectK : K → ℕ → ℕ → K
@@ -128,17 +130,18 @@ collect t p j =
     (check 15 (vacant (t .k) p j && not (eqb p 0 && eqb j 0))
     (done 0 0 (settle (collectK (t .k) p j) (t .region)))))
 
--- ── 5 give: P a child, S, R; 3 4 5 6 8 10; S given = P; lowest free slot of P gets the range with rights R; that slot, 0 ──
-abbrev pub giveK : K → ℕ → ℕ → ℕ → Rights → Entry → K
-giveK k p s n r e = setSlot (setSlot k (k .current) s (some (givenTo e p))) p n (some (rangeOf e r))
+-- ── 5 give: P a child, S, R, W; 3 4 5 6 8 10 18; S given = P; lowest free slot of P gets the range with rights R, whole if W is set; that slot, 0 ──
+abbrev pub giveK : K → ℕ → ℕ → ℕ → Rights → Bool → Entry → K
+giveK k p s n r w e = setSlot (setSlot k (k .current) s (some (givenTo e p))) p n (some (rangeOf e r w))
 
-unfoldable pub give : Table → ℕ → ℕ → Rights → Result
-give t p s r =
+unfoldable pub give : Table → ℕ → ℕ → Rights → Bool → Result
+give t p s r w =
     check 3 (child (t .k) (t .k .current) p)
     (freeEntry t s λ e.
     need 8 (lowest 32 (free (t .k) p)) λ n.
     check 10 (within r (e .rights))
-    (done n 0 (settle (giveK (t .k) p s n r e) (t .region))))
+    (check 18 (not (e .whole))
+    (done n 0 (settle (giveK (t .k) p s n r w e) (t .region)))))
 
 -- ── 6 take: S; 4 6 14; child's entry zero, S given = 0; 0, 0 ──
 -- slot i of the child that e is given to: an open, not-given entry of exactly that range
@@ -155,7 +158,7 @@ take t s =
     (need 14 (lowest 32 (returned t e)) λ i.
     done 0 0 (settle (takeK (t .k) s i e) (t .region)))
 
--- ── 7 cut: S, L; 4 5 6 7 8; S ends at L; lowest free slot gets L to old end, same rights; that slot, 0 ──
+-- ── 7 cut: S, L; 4 5 6 7 8 18; S ends at L; lowest free slot gets L to old end, same rights; that slot, 0 ──
 abbrev pub cutK : K → ℕ → ℕ → ℕ → Entry → K
 cutK k s n l e = setSlot (setSlot k (k .current) s (some (endingAt e l))) (k .current) n (some (startingAt e l))
 
@@ -164,7 +167,8 @@ cut t s l =
     freeEntry t s λ e.
     check 7 (ltb (e .start) l && ltb l (e .stop))
     (need 8 (lowest 32 (free (t .k) (t .k .current))) λ n.
-    done n 0 (settle (cutK (t .k) s n l e) (t .region)))
+    check 18 (not (e .whole))
+    (done n 0 (settle (cutK (t .k) s n l e) (t .region))))
 
 -- ── 8 merge: S, T; 4 5 6 11 12; S ends where T ended, T zero; 0, 0 ──
 abbrev pub mergeK : K → ℕ → ℕ → Entry → Entry → K
@@ -238,36 +242,38 @@ clearOut t p =
 unfoldable pub noRights : Rights → Bool
 noRights r = not (r .read) && not (r .write) && not (r .execute)
 
--- the fields that a service uses: P, S, T, R, L
+-- the fields that a service uses: P, S, T, R, L, W
 pub record Uses : Type 0 where
   pub p : Bool
   pub s : Bool
   pub u : Bool
   pub r : Bool
   pub l : Bool
+  pub w : Bool
 
 -- those of the service of number n; another number is no service's
 unfoldable pub uses : ℕ → Opt Uses
 uses n =
-    cond (eqb n 1) (some (record { p = false; s = true; u = false; r = false; l = false }))
-    (cond (eqb n 2) (some (record { p = true; s = false; u = false; r = false; l = false }))
-    (cond (eqb n 3) (some (record { p = true; s = true; u = false; r = false; l = false }))
-    (cond (eqb n 4) (some (record { p = true; s = false; u = true; r = false; l = false }))
-    (cond (eqb n 5) (some (record { p = true; s = true; u = false; r = true; l = false }))
-    (cond (eqb n 6) (some (record { p = false; s = true; u = false; r = false; l = false }))
-    (cond (eqb n 7) (some (record { p = false; s = true; u = false; r = false; l = true }))
-    (cond (eqb n 8) (some (record { p = false; s = true; u = true; r = false; l = false }))
-    (cond (eqb n 9) (some (record { p = true; s = true; u = true; r = true; l = false }))
-    (cond (eqb n 11) (some (record { p = true; s = false; u = true; r = false; l = false }))
-    (cond (eqb n 12) (some (record { p = true; s = false; u = false; r = false; l = true }))
-    (cond (eqb n 13) (some (record { p = true; s = false; u = false; r = false; l = false }))
-    (cond (eqb n 14) (some (record { p = true; s = false; u = false; r = false; l = false }))
+    cond (eqb n 1) (some (record { p = false; s = true; u = false; r = false; l = false; w = false }))
+    (cond (eqb n 2) (some (record { p = true; s = false; u = false; r = false; l = false; w = false }))
+    (cond (eqb n 3) (some (record { p = true; s = true; u = false; r = false; l = false; w = false }))
+    (cond (eqb n 4) (some (record { p = true; s = false; u = true; r = false; l = false; w = false }))
+    (cond (eqb n 5) (some (record { p = true; s = true; u = false; r = true; l = false; w = true }))
+    (cond (eqb n 6) (some (record { p = false; s = true; u = false; r = false; l = false; w = false }))
+    (cond (eqb n 7) (some (record { p = false; s = true; u = false; r = false; l = true; w = false }))
+    (cond (eqb n 8) (some (record { p = false; s = true; u = true; r = false; l = false; w = false }))
+    (cond (eqb n 9) (some (record { p = true; s = true; u = true; r = true; l = false; w = false }))
+    (cond (eqb n 11) (some (record { p = true; s = false; u = true; r = false; l = false; w = false }))
+    (cond (eqb n 12) (some (record { p = true; s = false; u = false; r = false; l = true; w = false }))
+    (cond (eqb n 13) (some (record { p = true; s = false; u = false; r = false; l = false; w = false }))
+    (cond (eqb n 14) (some (record { p = true; s = false; u = false; r = false; l = false; w = false }))
     none))))))))))))
 
 -- a field that the service doesn't use is 0
 unfoldable pub unused : Uses → CallFields → Bool
 unused x f =
     (x .p || eqb (f .partition .0) 0) && (x .s || eqb (f .slot .0) 0) && (x .u || eqb (f .other) 0) && (x .r || noRights (f .rights)) && (x .l || eqb (f .line .0) 0)
+    && (x .w || not (f .whole))
 
 -- service 9: R is not above 1, and where it is 1, S is 0
 unfoldable pub regionCall : CallFields → Bool
@@ -288,7 +294,7 @@ numbered b n t f =
     (cond (eqb n 2) (delete t p)
     (cond (eqb n 3) (prepare t p s)
     (cond (eqb n 4) (collect t p u)
-    (cond (eqb n 5) (give t p s (f .rights))
+    (cond (eqb n 5) (give t p s (f .rights) (f .whole))
     (cond (eqb n 6) (take t s)
     (cond (eqb n 7) (cut t s l)
     (cond (eqb n 8) (merge t s u)

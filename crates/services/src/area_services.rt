@@ -32,6 +32,9 @@ pub fn create(t: &mut [u64; 641], s: Slot) -> Outcome
             if start.0 + 16 > end.0 {
                 return Outcome::Refused(9);
             }
+            if e.whole {
+                return Outcome::Refused(18);
+            }
             let parent = tables::read::first(t).current;
             let header = HeaderFields {
                 present: true,
@@ -65,6 +68,9 @@ pub fn prepare(t: &mut [u64; 641], p: Partition, s: Slot) -> Outcome
             };
             if start.0 + 16 > end.0 {
                 return Outcome::Refused(9);
+            }
+            if e.whole {
+                return Outcome::Refused(18);
             }
             let area = StructureFields {
                 present: true,

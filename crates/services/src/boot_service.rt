@@ -56,6 +56,7 @@ fn put_root(t: &mut [u64; 641], base: Line, end: Line)
             given: root,
             start: base,
             end,
+            whole: false,
         },
     );
 }

@@ -40,8 +40,8 @@ fn either(a: bool, b: bool) -> bool
 }
 
 // Each field that the service doesn't use is 0.
-fn unused(p: bool, s: bool, u: bool, r: bool, l: bool, f: CallFields) -> bool
-    ensures { λ b. ⌜ b ≡ unused (record { p = p; s = s; u = u; r = r; l = l }) f ⌝ }
+fn unused(p: bool, s: bool, u: bool, r: bool, l: bool, w: bool, f: CallFields) -> bool
+    ensures { λ b. ⌜ b ≡ unused (record { p = p; s = s; u = u; r = r; l = l; w = w }) f ⌝ }
 {
     if !either(p, f.partition.0 == 0) {
         return false;
@@ -56,12 +56,15 @@ fn unused(p: bool, s: bool, u: bool, r: bool, l: bool, f: CallFields) -> bool
     if !either(r, no_rights(rights)) {
         return false;
     }
-    either(l, f.line.0 == 0)
+    if !either(l, f.line.0 == 0) {
+        return false;
+    }
+    either(w, !f.whole)
 }
 
-// Service 9: R is not above 1, S is 0 where R is 1, and L is 0.
+// Service 9: R is not above 1, S is 0 where R is 1, and L and W are 0.
 fn region_known(f: CallFields) -> bool
-    ensures { λ b. ⌜ b ≡ regionCall f && unused (record { p = true; s = true; u = true; r = true; l = false }) f ⌝ }
+    ensures { λ b. ⌜ b ≡ regionCall f && unused (record { p = true; s = true; u = true; r = true; l = false; w = false }) f ⌝ }
 {
     let r = f.rights;
     if r.read {
@@ -73,28 +76,28 @@ fn region_known(f: CallFields) -> bool
     if !either(!r.execute, f.slot.0 == 0) {
         return false;
     }
-    unused(true, true, true, true, false, f)
+    unused(true, true, true, true, false, false, f)
 }
 
-// The number is a service's, and the fields that it doesn't use (P, S, T, R, L) are 0.
+// The number is a service's, and the fields that it doesn't use (P, S, T, R, L, W) are 0.
 fn known(f: CallFields) -> bool
     ensures { λ b. ⌜ b ≡ known f ⌝ }
 {
     let service = f.service;
     match service {
-        1 => unused(false, true, false, false, false, f),
-        2 => unused(true, false, false, false, false, f),
-        3 => unused(true, true, false, false, false, f),
-        4 => unused(true, false, true, false, false, f),
-        5 => unused(true, true, false, true, false, f),
-        6 => unused(false, true, false, false, false, f),
-        7 => unused(false, true, false, false, true, f),
-        8 => unused(false, true, true, false, false, f),
+        1 => unused(false, true, false, false, false, false, f),
+        2 => unused(true, false, false, false, false, false, f),
+        3 => unused(true, true, false, false, false, false, f),
+        4 => unused(true, false, true, false, false, false, f),
+        5 => unused(true, true, false, true, false, true, f),
+        6 => unused(false, true, false, false, false, false, f),
+        7 => unused(false, true, false, false, true, false, f),
+        8 => unused(false, true, true, false, false, false, f),
         9 => region_known(f),
-        11 => unused(true, false, true, false, false, f),
-        12 => unused(true, false, false, false, true, f),
-        13 => unused(true, false, false, false, false, f),
-        14 => unused(true, false, false, false, false, f),
+        11 => unused(true, false, true, false, false, false, f),
+        12 => unused(true, false, false, false, true, false, f),
+        13 => unused(true, false, false, false, false, false, f),
+        14 => unused(true, false, false, false, false, false, f),
         _ => false,
     }
 }
@@ -122,7 +125,7 @@ fn perform(board: Board, t: &mut [u64; 641], f: CallFields) -> Outcome
         2 => crate::delete_service::delete(t, f.partition),
         3 => crate::area_services::prepare(t, f.partition, f.slot),
         4 => crate::area_services::collect(t, f.partition, f.other),
-        5 => blocks::slot_services::give(t, f.partition, f.slot, f.rights),
+        5 => blocks::slot_services::give(t, f.partition, f.slot, f.rights, f.whole),
         6 => blocks::take_service::take(t, f.slot),
         7 => blocks::slot_services::cut(t, f.slot, f.line),
         8 => blocks::merge_service::merge(t, f.slot, Slot(f.other)),

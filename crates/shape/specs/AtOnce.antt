@@ -12,7 +12,7 @@ use Rattle.sound.specs.Clauses.{s2, s3, s4, s5, s6, s7, s8Backed, s9, s10, s11}
 unfoldable pub restAt : Board → List ℕ → ℕ → Bool
 restAt b l p =
     (s3 l p && s4 l (view l .k) p && s5 l (view l .k) p)
-    && (s6 (view l .k) p && s7 (view l .k) p)
+    && (s6 (view l .k) p && s7 (view l) p)
     && s11 (view l .k) p
     && all 5 (s8Backed (view l .k) p)
     && s9 (view l) p

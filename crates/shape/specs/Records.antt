@@ -5,9 +5,9 @@ use mathlib.Core.List.{List}
 use Prim.Native.Nat.{ℕ, _+_, _*_}
 use Rattle.loops.specs.Every.{all}
 use Rattle.words.specs.Kind.{zeroed}
-use Rattle.words.specs.Words.{header, structure, slot}
+use Rattle.words.specs.Words.{header, structure}
 use Rattle.tables.specs.State.{Area, K}
-use Rattle.tables.specs.View.{areaWordAt, slotWordAt, view}
+use Rattle.tables.specs.View.{areaWordAt, view}
 use Rattle.tables.specs.Search.{isSome}
 use Rattle.sound.specs.Clauses.{isNowhere, long, rooted, s4Area, s4Absent, s5Slot}
 
@@ -22,12 +22,9 @@ headerTest l k p = zeroed header (areaWordAt l p 0) && s4Area k p 0
 unfoldable pub structureTest : List ℕ → K → ℕ → ℕ → Bool
 structureTest l k p j = zeroed structure (areaWordAt l p (1 + j)) && s4Area k p (1 + j) && s4Absent l k p j
 
-unfoldable pub slotTest : List ℕ → K → ℕ → ℕ → Bool
-slotTest l k p i = zeroed slot (slotWordAt l p i) && s5Slot l k p i
-
--- .. of the eight of structure j
+-- S5 of the eight slots of structure j
 unfoldable pub slotsTest : List ℕ → K → ℕ → ℕ → Bool
-slotsTest l k p j = all 8 (λ o. slotTest l k p (8 * j + o))
+slotsTest l k p j = all 8 (λ o. s5Slot l k p (8 * j + o))
 
 -- structure j of p is present
 pub record HasStructure (l : List ℕ) (p j : ℕ) : Type 0 where

@@ -3,8 +3,8 @@ ghost use mathlib.Core.Bool.{_&&_};
 ghost use Prim.Native.Nat.{_/_, _^_, _<_};
 ghost use Rattle.loops.specs.Every.{all};
 ghost use Rattle.tables.specs.View.{nth, view};
-ghost use Rattle.sound.specs.Clauses.{isNowhere, s1, s2Root, s2, blankRegion, s3Regions, s3First, s3, s4, s5};
-ghost use Rattle.shape.specs.Records.{areaTest, headerTest, structureTest, slotTest, slotsTest, HasStructure};
+ghost use Rattle.sound.specs.Clauses.{isNowhere, s1, s2Root, s2, blankRegion, s3Regions, s3First, s3, s4, s5Slot, s5};
+ghost use Rattle.shape.specs.Records.{areaTest, headerTest, structureTest, slotsTest, HasStructure};
 use crate::is_rooted;
 use tables::zeros;
 use words::Line;
@@ -170,16 +170,13 @@ fn regions_sound(t: &[u64; 641], p: Partition) -> bool
     all_blank(tables::read::regions(t, p))
 }
 
-// S3 and S5 of slot i, whose structure is present: a zero word, or an entry, start < end
+// S5 of slot i, whose structure is present: a zero word, or an entry, start < end
 fn slot_sound(t: &[u64; 641], p: Partition, i: Slot) -> bool
     requires { ⌜ (p .0 < 16) × (i .0 < 32) × HasStructure (now t) (p .0) (i .0 / 8) ⌝ }
-    ensures { λ r. ⌜ r ≡ slotTest (now (t .entry)) (view (now (t .entry)) .k) (p .0) (i .0) ⌝ }
+    ensures { λ r. ⌜ r ≡ s5Slot (now (t .entry)) (view (now (t .entry)) .k) (p .0) (i .0) ⌝ }
 {
     if zeros::slot_word(t, p, i) {
         return true;
-    }
-    if !zeros::slot_bits(t, p, i) {
-        return false;
     }
     let f = tables::read::entry(t, p, i);
     if !f.present {
@@ -218,7 +215,7 @@ fn structure_slots(t: &[u64; 641], p: Partition, j: u32) -> bool
 // .. of all 32
 fn slots_sound(t: &[u64; 641], p: Partition) -> bool
     requires { ⌜ p .0 < 16 ⌝ }
-    ensures { λ r. ⌜ r ≡ all 32 (slotTest (now (t .entry)) (view (now (t .entry)) .k) (p .0)) ⌝ }
+    ensures { λ r. ⌜ r ≡ all 32 (s5Slot (now (t .entry)) (view (now (t .entry)) .k) (p .0)) ⌝ }
 {
     let mut j = 0u32;
     while j < 4 {

@@ -7,7 +7,7 @@ use lib.Dec.{leb, ltb, eqb}
 use Rattle.loops.specs.Every.{all, any}
 use Rattle.loops.specs.Climb.{reaches}
 use Rattle.words.specs.Kind.{zeroed}
-use Rattle.words.specs.Words.{first, header, structure, regions, slot}
+use Rattle.words.specs.Words.{first, header, structure, regions}
 use Rattle.words.specs.declared.Rights.{Rights}
 use Rattle.words.specs.declared.regions_word.Region.{Region}
 use Rattle.shapes.specs.declared.Board.{Board}
@@ -65,7 +65,6 @@ s3 l p =
     && all 4 (λ j. zeroed structure (areaWordAt l p (1 + j)))
     && s3Regions l p
     && zeroBlanks l p
-    && all 32 (λ i. zeroed slot (slotWordAt l p i))
 
 -- ── S4 ──
 -- the two areas 0, 0 of the root
@@ -121,8 +120,19 @@ s7Inside k p = all 32 (λ i. when (λ e. any 32 (λ j. has (grants p e) (k .slot
 unfoldable pub s7Cover : K → ℕ → Bool
 s7Cover k p = all 32 (λ j. when (λ f. not (eqb (f .given) p) || covered k p (f .start) (f .stop)) (k .slot (k .parent p) j))
 
-unfoldable pub s7 : K → ℕ → Bool
-s7 k p = s7Given k p && cond (eqb p 0) (s7Root k p) (not (present k p) || (s7Inside k p && s7Cover k p))
+-- the entry f is given to p and equals e
+unfoldable pub lends : ℕ → Entry → Entry → Bool
+lends p e f = eqb (f .given) p && eqb (f .start) (e .start) && eqb (f .stop) (e .stop)
+
+-- e of p, whose open bit is o, is open, not given, and equal to an entry that p's parent gave it
+unfoldable pub undivided : K → ℕ → Bool → Entry → Bool
+undivided k p o e = o && eqb (e .given) 0 && not (eqb p 0) && any 32 (λ j. has (lends p e) (k .slot (k .parent p) j))
+
+unfoldable pub s7Whole : Table → ℕ → Bool
+s7Whole t p = all 32 (λ i. when (λ e. not (e .whole) || undivided (t .k) p (t .opened p i) e) (t .k .slot p i))
+
+unfoldable pub s7 : Table → ℕ → Bool
+s7 t p = s7Given (t .k) p && s7Whole t p && cond (eqb p 0) (s7Root (t .k) p) (not (present (t .k) p) || (s7Inside (t .k) p && s7Cover (t .k) p))
 
 -- ── S8 ──
 -- a not-given entry of q equals the area
@@ -193,7 +203,7 @@ clauseAt b l n p =
     (cond (eqb n 4) (s4 l (view l .k) p)
     (cond (eqb n 5) (s5 l (view l .k) p)
     (cond (eqb n 6) (s6 (view l .k) p)
-    (cond (eqb n 7) (s7 (view l .k) p)
+    (cond (eqb n 7) (s7 (view l) p)
     (cond (eqb n 8) (s8 (view l .k) p)
     (cond (eqb n 9) (s9 (view l) p)
     (cond (eqb n 10) (s10 b (view l) p)

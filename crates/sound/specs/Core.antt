@@ -1,10 +1,11 @@
 -- Soundness without words, open bits and regions: what the theory of the services is proved over.
 use mathlib.Core.Path.{_≡_}
+use mathlib.Core.Bool.{true}
 use mathlib.Core.Logic.{_⊎_, _↔_}
 use Prim.Native.Nat.{ℕ, _+_, _/_, _≤_, _<_}
 use Rattle.loops.specs.Climb.{Reaches}
 use Rattle.tables.specs.State.{Opt, none, some, Entry, Area, nowhere, K, allRights}
-use Rattle.tables.specs.Lines.{In, InA, Holds}
+use Rattle.tables.specs.Lines.{In, InA, Holds, Clear}
 use Rattle.sound.specs.Sound.{Present, Rooted, Sub}
 
 -- around an entry of c: an entry that c's parent gave it, with all its rights
@@ -16,6 +17,18 @@ pub record Inside (slot : ℕ → ℕ → Opt Entry) (up : ℕ → ℕ) (c : ℕ
   pub from : f .start ≤ e .start
   pub to : e .stop ≤ f .stop
   pub sub : Sub (e .rights) (f .rights)
+
+-- the entry e of c, lent whole: it shares no line with an area, is given to nobody, and equals an entry that c's parent gave it
+pub record Whole (area : ℕ → ℕ → Opt Area) (slot : ℕ → ℕ → Opt Entry) (up : ℕ → ℕ) (c : ℕ) (e : Entry) : Type 0 where
+  pub clear : Clear area e
+  pub free : e .given ≡ 0
+  pub other : c ≡ 0 → ⊥
+  pub i : ℕ
+  pub f : Entry
+  pub at : slot (up c) i ≡ some f
+  pub given : f .given ≡ c
+  pub start : f .start ≡ e .start
+  pub stop : f .stop ≡ e .stop
 
 -- the not-given entry that area j of p is: the parent's, or p's own if the area is a structure's
 pub record Backed (slot : ℕ → ℕ → Opt Entry) (up : ℕ → ℕ) (p j : ℕ) (a : Area) : Type 0 where
@@ -45,6 +58,7 @@ pub record Core (k : K) : Type 0 where
   pub s7-given : (p i : ℕ) (e : Entry) → k .slot p i ≡ some e → (e .given ≡ 0 → ⊥) → Present k (e .given) × (k .parent (e .given) ≡ p)
   pub s7-in : (c i : ℕ) (e : Entry) → k .slot c i ≡ some e → (c ≡ 0 → ⊥) → Inside (k .slot) (k .parent) c e
   pub s7-cover : (p i : ℕ) (f : Entry) (l : ℕ) → k .slot p i ≡ some f → (f .given ≡ 0 → ⊥) → In l f → Holds (k .slot) (f .given) l
+  pub s7-whole : (c i : ℕ) (e : Entry) → k .slot c i ≡ some e → e .whole ≡ true → Whole (k .area) (k .slot) (k .parent) c e
   pub s8 : (p j : ℕ) (a : Area) → k .area p j ≡ some a → (Rooted p j → ⊥) → Backed (k .slot) (k .parent) p j a
   pub s8-apart : (p j q i : ℕ) (a b : Area) (l : ℕ) → k .area p j ≡ some a → k .area q i ≡ some b → InA l a → InA l b → (p ≡ q) × (j ≡ i)
   pub s11 : (i : ℕ) (e : Entry) → k .slot 0 i ≡ some e → e .rights ≡ allRights

@@ -8,7 +8,7 @@ use lib.ListN.{length}
 use lib.Dec.{eqb}
 use Rattle.loops.specs.Climb.{Reaches}
 use Rattle.words.specs.Kind.{Zeroed}
-use Rattle.words.specs.Words.{first, header, structure, regions, slot}
+use Rattle.words.specs.Words.{first, header, structure, regions}
 use Rattle.words.specs.declared.Rights.{Rights}
 use Rattle.shapes.specs.declared.Board.{Board}
 use Rattle.tables.specs.State.{none, some, Entry, allRights, Area, nowhere, K, Table}
@@ -38,6 +38,22 @@ pub record Granted (k : K) (p : ℕ) (e : Entry) (i : ℕ) (f : Entry) : Type 0 
 -- one entry that p's parent gave it contains e and f
 abbrev pub OneGrant : K → ℕ → Entry → Entry → Type 0
 OneGrant k p e f = (j : ℕ) × (g : Entry) × Granted k p e j g × Granted k p f j g
+
+-- an entry that p's parent gave it equals e
+pub record Lends (k : K) (p : ℕ) (e : Entry) : Type 0 where
+  pub i : ℕ
+  pub f : Entry
+  pub at : k .slot (k .parent p) i ≡ some f
+  pub given : f .given ≡ p
+  pub start : f .start ≡ e .start
+  pub stop : f .stop ≡ e .stop
+
+-- e, in slot i of p, is open, not given, and equal to an entry that p's parent gave it (the root has no parent)
+pub record Undivided (t : Table) (p i : ℕ) (e : Entry) : Type 0 where
+  pub opened : t .opened p i ≡ true
+  pub free : e .given ≡ 0
+  pub other : p ≡ 0 → ⊥
+  pub lent : Lends (t .k) p e
 
 -- a not-given entry of partition q equals the area
 pub record Equals (k : K) (q : ℕ) (a : Area) : Type 0 where
@@ -75,7 +91,6 @@ pub record S3 (l : List ℕ) (p : ℕ) : Type 0 where
   pub region-bits : Zeroed regions (regionsWordAt l p)
   pub unloaded : (r : ℕ) → r < 8 → nth (regionsAt l p) r .loaded ≡ false → nth (regionsAt l p) r .slot .0 ≡ 0
   pub blank : (o : ℕ) → o < 2 → blankWordAt l p o ≡ 0
-  pub slot-bits : (i : ℕ) → i < 32 → Zeroed slot (slotWordAt l p i)
 
 -- S4 absent structures are zero words; root structure 0 is present with area 0, 0; any other present structure has an area; 0, 0 counts as no area, and
 -- every area has 16 lines or more.
@@ -95,12 +110,13 @@ abbrev pub S6 : K → ℕ → Type 0
 S6 k p = (i j : ℕ) (e f : Entry) (l : ℕ) → k .slot p i ≡ some e → k .slot p j ≡ some f → In l e → In l f → i ≡ j
 
 -- S7 the root's entries cover exactly base to end; given is 0 or a present child; a child's entries lie each inside one entry its parent gave it, and
--- cover those exactly.
-pub record S7 (k : K) (p : ℕ) : Type 0 where
-  pub root : p ≡ 0 → (l : ℕ) → Holds (k .slot) p l ↔ ((k .base ≤ l) × (l < k .stop))
-  pub given : (i : ℕ) (e : Entry) → k .slot p i ≡ some e → (e .given ≡ 0 → ⊥) → Present k (e .given) × (k .parent (e .given) ≡ p)
-  pub inside : (p ≡ 0 → ⊥) → (i : ℕ) (e : Entry) → k .slot p i ≡ some e → (j : ℕ) × (f : Entry) × Granted k p e j f
-  pub cover : (p ≡ 0 → ⊥) → Present k p → (i : ℕ) (f : Entry) → k .slot (k .parent p) i ≡ some f → f .given ≡ p → (l : ℕ) → In l f → Holds (k .slot) p l
+-- cover those exactly; each whole entry is open, not given, and equal to an entry its partition's parent gave it.
+pub record S7 (t : Table) (p : ℕ) : Type 0 where
+  pub root : p ≡ 0 → (l : ℕ) → Holds (t .k .slot) p l ↔ ((t .k .base ≤ l) × (l < t .k .stop))
+  pub given : (i : ℕ) (e : Entry) → t .k .slot p i ≡ some e → (e .given ≡ 0 → ⊥) → Present (t .k) (e .given) × (t .k .parent (e .given) ≡ p)
+  pub inside : (p ≡ 0 → ⊥) → (i : ℕ) (e : Entry) → t .k .slot p i ≡ some e → (j : ℕ) × (f : Entry) × Granted (t .k) p e j f
+  pub cover : (p ≡ 0 → ⊥) → Present (t .k) p → (i : ℕ) (f : Entry) → t .k .slot (t .k .parent p) i ≡ some f → f .given ≡ p → (l : ℕ) → In l f → Holds (t .k .slot) p l
+  pub whole : (i : ℕ) (e : Entry) → t .k .slot p i ≡ some e → e .whole ≡ true → Undivided t p i e
 
 -- S8 a header's area equals a not-given entry of the parent; a structure's area equals a not-given entry of the partition or of its parent; no two areas
 -- share a line (of two owners the lower is at fault).
@@ -138,7 +154,7 @@ Clause b l n p =
     (cond (eqb n 4) (S4 l (view l .k) p)
     (cond (eqb n 5) (S5 l (view l .k) p)
     (cond (eqb n 6) (S6 (view l .k) p)
-    (cond (eqb n 7) (S7 (view l .k) p)
+    (cond (eqb n 7) (S7 (view l) p)
     (cond (eqb n 8) (S8 (view l .k) p)
     (cond (eqb n 9) (S9 (view l) p)
     (cond (eqb n 10) (S10 b (view l) p)

@@ -19,7 +19,7 @@ use Rattle.tables.specs.View.{view}
 
 -- ── each word: an absent thing is a zero word ──
 abbrev pub slotFor : Entry → Bool → SlotFields
-slotFor e o = record { present = true; opened = o; rights = e .rights; given = record { 0 = e .given }; start = record { 0 = e .start }; end = record { 0 = e .stop } }
+slotFor e o = record { present = true; opened = o; rights = e .rights; given = record { 0 = e .given }; start = record { 0 = e .start }; end = record { 0 = e .stop }; whole = e .whole }
 
 unfoldable pub slotWord : Opt Entry → Bool → ℕ
 slotWord none o = 0

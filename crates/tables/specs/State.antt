@@ -1,6 +1,6 @@
 -- The table that 641 words mean. An absent thing is `none`. An entry has no open bit of its own: S9 derives it.
 use mathlib.Core.Path.{_≡_}
-use mathlib.Core.Bool.{Bool, true}
+use mathlib.Core.Bool.{Bool, true, false}
 use Prim.Native.Nat.{ℕ}
 use Rattle.words.specs.declared.Rights.{Rights}
 
@@ -13,30 +13,32 @@ pub record Entry : Type 0 where
   pub stop : ℕ
   pub given : ℕ
   pub rights : Rights
+  -- the whole mark: it was lent whole
+  pub whole : Bool
 
 -- ── makers of entries: no other place builds one ──
 abbrev pub allRights : Rights
 allRights = record { read = true; write = true; execute = true }
 
-abbrev pub entry : ℕ → ℕ → ℕ → Rights → Entry
-entry start stop given rights = record { start = start; stop = stop; given = given; rights = rights }
+abbrev pub entry : ℕ → ℕ → ℕ → Rights → Bool → Entry
+entry start stop given rights whole = record { start = start; stop = stop; given = given; rights = rights; whole = whole }
 
 -- all that there is: what the root gets at boot
 abbrev pub rootEntry : ℕ → ℕ → Entry
-rootEntry base end = entry base end 0 allRights
+rootEntry base end = entry base end 0 allRights false
 
 abbrev pub endingAt : Entry → ℕ → Entry
-endingAt e l = entry (e .start) l (e .given) (e .rights)
+endingAt e l = entry (e .start) l (e .given) (e .rights) (e .whole)
 
 abbrev pub startingAt : Entry → ℕ → Entry
-startingAt e l = entry l (e .stop) (e .given) (e .rights)
+startingAt e l = entry l (e .stop) (e .given) (e .rights) (e .whole)
 
 abbrev pub givenTo : Entry → ℕ → Entry
-givenTo e p = entry (e .start) (e .stop) p (e .rights)
+givenTo e p = entry (e .start) (e .stop) p (e .rights) (e .whole)
 
--- the range of an entry, with rights R, not given
-abbrev pub rangeOf : Entry → Rights → Entry
-rangeOf e r = entry (e .start) (e .stop) 0 r
+-- the range of an entry, with rights R, not given; whole or not
+abbrev pub rangeOf : Entry → Rights → Bool → Entry
+rangeOf e r w = entry (e .start) (e .stop) 0 r w
 
 -- memory that serves the kernel
 pub record Area : Type 0 where
@@ -67,6 +69,7 @@ pub record Same (a b : Entry) : Type 0 where
   pub stop : a .stop ≡ b .stop
   pub given : a .given ≡ b .given
   pub rights : a .rights ≡ b .rights
+  pub whole : a .whole ≡ b .whole
 
 pub record SameA (a b : Area) : Type 0 where
   pub lo : a .lo ≡ b .lo

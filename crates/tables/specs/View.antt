@@ -50,7 +50,7 @@ slotWordAt l p i = getD l (slotPlace p i) 0
 
 -- ── fields as parts of the table ──
 abbrev pub entryOf : SlotFields → Entry
-entryOf f = entry (f .start .0) (f .end .0) (f .given .0) (f .rights)
+entryOf f = entry (f .start .0) (f .end .0) (f .given .0) (f .rights) (f .whole)
 
 -- a present slot is an entry
 unfoldable pub entryIn : SlotFields → Opt Entry

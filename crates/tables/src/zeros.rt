@@ -3,13 +3,13 @@ ghost use Prim.Native.Nat.{_+_, _*_, _<_};
 ghost use lib.Dec.{eqb};
 ghost use Rattle.loops.specs.Every.{all};
 ghost use Rattle.words.specs.Kind.{zeroed};
-ghost use Rattle.words.specs.Words.{first, header, structure, regions, slot};
+ghost use Rattle.words.specs.Words.{first, header, structure, regions};
 ghost use Rattle.tables.specs.View.{firstWord, recordWord, areaWordAt, regionsWordAt, slotWordAt};
 ghost use Rattle.tables.specs.ZeroRecord.{zeroBlanks};
 use words::Partition;
 use words::Slot;
 
-// What soundness asks of words beside their fields: that no zero bit is set, or that the whole word is zero.
+// What soundness asks of words beside their fields: that no zero bit is set (a slot has none), or that the whole word is zero.
 
 // word o of the 40 of p
 fn word(t: &[u64; 641], p: Partition, o: u32) -> u64
@@ -49,14 +49,6 @@ pub fn regions_bits(t: &[u64; 641], p: Partition) -> bool
     ensures { λ r. ⌜ r ≡ zeroed regions (regionsWordAt (now (t .entry)) (p .0)) ⌝ }
 {
     words::regions_word::zero_bits(word(t, p, 5)) == 0
-}
-
-// .. in that of slot i
-pub fn slot_bits(t: &[u64; 641], p: Partition, i: Slot) -> bool
-    requires { ⌜ (p .0 < 16) × (i .0 < 32) ⌝ }
-    ensures { λ r. ⌜ r ≡ zeroed slot (slotWordAt (now (t .entry)) (p .0) (i .0)) ⌝ }
-{
-    words::slot_word::zero_bits(word(t, p, 8 + i.0)) == 0
 }
 
 // the word of structure j is zero

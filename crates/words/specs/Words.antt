@@ -87,22 +87,22 @@ regions = record {
   refused = RegionsRefused;
 }
 
--- a slot: present 1, open 1, read 1, write 1, execute 1, given 4, start 27, end 27, zero 1
+-- a slot: present 1, open 1, read 1, write 1, execute 1, given 4, start 27, end 27, whole 1
 unfoldable pub slot : Kind SlotFields SlotRead
 slot = record {
-  parts = bits 1 ∷ bits 1 ∷ bits 1 ∷ bits 1 ∷ bits 1 ∷ bits 4 ∷ bits 27 ∷ bits 27 ∷ zeros 1 ∷ [];
-  of = λ l. record { present = eqb (getD l 0 0) 1; opened = eqb (getD l 1 0) 1; rights = record { read = eqb (getD l 2 0) 1; write = eqb (getD l 3 0) 1; execute = eqb (getD l 4 0) 1 }; given = record { 0 = getD l 5 0 }; start = record { 0 = getD l 6 0 }; end = record { 0 = getD l 7 0 } };
-  list = λ f. bitOf (f .present) ∷ bitOf (f .opened) ∷ bitOf (f .rights .read) ∷ bitOf (f .rights .write) ∷ bitOf (f .rights .execute) ∷ f .given .0 ∷ f .start .0 ∷ f .end .0 ∷ [];
+  parts = bits 1 ∷ bits 1 ∷ bits 1 ∷ bits 1 ∷ bits 1 ∷ bits 4 ∷ bits 27 ∷ bits 27 ∷ bits 1 ∷ [];
+  of = λ l. record { present = eqb (getD l 0 0) 1; opened = eqb (getD l 1 0) 1; rights = record { read = eqb (getD l 2 0) 1; write = eqb (getD l 3 0) 1; execute = eqb (getD l 4 0) 1 }; given = record { 0 = getD l 5 0 }; start = record { 0 = getD l 6 0 }; end = record { 0 = getD l 7 0 }; whole = eqb (getD l 8 0) 1 };
+  list = λ f. bitOf (f .present) ∷ bitOf (f .opened) ∷ bitOf (f .rights .read) ∷ bitOf (f .rights .write) ∷ bitOf (f .rights .execute) ∷ f .given .0 ∷ f .start .0 ∷ f .end .0 ∷ bitOf (f .whole) ∷ [];
   fields = SlotIs;
   refused = SlotRefused;
 }
 
--- a call word: service 4, P 4, S 5, T 5, R 3 (read, write, execute), L 27, zero 16
+-- a call word: service 4, P 4, S 5, T 5, R 3 (read, write, execute), L 27, W 1, zero 15
 unfoldable pub call : Kind CallFields CallRead
 call = record {
-  parts = bits 4 ∷ bits 4 ∷ bits 5 ∷ bits 5 ∷ bits 1 ∷ bits 1 ∷ bits 1 ∷ bits 27 ∷ zeros 16 ∷ [];
-  of = λ l. record { service = getD l 0 0; partition = record { 0 = getD l 1 0 }; slot = record { 0 = getD l 2 0 }; other = getD l 3 0; rights = record { read = eqb (getD l 4 0) 1; write = eqb (getD l 5 0) 1; execute = eqb (getD l 6 0) 1 }; line = record { 0 = getD l 7 0 } };
-  list = λ f. f .service ∷ f .partition .0 ∷ f .slot .0 ∷ f .other ∷ bitOf (f .rights .read) ∷ bitOf (f .rights .write) ∷ bitOf (f .rights .execute) ∷ f .line .0 ∷ [];
+  parts = bits 4 ∷ bits 4 ∷ bits 5 ∷ bits 5 ∷ bits 1 ∷ bits 1 ∷ bits 1 ∷ bits 27 ∷ bits 1 ∷ zeros 15 ∷ [];
+  of = λ l. record { service = getD l 0 0; partition = record { 0 = getD l 1 0 }; slot = record { 0 = getD l 2 0 }; other = getD l 3 0; rights = record { read = eqb (getD l 4 0) 1; write = eqb (getD l 5 0) 1; execute = eqb (getD l 6 0) 1 }; line = record { 0 = getD l 7 0 }; whole = eqb (getD l 8 0) 1 };
+  list = λ f. f .service ∷ f .partition .0 ∷ f .slot .0 ∷ f .other ∷ bitOf (f .rights .read) ∷ bitOf (f .rights .write) ∷ bitOf (f .rights .execute) ∷ f .line .0 ∷ bitOf (f .whole) ∷ [];
   fields = CallIs;
   refused = CallRefused;
 }

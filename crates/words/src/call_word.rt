@@ -16,6 +16,7 @@ pub struct CallFields {
     pub other: u32,
     pub rights: Rights,
     pub line: Line,
+    pub whole: bool,
 }
 
 pub enum CallRead {
@@ -38,6 +39,7 @@ pub fn fields(w: u64) -> CallFields
             execute: w / 0x800_0000_0000 % 2 == 1,
         },
         line: Line((w / 0x1_0000 % 0x800_0000) as u32),
+        whole: w / 0x8000 % 2 == 1,
     }
 }
 
@@ -45,7 +47,7 @@ pub fn fields(w: u64) -> CallFields
 pub fn zero_bits(w: u64) -> u64
     ensures { λ r. ⌜ r ≡ zeroSum (call .parts) w ⌝ }
 {
-    w % 0x1_0000
+    w % 0x8000
 }
 
 pub fn read(w: u64) -> CallRead
@@ -88,6 +90,6 @@ pub fn write(f: CallFields) -> Written
                         + (bit(f.rights.read) * 0x2000_0000_0000
                             + (bit(f.rights.write) * 0x1000_0000_0000
                                 + (bit(f.rights.execute) * 0x800_0000_0000
-                                    + line as u64 * 0x1_0000)))))),
+                                    + (line as u64 * 0x1_0000 + bit(f.whole) * 0x8000))))))),
     )
 }

@@ -15,6 +15,7 @@ pub struct SlotFields {
     pub given: Partition,
     pub start: Line,
     pub end: Line,
+    pub whole: bool,
 }
 
 pub enum SlotRead {
@@ -22,7 +23,7 @@ pub enum SlotRead {
     Refused(u64),
 }
 
-// The fields that stand in a word, whatever its zero bits.
+// The fields that stand in a word.
 pub fn fields(w: u64) -> SlotFields
     ensures { λ r. ⌜ r ≡ fieldsIn slot w ⌝ }
 {
@@ -37,14 +38,15 @@ pub fn fields(w: u64) -> SlotFields
         given: Partition((w / 0x80_0000_0000_0000 % 16) as u32),
         start: Line((w / 0x1000_0000 % 0x800_0000) as u32),
         end: Line((w / 2 % 0x800_0000) as u32),
+        whole: w % 2 == 1,
     }
 }
 
-// What stands in the zero bits, added up: 0 where none is set.
+// There is no zero bit: what stands in them adds up to 0, and no word is refused.
 pub fn zero_bits(w: u64) -> u64
     ensures { λ r. ⌜ r ≡ zeroSum (slot .parts) w ⌝ }
 {
-    w % 2
+    0
 }
 
 pub fn read(w: u64) -> SlotRead
@@ -78,6 +80,7 @@ pub fn write(f: SlotFields) -> Written
                     + (bit(f.rights.write) * 0x1000_0000_0000_0000
                         + (bit(f.rights.execute) * 0x800_0000_0000_0000
                             + (given as u64 * 0x80_0000_0000_0000
-                                + (start as u64 * 0x1000_0000 + end as u64 * 2)))))),
+                                + (start as u64 * 0x1000_0000
+                                    + (end as u64 * 2 + bit(f.whole)))))))),
     )
 }

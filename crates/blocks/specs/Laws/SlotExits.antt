@@ -1,6 +1,6 @@
 -- Cut and give, exit by exit: the number of each refusal, and, done, that nothing is left to settle, since each part of an open entry is open.
 use mathlib.Core.Path.{_≡_, refl, ap, sym, subst, _∙_}
-use mathlib.Core.Bool.{Bool, true, false}
+use mathlib.Core.Bool.{Bool, true, false, not}
 use mathlib.Core.List.{List}
 use Prim.Native.Nat.{ℕ, _<_, _≤_}
 use native.Mathlib.Omega.{arith}
@@ -60,7 +60,13 @@ module _ {l : List ℕ} {s k : ℕ} {f : SlotFields} (h : CanCut l s k f) where
         ran-refused (h .entry .rule _ ∙ pass 7 (rw (lt-ltb (f .start .0) k low) (lt-ltb k (f .end .0) high))
         (missing 8 _ (ap (λ (c : ℕ). lowest 32 (free (view l .k) c)) now ∙ z)))
 
-    -- both parts are open, as the whole was
+    pub cut-whole : {n : ℕ} → lowest 32 (free (view l .k) c) ≡ some n → f .whole ≡ true → Ran (cut (view l) s k) l (Refused 18) l
+    unfolding cut
+    cut-whole {n} z q =
+        ran-refused (h .entry .rule _ ∙ pass 7 (rw (lt-ltb (f .start .0) k low) (lt-ltb k (f .end .0) high))
+        (there 8 _ n (ap (λ (c : ℕ). lowest 32 (free (view l .k) c)) now ∙ z) (fail 18 _ (ap not q))))
+
+    -- both parts are open, as the entry was
     split-settled : (n : ℕ) → Settled (splitAt (view l) c s n k f)
     split-settled n =
         let whole = free-clear (h .right) (h .entry) in
@@ -69,11 +75,11 @@ module _ {l : List ℕ} {s k : ℕ} {f : SlotFields} (h : CanCut l s k f) where
         (put-settled (right-settled (h .right)) c s (endingAt (entryOf f) k) true (part (f .start .0) (f .start .0) k (f .end .0) whole (omega arith) (omega arith)) (λ _. refl))
         c n (startingAt (entryOf f) k) true (part (f .start .0) k (f .end .0) (f .end .0) whole (omega arith) (omega arith)) (λ _. refl))
 
-    pub cut-done : {n : ℕ} {m : List ℕ} → lowest 32 (free (view l .k) c) ≡ some n → Is m (splitAt (view l) c s n k f) → Ran (cut (view l) s k) l (Done n 0) m
+    pub cut-done : {n : ℕ} {m : List ℕ} → lowest 32 (free (view l .k) c) ≡ some n → f .whole ≡ false → Is m (splitAt (view l) c s n k f) → Ran (cut (view l) s k) l (Done n 0) m
     unfolding cut
-    cut-done {n} {m} z put =
+    cut-done {n} {m} z q put =
         ran-done (h .entry .rule _ ∙ pass 7 (rw (lt-ltb (f .start .0) k low) (lt-ltb k (f .end .0) high))
-        (there 8 _ n (ap (λ (c : ℕ). lowest 32 (free (view l .k) c)) now ∙ z) refl))
+        (there 8 _ n (ap (λ (c : ℕ). lowest 32 (free (view l .k) c)) now ∙ z) (pass 18 (ap not q) refl)))
         (subst (λ (c : ℕ). m ≡ encode (settled (splitAt (view l) c s n k f))) (sym now) (settled-words put (split-settled n)))
 
 -- ── give ──
@@ -85,23 +91,27 @@ module _ {l : List ℕ} {c p s : ℕ} {f : SlotFields} (h : CanGive l c p s f) w
   pub can-hand : CanEntry l c s f
   can-hand = can-put (h .canon) (h .caller) (h .inI) (h .entry .seen) (h .entry .present)
 
-  pub give-full : (r : Rights) → lowest 32 (free (view l .k) p) ≡ none → Ran (give (view l) p s r) l (Refused 8) l
+  pub give-full : (r : Rights) (w : Bool) → lowest 32 (free (view l .k) p) ≡ none → Ran (give (view l) p s r w) l (Refused 8) l
   unfolding give
-  give-full r z = ran-refused (pass 3 (child-now _ _ (h .now) (h .isChild)) (h .entry .rule _ ∙ missing 8 _ z))
+  give-full r w z = ran-refused (pass 3 (child-now _ _ (h .now) (h .isChild)) (h .entry .rule _ ∙ missing 8 _ z))
 
-  module _ (r : Rights) {n : ℕ} (z : lowest 32 (free (view l .k) p) ≡ some n) where
-    pub give-more : within r (f .rights) ≡ false → Ran (give (view l) p s r) l (Refused 10) l
+  module _ (r : Rights) (w : Bool) {n : ℕ} (z : lowest 32 (free (view l .k) p) ≡ some n) where
+    pub give-more : within r (f .rights) ≡ false → Ran (give (view l) p s r w) l (Refused 10) l
     unfolding give
-    give-more w = ran-refused (pass 3 (child-now _ _ (h .now) (h .isChild)) (h .entry .rule _ ∙ there 8 _ n z (fail 10 _ w)))
+    give-more y = ran-refused (pass 3 (child-now _ _ (h .now) (h .isChild)) (h .entry .rule _ ∙ there 8 _ n z (fail 10 _ y)))
+
+    pub give-whole : within r (f .rights) ≡ true → f .whole ≡ true → Ran (give (view l) p s r w) l (Refused 18) l
+    unfolding give
+    give-whole y q = ran-refused (pass 3 (child-now _ _ (h .now) (h .isChild)) (h .entry .rule _ ∙ there 8 _ n z (pass 10 y (fail 18 _ (ap not q)))))
 
     -- both entries are open: their range is that of f
-    handed-settled : Settled (handedTo (view l) c s p n r f)
+    handed-settled : Settled (handedTo (view l) c s p n r w f)
     handed-settled =
         let whole = free-clear (h .right) (h .entry) in
-        rw (h .entry .opened) (put-settled (put-settled (right-settled (h .right)) c s (givenTo (entryOf f) p) true whole (λ _. refl)) p n (rangeOf (entryOf f) r) true whole (λ _. refl))
+        rw (h .entry .opened) (put-settled (put-settled (right-settled (h .right)) c s (givenTo (entryOf f) p) true whole (λ _. refl)) p n (rangeOf (entryOf f) r w) true whole (λ _. refl))
 
-    pub give-done : {m : List ℕ} → within r (f .rights) ≡ true → Is m (handedTo (view l) c s p n r f) → Ran (give (view l) p s r) l (Done n 0) m
+    pub give-done : {m : List ℕ} → within r (f .rights) ≡ true → f .whole ≡ false → Is m (handedTo (view l) c s p n r w f) → Ran (give (view l) p s r w) l (Done n 0) m
     unfolding give
-    give-done {m} w put =
-        ran-done (pass 3 (child-now _ _ (h .now) (h .isChild)) (h .entry .rule _ ∙ there 8 _ n z (pass 10 w refl)))
-        (subst (λ (c : ℕ). m ≡ encode (settled (handedTo (view l) c s p n r f))) (sym (h .now)) (settled-words put handed-settled))
+    give-done {m} y q put =
+        ran-done (pass 3 (child-now _ _ (h .now) (h .isChild)) (h .entry .rule _ ∙ there 8 _ n z (pass 10 y (pass 18 (ap not q) refl))))
+        (subst (λ (c : ℕ). m ≡ encode (settled (handedTo (view l) c s p n r w f))) (sym (h .now)) (settled-words put handed-settled))

@@ -17,7 +17,7 @@ use Rattle.tables.specs.Search.{present}
 use Rattle.tables.specs.ZeroRecord.{zeroRecord}
 use Rattle.tables.specs.Top.{Top}
 use Rattle.tables.specs.Laws.Top.{top-absent}
-use Rattle.sound.specs.Clauses.{s1, s2, s3First, s3, s4, s5, s6, s7Given, s7, s8Backed, s9, s10, s11, sound}
+use Rattle.sound.specs.Clauses.{s1, s2, s3First, s3, s4, s5, s6, s7Given, s7Whole, s7, s8Backed, s9, s10, s11, sound}
 use Rattle.sound.specs.Laws.Tests.{and-says, and-true, not-says}
 use Rattle.sound.specs.Laws.MeansEntries.{present-means}
 use Rattle.sound.specs.Laws.MeansWords.{s2-means, s5-means}
@@ -91,7 +91,7 @@ module _ (board : Board) (l : List ℕ) (p : ℕ) where
   rest-no h = never (restAt board l p) (λ q. h (rest-says board l p q))
 
   -- all clauses but the last pass
-  pub rest-last : s3 l p && s4 l (view l .k) p && s5 l (view l .k) p ≡ true → s6 (view l .k) p && s7 (view l .k) p ≡ true → s11 (view l .k) p ≡ true
+  pub rest-last : s3 l p && s4 l (view l .k) p && s5 l (view l .k) p ≡ true → s6 (view l .k) p && s7 (view l) p ≡ true → s11 (view l .k) p ≡ true
       → all 5 (s8Backed (view l .k) p) ≡ true → s9 (view l) p ≡ true → s10 board (view l) p ≡ restAt board l p
   unfolding restAt
   rest-last a b c d e = and-is _ (s10 board (view l) p) (and-true _ _ (and-true _ _ (and-true _ _ (and-true _ _ a b) c) d) e)
@@ -131,19 +131,19 @@ module _ (board : Board) {l o c : List ℕ} {n : ℕ} {s e : List ℕ} (can : Ca
   abbrev k : K
   k = view l .k
 
-  s7-says : Passes board l p → (s7Given k p ≡ true) × (exactly k p ≡ true)
-  s7-says h = and-says (s7Given k p) (exactly k p) (sym (s7-parts k p here) ∙ h .s7)
+  s7-says : Passes board l p → (s7Given k p && s7Whole (view l) p ≡ true) × (exactly k p ≡ true)
+  s7-says h = and-says (s7Given k p && s7Whole (view l) p) (exactly k p) (sym (s7-parts (view l) p here) ∙ h .s7)
 
-  pub no-given : s7Given k p ≡ false → false ≡ restAt board l p
+  pub no-given : s7Given k p && s7Whole (view l) p ≡ false → false ≡ restAt board l p
   no-given q = rest-no board l p (λ h. false≢true (sym q ∙ s7-says h .0))
 
   pub no-cover : exactly k p && s11 k p ≡ false → false ≡ restAt board l p
   no-cover q = rest-no board l p (λ h. false≢true (sym q ∙ and-true _ _ (s7-says h .1) (h .s11)))
 
-  pub rest-regions : s7Given k p ≡ true → exactly k p && s11 k p ≡ true → all 5 (s8Backed k p) ≡ true → s9 (view l) p ≡ true → s10 board (view l) p ≡ restAt board l p
+  pub rest-regions : s7Given k p && s7Whole (view l) p ≡ true → exactly k p && s11 k p ≡ true → all 5 (s8Backed k p) ≡ true → s9 (view l) p ≡ true → s10 board (view l) p ≡ restAt board l p
   rest-regions g x d q =
       let (y, z) = and-says (exactly k p) (s11 k p) x in
-      rest-last board l p (shaped-record (can .shaped) p b) (and-true _ _ (all-at 16 (s6 k) (can .s6) p b) (s7-parts k p here ∙ and-true _ _ g y)) z d q
+      rest-last board l p (shaped-record (can .shaped) p b) (and-true _ _ (all-at 16 (s6 k) (can .s6) p b) (s7-parts (view l) p here ∙ and-true _ _ g y)) z d q
 
 module _ (board : Board) (l : List ℕ) where
   -- the sound tables pass each part

@@ -463,7 +463,7 @@ module _ {l o : List ℕ} {p q n m : ℕ} (h : ChildOf l o p q n m) where
 
 -- ── the root's entries, and base to end as one that it was given ──
 abbrev whole : List ℕ → ℕ → ℕ → Entry
-whole l p b = entry (view l .k .base) (view l .k .stop) p allRights
+whole l p b = entry (view l .k .base) (view l .k .stop) p allRights false
 
 module _ {l o : List ℕ} {p n : ℕ} (h : InOrder l o p n) (root : p ≡ 0) where
   root-exact : exactly (view l .k) p && s11 (view l .k) p ≡ true → Exact (rowOf l o p) n (whole l p) 1 p

@@ -9,14 +9,14 @@ use Rattle.isolation.specs.Ladder.{Ladder, finish, must, there, least, Least, A
 use Rattle.isolation.specs.Laws.Ladder.{least-one}
 use Rattle.demands.specs.Demands.{Applies, fails, later, missing, of-entry, no-lowest, of-lowest, Lowest}
 
--- each number of the ladder is at least n, at least those before it, and at most 17
+-- each number of the ladder is at least n, at least those before it, and at most 22, the highest that there is
 pub data Rises : ℕ → Ladder → Type 1 where
   top : {n v w : ℕ} {t : Table} → Rises n (finish v w t)
-  rung : {n m : ℕ} {P : Type 0} {c : Ladder} → n ≤ m → m ≤ 17 → Rises m c → Rises n (must m P c)
-  value : {n m : ℕ} {A : Type 0} {o : Opt A} {c : A → Ladder} → n ≤ m → m ≤ 17 → ((a : A) → Rises m (c a)) → Rises n (there m o c)
-  number : {n m k : ℕ} {P : ℕ → Type 0} {c : ℕ → Ladder} → n ≤ m → m ≤ 17 → ((i : ℕ) → Rises m (c i)) → Rises n (least m k P c)
+  rung : {n m : ℕ} {P : Type 0} {c : Ladder} → n ≤ m → m ≤ 22 → Rises m c → Rises n (must m P c)
+  value : {n m : ℕ} {A : Type 0} {o : Opt A} {c : A → Ladder} → n ≤ m → m ≤ 22 → ((a : A) → Rises m (c a)) → Rises n (there m o c)
+  number : {n m k : ℕ} {P : ℕ → Type 0} {c : ℕ → Ladder} → n ≤ m → m ≤ 22 → ((i : ℕ) → Rises m (c i)) → Rises n (least m k P c)
 
-pub applies-range : {n m : ℕ} {l : Ladder} → Rises n l → Applies l m → (n ≤ m) × (m ≤ 17)
+pub applies-range : {n m : ℕ} {l : Ladder} → Rises n l → Applies l m → (n ≤ m) × (m ≤ 22)
 applies-range (rung a b r) (fails _) = (a, b)
 applies-range (rung a b r) (later x) = let (c, d) = applies-range r x in (omega arith, d)
 applies-range (value a b r) (missing _) = (a, b)
@@ -48,7 +48,7 @@ past-number {i = i} p (no-lowest q) = absurd (q i (p .below) (p .here))
 past-number {n = n} {c = c} p (of-lowest j q x) = subst (λ z. Applies (c z) n) (least-one q p) x
 
 pub none-left : {n v w : ℕ} {t : Table} → Applies (finish v w t) n → ⊥
-none-left x = let (a, b) = applies-range {n = 18} top x in omega arith
+none-left x = let (a, b) = applies-range {n = 23} top x in omega arith
 
 pub answers-say : {n : ℕ} {l : Ladder} {r : Result} → Rises n l → Answers l r → Says l r
 answers-say top finished = λ n x. none-left x

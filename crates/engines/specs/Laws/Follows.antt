@@ -112,9 +112,9 @@ module _ {base end : ℕ} {g : Ledger} {ms : List ℕ} (fit : Memory (length ms)
           high = omega (arith, held-range (h .core) last .1, s .end-is);
         })
 
-    give-follows : (c i : ℕ) (r : Rights) {v w : ℕ} {t′ : Table} → give t c i r ≡ done v w t′ → Follows base end g ms (enter c (lines i))
-    give-follows c i r x =
-        let (e, ok, _) = give-done h c i r x in
+    give-follows : (c i : ℕ) (r : Rights) (m : Bool) {v w : ℕ} {t′ : Table} → give t c i r m ≡ done v w t′ → Follows base end g ms (enter c (lines i))
+    give-follows c i r m x =
+        let (e, ok, _) = give-done h c i r m x in
         let (a, d) = ok .child .present in
         let n = ok .child .other in
         let b = h .core .s2-range c 0 a d .0 in
@@ -152,7 +152,7 @@ module _ {base end : ℕ} {g : Ledger} {ms : List ℕ} (fit : Memory (length ms)
           delete = λ y x. let (ok, _) = delete-done h p x in rw y (all-follows _ (ok .root));
           prepare = λ y _. rw y same;
           collect = λ y _. rw y same;
-          give = λ y x. rw y (give-follows p i (f .rights) x);
+          give = λ y x. rw y (give-follows p i (f .rights) (f .whole) x);
           take = λ y x. rw y (take-follows i x);
           cut = λ y _. rw y same;
           merge = λ y _. rw y same;

@@ -1,5 +1,6 @@
 -- Boot gives a right table in which the root holds base to end; its answer is that of its conditions.
 use mathlib.Core.Path.{_≡_, refl, sym, _∙_}
+use mathlib.Core.Bool.{false≢true}
 use mathlib.Core.List.{List}
 use mathlib.Core.Logic.{_⊎_, inl, inr, _↔_}
 use Prim.Native.Nat.{ℕ, _^_, _≤_, _<_}
@@ -76,6 +77,7 @@ module _ (base end : ℕ) where
     s7-given = λ p i e u n. absurd (n (slot-from p i e u .2 .given));
     s7-in = λ p i e u n. absurd (n (slot-from p i e u .0));
     s7-cover = λ p i e l u n x. absurd (n (slot-from p i e u .2 .given));
+    s7-whole = λ p i e u z. absurd (false≢true (sym (slot-from p i e u .2 .whole) ∙ z));
     s8 = λ p j a u n. absurd (n (area-from p j a u .0));
     s8-apart = λ p j q i a b l u v x y. let w = sameA (area-from p j a u .1) in absurd (omega arith);
     s11 = λ i e u. slot-from 0 i e u .2 .rights;

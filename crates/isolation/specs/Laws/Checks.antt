@@ -1,8 +1,9 @@
--- What is known of an entry that passed 4, 5, 6, 8 and 9; and that tests which several services make mean their conditions.
-use mathlib.Core.Path.{_≡_, refl, sym}
-use mathlib.Core.Bool.{true, false≢true}
+-- What is known of an entry that passed 4, 5, 6, 8, 9 and 18; and that tests which several services make mean their conditions.
+use mathlib.Core.Path.{_≡_, refl, ap, sym}
+use mathlib.Core.Bool.{Bool, true, false, not, false≢true}
 use mathlib.Core.Logic.{_↔_}
 use Prim.Native.Nat.{ℕ, _+_, _/_, _≤_}
+use borrow.Author.Tests.{not-true}
 use Rattle.tables.specs.State.{Opt, none, some, Entry, K, Table}
 use Rattle.tables.specs.Laws.State.{not-none}
 use Rattle.tables.specs.Search.{isNone, child, free}
@@ -24,11 +25,12 @@ pub record FreeEntry (k : K) (s : ℕ) (e : Entry) : Type 0 where
   pub clear : Clear (k .area) e
   pub free : e .given ≡ 0
 
--- 4, 5, 6, 8, 9: such an entry, of 16 lines or more, can become area j of p, which is absent
+-- 4, 5, 6, 8, 9, 18: such an entry, of 16 lines or more and not whole, can become area j of p, which is absent
 pub record FreeArea (k : K) (s p j : ℕ) (e : Entry) : Type 0 where
   pub entry : FreeEntry k s e
   pub absent : k .area p j ≡ none
   pub long : e .start + 16 ≤ e .stop
+  pub plain : e .whole ≡ false
 
 -- ── 4, 5, 6 as conditions ──
 pub free-answers : {t : Table} {s : ℕ} {f : Entry → Result} {c : Entry → Ladder}
@@ -41,6 +43,9 @@ free-answers {t} {s} h g =
     g e
 
 -- ── what the tests mean ──
+pub unset-means : (a : Bool) → (not a ≡ true) ↔ (a ≡ false)
+unset-means a = (not-true a, λ q. ap not q)
+
 pub is-none-means : {A : Type 0} (o : Opt A) → (isNone o ≡ true) ↔ (o ≡ none)
 is-none-means none = (λ _. refl, λ _. refl)
 is-none-means (some a) = (λ q. absurd (false≢true q), λ u. not-none none refl (sym u))

@@ -17,6 +17,7 @@ use Rattle.sound.specs.Laws.MeansEntries.{is-some-means}
 use Rattle.rules.specs.Rules.{collectK, done, collect, vacant}
 use Rattle.isolation.specs.Checks.{OwnOrChild}
 use Rattle.isolation.specs.Laws.Checks.{is-none-means, own-means}
+use Rattle.isolation.specs.Laws.Keep.{whole-at}
 use Rattle.isolation.specs.Laws.Settled.{right-loads, settle-right}
 use Rattle.isolation.specs.Ladder.{Answers, finished, Ends}
 use Rattle.isolation.specs.Laws.Ladder.{ends, check-answers}
@@ -77,6 +78,9 @@ module _ {k : K} {p j : ℕ} (h : Core k) (ok : CollectOk k p j) where
     s7-given = λ q i e u n. let (a, v) = h .s7-given q i e u n in (keep (e .given) a, v);
     s7-in = h .s7-in;
     s7-cover = h .s7-cover;
+    s7-whole = λ q i e u z.
+        let w = h .s7-whole q i e u z in
+        whole-at refl (λ c r m a l v. c r m a l (was r m a v)) w (w .i, w .at);
     s8 = λ q i a u. h .s8 q i a (was q i a u);
     s8-apart = λ q i r m a b l u v. h .s8-apart q i r m a b l (was q i a u) (was r m b v);
     s11 = h .s11;

@@ -19,14 +19,14 @@ use Rattle.sound.specs.Core.{Core}
 use Rattle.sound.specs.Whole.{Right}
 use Rattle.sound.specs.Laws.Means.{eq-means, and-means, not-means}
 use Rattle.rules.specs.Rules.{createK, done, create}
-use Rattle.isolation.specs.Laws.Checks.{FreeArea, free-answers, is-none-means, long-means}
+use Rattle.isolation.specs.Laws.Checks.{FreeArea, free-answers, unset-means, is-none-means, long-means}
 use Rattle.isolation.specs.Laws.NewArea.{header-stays, was-absent, was-present, area-core}
 use Rattle.isolation.specs.Laws.Settled.{right-loads, settle-right}
 use Rattle.isolation.specs.Ladder.{Answers, finished, Ends}
 use Rattle.isolation.specs.Laws.Ladder.{ends, check-answers, lowest-answers}
 use Rattle.isolation.specs.Create.{Absent, createLadder}
 
--- what checks 4, 5, 6, 8 and 9 say
+-- what checks 4, 5, 6, 8, 9 and 18 say
 pub record CreateOk (k : K) (s n : ℕ) (e : Entry) : Type 0 where
   pub number : n < 16
   pub area : FreeArea k s n 0 e
@@ -100,12 +100,13 @@ module _ {t : Table} (h : Right t) (s : ℕ) where
       free-answers h λ e.
       lowest-answers absent-means λ n _.
       check-answers (long-means e) λ _.
+      check-answers (unset-means (e .whole)) λ _.
       finished
 
   pub create-done : {v w : ℕ} {t′ : Table} → create t s ≡ done v w t′ → CreateDone t s v w t′
   unfolding Ends
-  create-done = ends (CreateDone t s) create-exact (λ e u o z n f l.
-      (e, record { number = f .below; area = record { entry = record { at = u; clear = o; free = z }; absent = f .here .1; long = l } }, refl))
+  create-done = ends (CreateDone t s) create-exact (λ e u o z n f l m.
+      (e, record { number = f .below; area = record { entry = record { at = u; clear = o; free = z }; absent = f .here .1; long = l; plain = m } }, refl))
 
   pub create-right : {v w : ℕ} {t′ : Table} → create t s ≡ done v w t′ → Right t′
   create-right x = let (e, ok, z) = create-done x in rw z (settle-right (create-core (h .core) ok) (h .stop) (right-loads h))

@@ -1,6 +1,7 @@
 -- Cut keeps a table sound, and each partition holds the lines that it held; its answer is that of its conditions.
-use mathlib.Core.Path.{_≡_, refl, sym}
+use mathlib.Core.Path.{_≡_, refl, sym, _∙_}
 use mathlib.Core.Logic.{_↔_}
+use mathlib.Core.Bool.{false, false≢true}
 use Prim.Native.Nat.{ℕ, _<_}
 use native.Mathlib.Decide.{decLt}
 use native.Mathlib.Omega.{arith}
@@ -17,19 +18,20 @@ use Rattle.isolation.specs.Laws.Settled.{right-loads, settle-right}
 use Rattle.isolation.specs.Ladder.{Answers, finished, Ends}
 use Rattle.isolation.specs.Laws.Ladder.{ends, check-answers, lowest-answers}
 use Rattle.isolation.specs.Laws.Two.{From, old, first, second, same-place, two-from, two-second}
-use Rattle.isolation.specs.Laws.Checks.{FreeEntry, free-answers, free-means}
+use Rattle.isolation.specs.Laws.Checks.{FreeEntry, free-answers, unset-means, free-means}
 use Rattle.isolation.specs.Checks.{FreeSlot}
 use Rattle.isolation.specs.Laws.Keep.{still}
 use Rattle.isolation.specs.Laws.Slots.{Fine, Stays, Came, slots-core, around-stays, part-fine, old-fine, old-came, came-equal}
 use Rattle.isolation.specs.Laws.Written.{first-at, stays-at, given-stays, closed-stays}
 use Rattle.isolation.specs.Cut.{cutLadder}
 
--- what checks 4, 5, 6 (entry), 7 (from, to) and 8 (slot) say
+-- what checks 4, 5, 6 (entry), 7 (from, to), 8 (slot) and 18 (plain) say
 pub record CutOk (k : K) (s n m : ℕ) (e : Entry) : Type 0 where
   pub entry : FreeEntry k s e
   pub from : e .start < m
   pub to : m < e .stop
   pub slot : FreeSlot k (k .current) n
+  pub plain : e .whole ≡ false
 
 module _ {k : K} {s n m : ℕ} {e : Entry} (h : Core k) (ok : CutOk k s n m e) where
   abbrev new : ℕ → ℕ → Opt Entry
@@ -81,11 +83,11 @@ module _ {k : K} {s n m : ℕ} {e : Entry} (h : Core k) (ok : CutOk k s n m e) w
       go (first z y v) =
           let w = same (some-inj v) in
           part-fine h (at z) (record { from = omega arith; to = omega arith; rights = sym (w .rights) }) (rw y (h .s5 p s e (at z))) (omega arith)
-          (λ g. absurd (g (omega arith))) (around p e)
+          (λ g. absurd (g (omega arith))) (λ b. absurd (false≢true (sym (ok .plain) ∙ w .whole ∙ b))) (around p e)
       go (second z y v) =
           let w = same (some-inj v) in
           part-fine h (at z) (record { from = omega arith; to = omega arith; rights = sym (w .rights) }) (rw (z, y) (ok .slot .room)) (omega arith)
-          (λ g. absurd (g (omega arith))) (around p e)
+          (λ g. absurd (g (omega arith))) (λ b. absurd (false≢true (sym (ok .plain) ∙ w .whole ∙ b))) (around p e)
 
   apart : (p i j : ℕ) (a b : Entry) (l : ℕ) → new p i ≡ some a → new p j ≡ some b → In l a → In l b → i ≡ j
   apart p i j a b l u v x y = go (inv p i a u) (inv p j b v)
@@ -141,11 +143,13 @@ module _ {t : Table} (h : Right t) (s l : ℕ) where
       free-answers h λ e.
       check-answers (and-means (lt-means (e .start) l) (lt-means l (e .stop))) λ _.
       lowest-answers (free-means (t .k) (t .k .current)) λ n _.
+      check-answers (unset-means (e .whole)) λ _.
       finished
 
   pub cut-done : {v w : ℕ} {t′ : Table} → cut t s l ≡ done v w t′ → CutDone t s l v w t′
   unfolding Ends
-  cut-done = ends (CutDone t s l) cut-exact (λ e u o z b n f. (e, record { entry = record { at = u; clear = o; free = z }; from = b .0; to = b .1; slot = f .here }, refl))
+  cut-done = ends (CutDone t s l) cut-exact (λ e u o z b n f m.
+      (e, record { entry = record { at = u; clear = o; free = z }; from = b .0; to = b .1; slot = f .here; plain = m }, refl))
 
   pub cut-right : {v w : ℕ} {t′ : Table} → cut t s l ≡ done v w t′ → Right t′
   cut-right x = let (e, ok, z) = cut-done x in rw z (settle-right (cut-core (h .core) ok) (h .stop) (right-loads h))

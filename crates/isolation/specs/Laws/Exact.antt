@@ -1,11 +1,10 @@
 -- Every call answers by its conditions: 1, then 2 where a field is not in order, then those of the row of its number; and no other answer fits.
-use mathlib.Core.Path.{_≡_, refl, ap, sym, subst}
+use mathlib.Core.Path.{_≡_, refl, sym, subst}
 use mathlib.Core.Bool.{Bool, true, false, not, _||_, true≢false, false≢true}
 use mathlib.Core.List.{List}
 use mathlib.Core.Logic.{_↔_, Iff·rfl}
 use Prim.Native.Nat.{ℕ}
 use lib.Dec.{eqb}
-use borrow.Author.Tests.{not-true}
 use Rattle.words.specs.Kind.{fieldsIn, zeroed-means}
 use Rattle.words.specs.Words.{call}
 use Rattle.words.specs.declared.call_word.CallFields.{CallFields}
@@ -22,6 +21,7 @@ use Rattle.rules.specs.Laws.Calls.{call-as}
 use Rattle.rules.specs.Laws.Each.{perform-each}
 use Rattle.isolation.specs.Ladder.{Answers}
 use Rattle.isolation.specs.Laws.Ladder.{answer-one, check-answers}
+use Rattle.isolation.specs.Laws.Checks.{unset-means}
 use Rattle.isolation.specs.Laws.Create.{create-exact}
 use Rattle.isolation.specs.Laws.Delete.{delete-exact}
 use Rattle.isolation.specs.Laws.Prepare.{prepare-exact}
@@ -47,9 +47,6 @@ only-means : (a : Bool) {b : Bool} {A B : Type 0} → (a ≡ true) ↔ A → (b 
 only-means true f g = (λ q _. g .0 q, λ h. g .1 (h (f .0 refl)))
 only-means false f g = (λ _ x. absurd (false≢true (f .1 x)), λ _. refl)
 
-clear-means : (a : Bool) → (not a ≡ true) ↔ (a ≡ false)
-clear-means a = (not-true a, λ q. ap not q)
-
 unused-means : (x : Uses) (f : CallFields) → (unused x f ≡ true) ↔ Unused x f
 unfolding unused noRights
 unused-means x f =
@@ -57,16 +54,18 @@ unused-means x f =
     and-means
     (and-means
     (and-means
+    (and-means
     (and-means (else-means (x .p) (eq-means (f .partition .0) 0)) (else-means (x .s) (eq-means (f .slot .0) 0)))
     (else-means (x .u) (eq-means (f .other) 0)))
-    (else-means (x .r) (and-means (and-means (clear-means (g .read)) (clear-means (g .write))) (clear-means (g .execute)))))
-    (else-means (x .l) (eq-means (f .line .0) 0))
+    (else-means (x .r) (and-means (and-means (unset-means (g .read)) (unset-means (g .write))) (unset-means (g .execute)))))
+    (else-means (x .l) (eq-means (f .line .0) 0)))
+    (else-means (x .w) (unset-means (f .whole)))
 
 region-means : (f : CallFields) → (regionCall f ≡ true) ↔ RegionCall f
 unfolding regionCall
 region-means f =
     let g = f .rights in
-    and-means (and-means (clear-means (g .read)) (clear-means (g .write))) (only-means (g .execute) Iff·rfl (eq-means (f .slot .0) 0))
+    and-means (and-means (unset-means (g .read)) (unset-means (g .write))) (only-means (g .execute) Iff·rfl (eq-means (f .slot .0) 0))
 
 known-means : (f : CallFields) → (known f ≡ true) ↔ Known f
 unfolding known
@@ -90,7 +89,7 @@ module _ (board : Board) {t : Table} (h : Right t) (f : CallFields) where
         delete = at 2 (delete-exact h p);
         prepare = at 3 (prepare-exact h p s);
         collect = at 4 (collect-exact h p u);
-        give = at 5 (give-exact h p s (f .rights));
+        give = at 5 (give-exact h p s (f .rights) (f .whole));
         take = at 6 (take-exact h s);
         cut = at 7 (cut-exact h s l);
         merge = at 8 (merge-exact h s u);

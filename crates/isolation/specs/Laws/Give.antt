@@ -1,6 +1,7 @@
 -- Give keeps a table sound, and the child then holds the lines of the entry too; its answer is that of its conditions.
 use mathlib.Core.Path.{_≡_, refl, sym, _∙_}
 use mathlib.Core.Logic.{_⊎_, inl, inr, _↔_}
+use mathlib.Core.Bool.{Bool, false, false≢true}
 use Prim.Native.Nat.{ℕ}
 use native.Mathlib.Omega.{arith}
 use Rattle.words.specs.declared.Rights.{Rights}
@@ -16,7 +17,7 @@ use Rattle.sound.specs.Whole.{Right}
 use Rattle.sound.specs.Laws.MeansRegions.{within-means}
 use Rattle.rules.specs.Rules.{giveK, done, give}
 use Rattle.isolation.specs.Laws.Two.{From, old, first, second, same-place, two-from, two-second}
-use Rattle.isolation.specs.Laws.Checks.{FreeEntry, free-answers, is-child-means, free-means}
+use Rattle.isolation.specs.Laws.Checks.{FreeEntry, free-answers, unset-means, is-child-means, free-means}
 use Rattle.isolation.specs.Checks.{FreeSlot}
 use Rattle.isolation.specs.Laws.Keep.{child-other, still}
 use Rattle.isolation.specs.Laws.Slots.{Fine, Stays, Came, slots-core, around-stays, part-fine, old-fine, old-came, came-equal}
@@ -26,19 +27,20 @@ use Rattle.isolation.specs.Ladder.{Answers, finished, Ends}
 use Rattle.isolation.specs.Laws.Ladder.{ends, check-answers, lowest-answers}
 use Rattle.isolation.specs.Give.{giveLadder}
 
--- what checks 3 (child), 4, 5, 6 (entry), 8 (slot) and 10 (rights) say
+-- what checks 3 (child), 4, 5, 6 (entry), 8 (slot), 10 (rights) and 18 (plain) say
 pub record GiveOk (k : K) (c s n : ℕ) (r : Rights) (e : Entry) : Type 0 where
   pub child : Child k (k .current) c
   pub entry : FreeEntry k s e
   pub slot : FreeSlot k c n
   pub rights : Sub r (e .rights)
+  pub plain : e .whole ≡ false
 
-module _ {k : K} {c s n : ℕ} {r : Rights} {e : Entry} (h : Core k) (ok : GiveOk k c s n r e) where
+module _ {k : K} {c s n : ℕ} {r : Rights} {e : Entry} (mark : Bool) (h : Core k) (ok : GiveOk k c s n r e) where
   abbrev new : ℕ → ℕ → Opt Entry
-  new = giveK k c s n r e .slot
+  new = giveK k c s n r mark e .slot
 
   abbrev Fr : ℕ → ℕ → Entry → Type 0
-  Fr = From (k .slot) (k .current) s (some (givenTo e c)) c n (some (rangeOf e r))
+  Fr = From (k .slot) (k .current) s (some (givenTo e c)) c n (some (rangeOf e r mark))
 
   inv : (p i : ℕ) (a : Entry) → new p i ≡ some a → Fr p i a
   inv = two-from (k .slot) (k .current) s _ c n _
@@ -46,7 +48,7 @@ module _ {k : K} {c s n : ℕ} {r : Rights} {e : Entry} (h : Core k) (ok : GiveO
   at-s : new (k .current) s ≡ some (givenTo e c)
   at-s = first-at (ok .entry) (ok .slot) _ _
 
-  at-n : new c n ≡ some (rangeOf e r)
+  at-n : new c n ≡ some (rangeOf e r mark)
   at-n = two-second (k .slot) (k .current) s _ c n _
 
   -- the child held no line of it before
@@ -92,8 +94,9 @@ module _ {k : K} {c s n : ℕ} {r : Rights} {e : Entry} (h : Core k) (ok : GiveO
           part-fine h (at z) (record { from = omega arith; to = omega arith; rights = sym (w .rights) }) (rw y (h .s5 p s e (at z))) (omega arith)
           (λ _. record {
             child = rw (← (w .given), z) (ok .child);
-            cover = λ l m. record { i = n; e = rangeOf e r; at = rw (← (w .given)) at-n; holds = omega arith };
+            cover = λ l m. record { i = n; e = rangeOf e r mark; at = rw (← (w .given)) at-n; holds = omega arith };
           })
+          (λ m. absurd (false≢true (sym (ok .plain) ∙ w .whole ∙ m)))
           (around p e)
       go (second z y v) =
           let w = same (some-inj v) in
@@ -112,6 +115,17 @@ module _ {k : K} {c s n : ℕ} {r : Rights} {e : Entry} (h : Core k) (ok : GiveO
               sub = rw (← (w .rights)) (ok .rights);
             };
             root = λ g. absurd (ok .child .other (sym z ∙ g));
+            whole = λ _. record {
+              clear = λ q j b l u x y. ok .entry .clear q j b l u x (omega arith);
+              free = sym (w .given);
+              other = λ g. ok .child .other (sym z ∙ g);
+              i = s;
+              f = givenTo e c;
+              at = rw (z, ok .child .parent) at-s;
+              given = sym z;
+              start = w .start;
+              stop = w .stop;
+            };
           }
 
   apart : (p i j : ℕ) (a b : Entry) (l : ℕ) → new p i ≡ some a → new p j ≡ some b → In l a → In l b → i ≡ j
@@ -140,7 +154,7 @@ module _ {k : K} {c s n : ℕ} {r : Rights} {e : Entry} (h : Core k) (ok : GiveO
           record { j = s; e = e; at = rw x (ok .entry .at); line = e .start; was = omega arith; now = omega arith; rights = sym (w .rights); stays = around p e }
 
       -- another entry of the child inside that grant
-      alone : {a b : Entry} {j : ℕ} → p ≡ c → rangeOf e r ≡ a → k .slot p j ≡ some b → (o : Inside new (k .parent) p a) (q : Inside new (k .parent) p b)
+      alone : {a b : Entry} {j : ℕ} → p ≡ c → rangeOf e r mark ≡ a → k .slot p j ≡ some b → (o : Inside new (k .parent) p a) (q : Inside new (k .parent) p b)
           → o .i ≡ q .i → ⊥
       alone {a} {b} {j} x w t o q z =
           let d = same w in
@@ -165,14 +179,14 @@ module _ {k : K} {c s n : ℕ} {r : Rights} {e : Entry} (h : Core k) (ok : GiveO
       go (second x _ _) (first x′ _ _) = absurd (child-other h (ok .child) (sym x′ ∙ x))
 
   -- the ledger's line: the child now holds the lines of e too
-  pub give-holds : (p l : ℕ) → Holds (giveK k c s n r e .slot) p l ↔ (Holds (k .slot) p l ⊎ ((p ≡ c) × In l e))
+  pub give-holds : (p l : ℕ) → Holds (giveK k c s n r mark e .slot) p l ↔ (Holds (k .slot) p l ⊎ ((p ≡ c) × In l e))
   give-holds p l = (new-holds p l, go)
     where
       go : Holds (k .slot) p l ⊎ ((p ≡ c) × In l e) → Holds new p l
       go (inl u) = holds-new p l u
-      go (inr (z, x)) = record { i = n; e = rangeOf e r; at = rw z at-n; holds = omega arith }
+      go (inr (z, x)) = record { i = n; e = rangeOf e r mark; at = rw z at-n; holds = omega arith }
 
-  pub give-core : Core (giveK k c s n r e)
+  pub give-core : Core (giveK k c s n r mark e)
   give-core = slots-core h (record {
     fine = fine;
     apart = apart;
@@ -186,23 +200,32 @@ module _ {k : K} {c s n : ℕ} {r : Rights} {e : Entry} (h : Core k) (ok : GiveO
       go (inr u) = absurd (ok .child .other (sym (u .0)))
 
 -- ── the service ──
-abbrev pub GiveDone : Table → ℕ → ℕ → Rights → ℕ → ℕ → Table → Type 0
-GiveDone t c s r v w t′ = (e : Entry) × GiveOk (t .k) c s v r e × (t′ ≡ settle (giveK (t .k) c s v r e) (t .region))
+abbrev pub GiveDone : Table → ℕ → ℕ → Rights → Bool → ℕ → ℕ → Table → Type 0
+GiveDone t c s r mark v w t′ = (e : Entry) × GiveOk (t .k) c s v r e × (t′ ≡ settle (giveK (t .k) c s v r mark e) (t .region))
 
-module _ {t : Table} (h : Right t) (c s : ℕ) (r : Rights) where
-  pub give-exact : Answers (giveLadder t c s r) (give t c s r)
+module _ {t : Table} (h : Right t) (c s : ℕ) (r : Rights) (mark : Bool) where
+  pub give-exact : Answers (giveLadder t c s r mark) (give t c s r mark)
   unfolding give
   give-exact =
       check-answers (is-child-means (t .k) (t .k .current) c) λ _.
       free-answers h λ e.
       lowest-answers (free-means (t .k) c) λ n _.
       check-answers (within-means r (e .rights)) λ _.
+      check-answers (unset-means (e .whole)) λ _.
       finished
 
-  pub give-done : {v w : ℕ} {t′ : Table} → give t c s r ≡ done v w t′ → GiveDone t c s r v w t′
+  pub give-done : {v w : ℕ} {t′ : Table} → give t c s r mark ≡ done v w t′ → GiveDone t c s r mark v w t′
   unfolding Ends
-  give-done = ends (GiveDone t c s r) give-exact (λ d e u o z n f y.
-      (e, record { child = d; entry = record { at = u; clear = o; free = z }; slot = f .here; rights = y }, refl))
+  give-done = ends (GiveDone t c s r mark) give-exact (λ d e u o z n f y p.
+      (e, record { child = d; entry = record { at = u; clear = o; free = z }; slot = f .here; rights = y; plain = p }, refl))
 
-  pub give-right : {v w : ℕ} {t′ : Table} → give t c s r ≡ done v w t′ → Right t′
-  give-right x = let (e, ok, z) = give-done x in rw z (settle-right (give-core (h .core) ok) (h .stop) (right-loads h))
+  -- the mark is set in the child's entry, never in the caller's
+  pub give-marks : {v w : ℕ} {t′ : Table} → give t c s r mark ≡ done v w t′
+      → ((a : Entry) × (t′ .k .slot (t .k .current) s ≡ some a) × (a .whole ≡ false)) × ((a : Entry) × (t′ .k .slot c v ≡ some a) × (a .whole ≡ mark))
+  unfolding settle
+  give-marks x =
+      let (e, ok, z) = give-done x in
+      rw z ((givenTo e c, at-s mark (h .core) ok, ok .plain), (rangeOf e r mark, at-n mark (h .core) ok, refl))
+
+  pub give-right : {v w : ℕ} {t′ : Table} → give t c s r mark ≡ done v w t′ → Right t′
+  give-right x = let (e, ok, z) = give-done x in rw z (settle-right (give-core mark (h .core) ok) (h .stop) (right-loads h))

@@ -7,7 +7,7 @@ use Rattle.loops.specs.Laws.Climb.{no-self}
 use Rattle.tables.specs.State.{Opt, some, Entry, Area, K, Same}
 use Rattle.tables.specs.Lines.{Holds, Clear}
 use Rattle.sound.specs.Sound.{Present}
-use Rattle.sound.specs.Core.{Inside, Backed, Core}
+use Rattle.sound.specs.Core.{Inside, Whole, Backed, Core}
 use Rattle.sound.specs.Properties.{Child}
 
 -- ── a sound table ──
@@ -49,6 +49,20 @@ module _ {slot new : ℕ → ℕ → Opt Entry} {up now : ℕ → ℕ} {p : ℕ}
   -- around a part of e is what was around e
   unfoldable pub inside-at : {a e : Entry} → Part a e → (o : Inside slot up p e) → Has new (up p) (o .f) → Inside new now p a
   inside-at w o (i, u) = record { i = i; f = o .f; at = rw q u; given = o .given; from = omega arith; to = omega arith; sub = rw (w .rights) (o .sub) }
+
+  -- a whole entry equals what it equalled
+  pub whole-at : {area less : ℕ → ℕ → Opt Area} {e : Entry} → (Clear area e → Clear less e) → (w : Whole area slot up p e) → Has new (up p) (w .f) → Whole less new now p e
+  whole-at c w (i, u) = record {
+    clear = c (w .clear);
+    free = w .free;
+    other = w .other;
+    i = i;
+    f = w .f;
+    at = rw q u;
+    given = w .given;
+    start = w .start;
+    stop = w .stop;
+  }
 
   pub backed-at : {j : ℕ} {a : Area} (b : Backed slot up p j a) → Has new (b .q) (b .e) → Backed new now p j a
   backed-at {j} b (i, u) = record { q = b .q; who = go (b .who); i = i; e = b .e; at = u; free = b .free; lo = b .lo; hi = b .hi }

@@ -40,7 +40,7 @@ module _ {k : K} {s t : ℕ} {e f : Entry} (h : Core k) (ok : MergeOk k s t e f)
   abbrev new : ℕ → ℕ → Opt Entry
   new = mergeK k s t e f .slot
 
-  -- the whole
+  -- the two joined
   abbrev both : Entry
   both = endingAt e (f .stop)
 
@@ -70,7 +70,7 @@ module _ {k : K} {s t : ℕ} {e f : Entry} (h : Core k) (ok : MergeOk k s t e f)
   around : (p : ℕ) (a : Entry) → Stays k new p a
   around = around-stays k (λ p i a u n. other-stays p i a u (λ w. n (w .given ∙ ok .first .free)) (λ w. n (w .given ∙ ok .second .free)))
 
-  -- a line of the whole is a line of e or of f
+  -- a line of both is a line of e or of f
   halves : (l : ℕ) → In l both → In l e ⊎ In l f
   halves l x = go (decLt l (e .stop))
     where
@@ -103,14 +103,34 @@ module _ {k : K} {s t : ℕ} {e f : Entry} (h : Core k) (ok : MergeOk k s t e f)
           record { i = s; e = both; at = rw (z .0) at-s; holds = omega (arith, e-range) }
 
   -- what is around e is around both: only one entry of the parent has e's first line
-  whole : (k .current ≡ 0 → ⊥) → Inside (k .slot) (k .parent) (k .current) both
-  whole n =
+  around-both : (k .current ≡ 0 → ⊥) → Inside (k .slot) (k .parent) (k .current) both
+  around-both n =
       let (j, g, a, b) = ok .grant n in
       let o = h .s7-in (k .current) s e (ok .first .at) n in
       let r = e-range in
       let i : o .i ≡ j = h .s6 (k .parent (k .current)) (o .i) j (o .f) g (e .start) (o .at) (a .at) (omega arith) (omega arith) in
       let w = same-place (k .slot) (a .at) (o .at) (refl, i) in
       record { i = o .i; f = o .f; at = o .at; given = o .given; from = o .from; to = omega arith; sub = o .sub }
+
+  -- merge never reaches a whole entry: it is the one that was given, and has no room for another inside it
+  pub merge-plain : (e .whole ≡ true → ⊥) × (f .whole ≡ true → ⊥)
+  merge-plain = (
+    λ z.
+        let w = h .s7-whole (k .current) s e (ok .first .at) z in
+        let (j, g, a, b) = ok .grant (w .other) in
+        let d = one j g (w .i) (w .f) (e .start) (a .at) (w .at) (omega (arith, e-range, a .around)) (omega (arith, e-range, w .start, w .stop)) in
+        omega (arith, e-range, f-range, b .around, w .stop),
+    λ z.
+        let w = h .s7-whole (k .current) t f (ok .second .at) z in
+        let (j, g, a, b) = ok .grant (w .other) in
+        let d = one j g (w .i) (w .f) (f .start) (b .at) (w .at) (omega (arith, f-range, b .around)) (omega (arith, f-range, w .start, w .stop)) in
+        omega (arith, e-range, f-range, a .around, w .start),
+  )
+    where
+      -- two entries of the parent with one line
+      one : (j : ℕ) (g : Entry) (i : ℕ) (o : Entry) (l : ℕ) → k .slot (k .parent (k .current)) j ≡ some g → k .slot (k .parent (k .current)) i ≡ some o
+          → In l g → In l o → Same g o
+      one j g i o l u v x y = same-place (k .slot) v u (refl, h .s6 (k .parent (k .current)) j i g o l u v x y)
 
   fine : (p i : ℕ) (a : Entry) → new p i ≡ some a → Fine k new p i a
   fine p i a u = go (inv p i a u)
@@ -120,8 +140,9 @@ module _ {k : K} {s t : ℕ} {e f : Entry} (h : Core k) (ok : MergeOk k s t e f)
         structure = rw (z, y) (h .s5 (k .current) s e (ok .first .at));
         range = omega (arith, e-range, f-range);
         lent = λ n. absurd (n (ok .first .free));
-        inside = λ n. let o = whole (λ y. n (z ∙ y)) in rw z (inside-at refl (itself both) o (around (k .current) both (λ y. n (z ∙ y)) o));
+        inside = λ n. let o = around-both (λ y. n (z ∙ y)) in rw z (inside-at refl (itself both) o (around (k .current) both (λ y. n (z ∙ y)) o));
         root = λ x. h .s11 s e (rw (sym z ∙ x) at (ok .first .at));
+        whole = λ x. absurd (merge-plain .0 x);
       }
 
       go : Fr p i a → Fine k new p i a
@@ -132,7 +153,7 @@ module _ {k : K} {s t : ℕ} {e f : Entry} (h : Core k) (ok : MergeOk k s t e f)
   apart : (p i j : ℕ) (a b : Entry) (l : ℕ) → new p i ≡ some a → new p j ≡ some b → In l a → In l b → i ≡ j
   apart p i j a b l u v x y = go (inv p i a u) (inv p j b v)
     where
-      -- an old entry with a line of the whole is slot s or t
+      -- an old entry with a line of both is slot s or t
       clash : (i : ℕ) (a : Entry) → p ≡ k .current → k .slot p i ≡ some a → ((p ≡ k .current) × (i ≡ s) → ⊥) → ((p ≡ k .current) × (i ≡ t) → ⊥)
           → In l a → In l both → ⊥
       clash i a z u m n x y = ⊎-elim
@@ -149,7 +170,7 @@ module _ {k : K} {s t : ℕ} {e f : Entry} (h : Core k) (ok : MergeOk k s t e f)
       go (old _ _ _) (second _ _ v) = not-none none refl v
       go (first _ _ _) (second _ _ v) = not-none none refl v
 
-  -- the whole has the rights of e, and its first line
+  -- both has the rights of e, and its first line
   came : (p i : ℕ) (a : Entry) → new p i ≡ some a → Came k new p a
   came p i a u = go (inv p i a u)
     where
@@ -162,7 +183,7 @@ module _ {k : K} {s t : ℕ} {e f : Entry} (h : Core k) (ok : MergeOk k s t e f)
           record { j = s; e = e; at = rw z (ok .first .at); line = e .start; was = omega arith; now = omega arith; rights = sym (w .rights); stays = around p e }
       go (second _ _ v) = not-none none refl v
 
-  -- both have equal rights, so the whole has those of f too: no check asks for it
+  -- e and f have equal rights, so both has those of f too: no check asks for it
   pub merge-rights : e .rights ≡ f .rights
   merge-rights = go (ℕ-discrete (k .current) 0)
     where

@@ -1,5 +1,6 @@
 -- Soundness after one more area: area j of p, which was absent, is the entry e in slot s of the caller.
-use mathlib.Core.Path.{_≡_, sym, _∙_}
+use mathlib.Core.Path.{_≡_, refl, sym, _∙_}
+use mathlib.Core.Bool.{true, false≢true}
 use mathlib.Core.Logic.{_⊎_, inl, inr}
 use Prim.Native.Nat.{ℕ, _+_, _/_, _≤_, _<_}
 use native.Mathlib.Omega.{arith}
@@ -9,12 +10,14 @@ use Rattle.tables.specs.Laws.State.{some-inj, not-none, none-of, sameA}
 use Rattle.tables.specs.Update.{upd}
 use Rattle.tables.specs.Laws.Update.{upd-other, upd-from}
 use Rattle.tables.specs.Write.{withArea}
-use Rattle.tables.specs.Lines.{InA}
+use Rattle.tables.specs.Lines.{In, InA, Clear}
 use Rattle.sound.specs.Sound.{Present, Rooted}
-use Rattle.sound.specs.Core.{Backed, Core}
+use Rattle.sound.specs.Core.{Whole, Backed, Core}
+use Rattle.sound.specs.Laws.Chain.{free-one}
 use Rattle.rules.specs.Rules.{areaOf}
 use Rattle.isolation.specs.Laws.Checks.{FreeArea}
-use Rattle.isolation.specs.Laws.Keep.{entry-present, itself, inside-at, backed-at}
+use Rattle.isolation.specs.Laws.Keep.{entry-present, itself, inside-at, whole-at, backed-at}
+use Rattle.isolation.specs.Laws.Two.{same-place}
 
 -- the areas after it
 abbrev pub plus : K → ℕ → ℕ → Entry → ℕ → ℕ → Opt Area
@@ -85,6 +88,21 @@ module _ {k : K} {s p j : ℕ} {e : Entry} (f : FreeArea k s p j e) where
         let x = sameA w in
         record { q = k .current; who = rw (z, y) (t .who); i = s; e = e; at = f .entry .at; free = f .entry .free; lo = x .lo; hi = x .hi }
 
+    -- a whole entry with a line of e would be e itself, which is not whole: of all entries with that line one is not given
+    clear : (q i : ℕ) (a : Entry) → k .slot q i ≡ some a → (w : Whole (k .area) (k .slot) (k .parent) q a) → a .whole ≡ true → Clear (plus k p j e) a
+    clear q i a u w z r m b l v x y = go (from k p j e r m b v)
+      where
+        here : In l e → ⊥
+        here n =
+            let o = free-one h u (w .free) y (f .entry .at) (f .entry .free) n in
+            let g : k .slot (k .current) i ≡ some a = rw o at u in
+            let d = same-place (k .slot) (f .entry .at) g (refl, h .s6 (k .current) i s a e l g (f .entry .at) y n) in
+            false≢true (sym (f .plain) ∙ sym (d .whole) ∙ z)
+
+        go : From k p j e r m b → ⊥
+        go (was v) = w .clear r m b l v x y
+        go (now _ _ t) = let d = sameA t in here (omega arith)
+
     apart : (q i r m : ℕ) (a b : Area) (l : ℕ) → From k p j e q i a → From k p j e r m b → InA l a → InA l b → (q ≡ r) × (i ≡ m)
     apart q i r m a b l (was u) (was v) x y = h .s8-apart q i r m a b l u v x y
     apart q i r m a b l (was u) (now _ _ w) x y = let z = sameA w in absurd (f .entry .clear q i a l u x (omega arith))
@@ -114,6 +132,9 @@ module _ {k : K} {s p j : ℕ} {e : Entry} (f : FreeArea k s p j e) where
       s7-given = λ q i a u n. let (b, v) = h .s7-given q i a u n in (header-stays (a .given) b, t .same (a .given) b ∙ v);
       s7-in = λ q i a u n. let o = h .s7-in q i a u n in inside-at (t .same q (entry-present h q i a u)) (itself a) o (o .i, o .at);
       s7-cover = h .s7-cover;
+      s7-whole = λ q i a u z.
+          let w = h .s7-whole q i a u z in
+          whole-at (t .same q (entry-present h q i a u)) (λ _. clear q i a u w z) w (w .i, w .at);
       s8 = λ q i a u. backed q i a (from k p j e q i a u);
       s8-apart = λ q i r m a b l u v. apart q i r m a b l (from k p j e q i a u) (from k p j e r m b v);
       s11 = h .s11;

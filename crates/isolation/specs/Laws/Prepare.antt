@@ -12,14 +12,14 @@ use Rattle.sound.specs.Core.{Core}
 use Rattle.sound.specs.Whole.{Right}
 use Rattle.rules.specs.Rules.{prepareK, done, prepare}
 use Rattle.isolation.specs.Checks.{OwnOrChild}
-use Rattle.isolation.specs.Laws.Checks.{FreeArea, free-answers, is-none-means, own-means, long-means}
+use Rattle.isolation.specs.Laws.Checks.{FreeArea, free-answers, unset-means, is-none-means, own-means, long-means}
 use Rattle.isolation.specs.Laws.NewArea.{header-stays, was-absent, was-present, area-core}
 use Rattle.isolation.specs.Laws.Settled.{right-loads, settle-right}
 use Rattle.isolation.specs.Ladder.{Answers, finished, Ends}
 use Rattle.isolation.specs.Laws.Ladder.{ends, check-answers, lowest-answers}
 use Rattle.isolation.specs.Prepare.{prepareLadder}
 
--- what checks 3 (who), 4, 5, 6, 8 and 9 say
+-- what checks 3 (who), 4, 5, 6, 8, 9 and 18 say
 pub record PrepareOk (k : K) (p s j : ℕ) (e : Entry) : Type 0 where
   pub who : OwnOrChild k p
   pub structure : j < 4
@@ -69,12 +69,13 @@ module _ {t : Table} (h : Right t) (p s : ℕ) where
       free-answers h λ e.
       lowest-answers (λ j. is-none-means (t .k .area p (1 + j))) λ j _.
       check-answers (long-means e) λ _.
+      check-answers (unset-means (e .whole)) λ _.
       finished
 
   pub prepare-done : {v w : ℕ} {t′ : Table} → prepare t p s ≡ done v w t′ → PrepareDone t p s v w t′
   unfolding Ends
-  prepare-done = ends (PrepareDone t p s) prepare-exact (λ c e u o z j f l.
-      (e, record { who = c; structure = f .below; area = record { entry = record { at = u; clear = o; free = z }; absent = f .here; long = l } }, refl))
+  prepare-done = ends (PrepareDone t p s) prepare-exact (λ c e u o z j f l m.
+      (e, record { who = c; structure = f .below; area = record { entry = record { at = u; clear = o; free = z }; absent = f .here; long = l; plain = m } }, refl))
 
   pub prepare-right : {v w : ℕ} {t′ : Table} → prepare t p s ≡ done v w t′ → Right t′
   prepare-right x = let (e, ok, z) = prepare-done x in rw z (settle-right (prepare-core (h .core) ok) (h .stop) (right-loads h))

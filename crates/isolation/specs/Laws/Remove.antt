@@ -14,7 +14,7 @@ use Rattle.tables.specs.Update.{upd1}
 use Rattle.tables.specs.Laws.Update.{upd1-same, upd1-other}
 use Rattle.tables.specs.Lines.{Holds}
 use Rattle.sound.specs.Sound.{Present, Rooted}
-use Rattle.sound.specs.Core.{Inside, Backed, Core}
+use Rattle.sound.specs.Core.{Inside, Whole, Backed, Core}
 use Rattle.sound.specs.Properties.{Child}
 use Rattle.sound.specs.Whole.{Right}
 use Rattle.rules.specs.Rules.{ungive, zeroed, removeK, remove}
@@ -65,6 +65,8 @@ record Was (k : K) (m : ℕ → Bool) (p i : ℕ) (a : Entry) : Type 0 where
   start : a .start ≡ e .start
   stop : a .stop ≡ e .stop
   rights : a .rights ≡ e .rights
+  whole : a .whole ≡ e .whole
+  free : e .given ≡ 0 → a .given ≡ 0
   stayed : m p ≡ false
   given : (a .given ≡ 0 → ⊥) → (k .slot p i ≡ some a) × (m (a .given) ≡ false)
 
@@ -115,7 +117,7 @@ module _ {k : K} {c : ℕ} {m : ℕ → Bool} (h : Core k) (ok : Goes k c m) whe
   inv p i a u = let (v, n) = without-some m half p i u in go n v (ℕ-discrete p (k .current))
     where
       alike : m p ≡ false → k .slot p i ≡ some a → (a .given ≡ c → ⊥) → Was k m p i a
-      alike n v g = record { e = a; at = v; start = refl; stop = refl; rights = refl; stayed = n; given = λ _. (v, kept-given p i a v n g) }
+      alike n v g = record { e = a; at = v; start = refl; stop = refl; rights = refl; whole = refl; free = λ z. z; stayed = n; given = λ _. (v, kept-given p i a v n g) }
 
       mine : m p ≡ false → (o : Opt Entry) → k .slot p i ≡ o → ungive c o ≡ some a → Was k m p i a
       mine n none v w = not-none none refl (sym (ungive-none c) ∙ w)
@@ -130,6 +132,8 @@ module _ {k : K} {c : ℕ} {m : ℕ → Bool} (h : Core k) (ok : Goes k c m) whe
                 start = sym (q .start);
                 stop = sym (q .stop);
                 rights = sym (q .rights);
+                whole = sym (q .whole);
+                free = λ _. sym (q .given);
                 stayed = n;
                 given = λ z. absurd (z (sym (q .given)));
               }
@@ -141,8 +145,8 @@ module _ {k : K} {c : ℕ} {m : ℕ → Bool} (h : Core k) (ok : Goes k c m) whe
       go n v (yes z) = mine n (k .slot p i) refl (rw z (sym (half-caller i) ∙ rw z at v))
       go n v (no z) = let w = sym (half-other p i z) ∙ v in alike n w (λ g. z (giver p i a w g))
 
-  stays : (p i : ℕ) (a : Entry) → k .slot p i ≡ some a → m p ≡ false → (a .given ≡ c → ⊥) → Has new p a
-  stays p i a u n g = (i, without-stays m half p i n ∙ go (ℕ-discrete p (k .current)))
+  pub remove-stays : (p i : ℕ) (a : Entry) → k .slot p i ≡ some a → m p ≡ false → (a .given ≡ c → ⊥) → Has (removeK k c m .slot) p a
+  remove-stays p i a u n g = (i, without-stays m half p i n ∙ go (ℕ-discrete p (k .current)))
     where
       go : Dec (p ≡ k .current) → half p i ≡ some a
       go (yes z) = rw z (half-caller i ∙ ap (ungive c) (rw z at u) ∙ ungive-no c a g)
@@ -162,7 +166,7 @@ module _ {k : K} {c : ℕ} {m : ℕ → Bool} (h : Core k) (ok : Goes k c m) whe
       go (yes g) =
           let z = giver p (u .i) (u .e) (u .at) g in
           record { i = u .i; e = givenTo (u .e) 0; at = rw z (freed-at (u .i) (u .e) (rw z at (u .at)) g); holds = omega arith }
-      go (no g) = still u (stays p (u .i) (u .e) (u .at) n g)
+      go (no g) = still u (remove-stays p (u .i) (u .e) (u .at) n g)
 
   -- the ledger's line: who goes holds no line, the others what they held
   pub remove-holds : (p l : ℕ) → Holds (removeK k c m .slot) p l ↔ (Holds (k .slot) p l × (m p ≡ false))
@@ -202,7 +206,7 @@ module _ {k : K} {c : ℕ} {m : ℕ → Bool} (h : Core k) (ok : Goes k c m) whe
       let o = inv p i a u in
       let f = h .s7-in p i (o .e) (o .at) n in
       inside-at (up-same p (o .stayed)) (record { from = omega arith; to = omega arith; rights = o .rights }) f
-      (stays (k .parent p) (f .i) (f .f) (f .at) (up-stays p (entry-present h p i (o .e) (o .at)) (o .stayed)) (λ z. not-c (o .stayed) (sym (f .given) ∙ z)))
+      (remove-stays (k .parent p) (f .i) (f .f) (f .at) (up-stays p (entry-present h p i (o .e) (o .at)) (o .stayed)) (λ z. not-c (o .stayed) (sym (f .given) ∙ z)))
 
   -- what is around an entry was around it
   inside-was : (p i : ℕ) (a : Entry) (u : new p i ≡ some a) → (p ≡ 0 → ⊥) → Inside new (removeK k c m .parent) p a → Inside (k .slot) (k .parent) p (inv p i a u .e)
@@ -211,11 +215,28 @@ module _ {k : K} {c : ℕ} {m : ℕ → Bool} (h : Core k) (ok : Goes k c m) whe
       inside-at (sym (up-same p (o .stayed))) (record { from = omega arith; to = omega arith; rights = sym (o .rights) }) g
       (g .i, inv (removeK k c m .parent p) (g .i) (g .f) (g .at) .given (λ z. n (sym (g .given) ∙ z)) .0)
 
+  whole : (p i : ℕ) (a : Entry) → new p i ≡ some a → a .whole ≡ true → Whole (removeK k c m .area) new (removeK k c m .parent) p a
+  whole p i a u z =
+      let o = inv p i a u in
+      let w = h .s7-whole p i (o .e) (o .at) (sym (o .whole) ∙ z) in
+      let (j, v) = remove-stays (k .parent p) (w .i) (w .f) (w .at) (up-stays p (entry-present h p i (o .e) (o .at)) (o .stayed)) (λ y. not-c (o .stayed) (sym (w .given) ∙ y)) in
+      record {
+        clear = λ q r b l v x y. w .clear q r b l (area-was q r b v .0) x (omega arith);
+        free = o .free (w .free);
+        other = w .other;
+        i = j;
+        f = w .f;
+        at = rw (up-same p (o .stayed)) v;
+        given = w .given;
+        start = w .start ∙ sym (o .start);
+        stop = w .stop ∙ sym (o .stop);
+      }
+
   backed : (p j : ℕ) (a : Area) → removeK k c m .area p j ≡ some a → (Rooted p j → ⊥) → Backed new (removeK k c m .parent) p j a
   backed p j a u n =
       let (v, s) = area-was p j a u in
       let b = h .s8 p j a v n in
-      backed-at (up-same p s) b (stays (b .q) (b .i) (b .e) (b .at) (go (b .q) s (up-stays p (h .s2-absent p j a v) s) (b .who)) (λ z. ok .child .other (sym z ∙ b .free)))
+      backed-at (up-same p s) b (remove-stays (b .q) (b .i) (b .e) (b .at) (go (b .q) s (up-stays p (h .s2-absent p j a v) s) (b .who)) (λ z. ok .child .other (sym z ∙ b .free)))
     where
       go : (q : ℕ) → m p ≡ false → m (k .parent p) ≡ false → (q ≡ k .parent p) ⊎ ((q ≡ p) × (0 < j)) → m q ≡ false
       go q s n (inl y) = ap m y ∙ n
@@ -253,6 +274,7 @@ module _ {k : K} {c : ℕ} {m : ℕ → Bool} (h : Core k) (ok : Goes k c m) whe
         (keep (a .given) (w, g), up-same (a .given) g ∙ z);
     s7-in = inside;
     s7-cover = λ p i a l u n x. let (v, g) = inv p i a u .given n in holds-new (a .given) l (h .s7-cover p i a l v n x) g;
+    s7-whole = whole;
     s8 = backed;
     s8-apart = λ p j q i a b l u v. h .s8-apart p j q i a b l (area-was p j a u .0) (area-was q i b v .0);
     s11 = λ i a u. let o = inv 0 i a u in o .rights ∙ h .s11 i (o .e) (o .at);

@@ -1,13 +1,14 @@
 -- Soundness after a change of slots alone.
 use mathlib.Core.Path.{_≡_, refl, sym, _∙_}
 use mathlib.Core.Logic.{_↔_}
+use mathlib.Core.Bool.{true}
 use Prim.Native.Nat.{ℕ, _+_, _/_, _<_}
 use native.Mathlib.Omega.{arith}
 use Rattle.tables.specs.State.{Opt, some, Entry, Area, K, allRights}
 use Rattle.tables.specs.Laws.State.{same-at}
 use Rattle.tables.specs.Write.{withSlot}
 use Rattle.tables.specs.Lines.{In, Holds, Clear}
-use Rattle.sound.specs.Core.{Inside, Core}
+use Rattle.sound.specs.Core.{Inside, Whole, Core}
 use Rattle.sound.specs.Properties.{Child}
 use Rattle.isolation.specs.Laws.Keep.{given-child, Has, Part, itself, inside-at, backed-at}
 
@@ -23,6 +24,7 @@ pub record Fine (k : K) (new : ℕ → ℕ → Opt Entry) (p i : ℕ) (a : Entry
   pub lent : (a .given ≡ 0 → ⊥) → Lent k new p a
   pub inside : (p ≡ 0 → ⊥) → Inside new (k .parent) p a
   pub root : p ≡ 0 → a .rights ≡ allRights
+  pub whole : a .whole ≡ true → Whole (k .area) new (k .parent) p a
 
 -- .. and of all slots: no two entries share a line, the root holds what it held, an entry that is an area stays, and those inside one grant have equal rights
 pub record Kept (k : K) (new : ℕ → ℕ → Opt Entry) : Type 0 where
@@ -72,6 +74,7 @@ module _ {k : K} (h : Core k) {new : ℕ → ℕ → Opt Entry} where
     s7-given = λ p i a u n. let g = c .fine p i a u .lent n in (g .child .present, g .child .parent);
     s7-in = λ p i a u. c .fine p i a u .inside;
     s7-cover = λ p i a l u n. c .fine p i a u .lent n .cover l;
+    s7-whole = λ p i a u. c .fine p i a u .whole;
     s8 = λ p j a u n.
         let b = h .s8 p j a u n in
         let r = h .s4 p j a u n in
@@ -81,15 +84,37 @@ module _ {k : K} (h : Core k) {new : ℕ → ℕ → Opt Entry} where
     s11-equal = c .equal;
   }
 
+  -- where what is around an old entry stays, a whole one is whole
+  whole-stays : {p i : ℕ} {a : Entry} → k .slot p i ≡ some a → Stays k new p a → a .whole ≡ true → Whole (k .area) new (k .parent) p a
+  whole-stays {p} {i} {a} u s z =
+      let w = h .s7-whole p i a u z in
+      let o = h .s7-in p i a u (w .other) in
+      let r = h .s5-range p i a u in
+      let j : o .i ≡ w .i = h .s6 (k .parent p) (o .i) (w .i) (o .f) (w .f) (a .start) (o .at) (w .at) (omega arith) (omega arith) in
+      let d = same-at (k .slot (k .parent p) (w .i)) (rw j at (o .at)) (w .at) in
+      let (m, v) = s (w .other) o in
+      record {
+        clear = w .clear;
+        free = w .free;
+        other = w .other;
+        i = m;
+        f = o .f;
+        at = v;
+        given = o .given;
+        start = d .start ∙ w .start;
+        stop = d .stop ∙ w .stop;
+      }
+
   -- a part of an old entry is fine ..
   pub part-fine : {p i j : ℕ} {a e : Entry} → k .slot p j ≡ some e → Part a e → (b : Area) × (k .area p (1 + i / 8) ≡ some b) → a .start < a .stop
-      → ((a .given ≡ 0 → ⊥) → Lent k new p a) → Stays k new p e → Fine k new p i a
-  part-fine {p} {j = j} {e = e} u w b r g s = record {
+      → ((a .given ≡ 0 → ⊥) → Lent k new p a) → (a .whole ≡ true → Whole (k .area) new (k .parent) p a) → Stays k new p e → Fine k new p i a
+  part-fine {p} {j = j} {e = e} u w b r g m s = record {
     structure = b;
     range = r;
     lent = g;
     inside = λ n. let o = h .s7-in p j e u n in inside-at refl w o (s n o);
     root = λ z. rw (w .rights) (h .s11 j e (rw z at u));
+    whole = m;
   }
 
   -- .. and so is an old entry
@@ -97,7 +122,7 @@ module _ {k : K} (h : Core k) {new : ℕ → ℕ → Opt Entry} where
       → ((a .given ≡ 0 → ⊥) → (l : ℕ) → In l a → Holds (k .slot) (a .given) l → Holds new (a .given) l)
       → Stays k new p a → Fine k new p i a
   old-fine {p} {i} {a} u c s = part-fine u (itself a) (h .s5 p i a u) (h .s5-range p i a u)
-      (λ n. record { child = given-child h p i a u n; cover = λ l x. c n l x (h .s7-cover p i a l u n x) }) s
+      (λ n. record { child = given-child h p i a u n; cover = λ l x. c n l x (h .s7-cover p i a l u n x) }) (whole-stays u s) s
 
   -- .. and comes from itself
   pub old-came : {p i : ℕ} {a : Entry} → k .slot p i ≡ some a → Stays k new p a → Came k new p a

@@ -40,6 +40,7 @@ module _ {k : K} (h : Core k) where
     s7-given = h .s7-given;
     s7-in = h .s7-in;
     s7-cover = h .s7-cover;
+    s7-whole = h .s7-whole;
     s8 = h .s8;
     s8-apart = h .s8-apart;
     s11 = h .s11;

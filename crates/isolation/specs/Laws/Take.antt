@@ -99,7 +99,7 @@ module _ {k : K} {s j : ℕ} {e f : Entry} (h : Core k) (ok : TakeOk k s j e f) 
           let w = same (some-inj v) in
           let r = h .s5-range p s e (at z) in
           part-fine h (at z) (record { from = omega arith; to = omega arith; rights = sym (w .rights) }) (rw y (h .s5 p s e (at z))) (omega arith)
-          (λ g. absurd (g (sym (w .given)))) (around p s e (at z) (λ q. child-other h child (sym z ∙ q .0)))
+          (λ g. absurd (g (sym (w .given)))) (λ m. absurd (ok .given (h .s7-whole p s e (at z) (w .whole ∙ m) .free))) (around p s e (at z) (λ q. child-other h child (sym z ∙ q .0)))
       go (second _ _ v) = not-none none refl v
 
   apart : (p i m : ℕ) (a b : Entry) (l : ℕ) → new p i ≡ some a → new p m ≡ some b → In l a → In l b → i ≡ m
@@ -154,7 +154,7 @@ abbrev pub TakeDone : Table → ℕ → ℕ → ℕ → Table → Type 0
 TakeDone t s v w t′ = (i : ℕ) × (e f : Entry) × TakeOk (t .k) s i e f × (t′ ≡ settle (takeK (t .k) s i e) (t .region))
 
 module _ {t : Table} (h : Right t) (s : ℕ) where
-  returned-means : (e : Entry) (i : ℕ) → (returned t e i ≡ true) ↔ ((f : Entry) × Returned (t .k) e i f)
+  pub returned-means : (e : Entry) (i : ℕ) → (returned t e i ≡ true) ↔ ((f : Entry) × Returned (t .k) e i f)
   unfolding returned
   returned-means e i =
       let o = t .k .slot (e .given) i in

@@ -101,11 +101,11 @@ module _ {base end : ℕ} {g : Ledger} {t : Table} (h : Right t) (s : Keeps base
       rw z (kept refl refl (ap (λ (u : ℕ → ℕ). upd1 u v (t .k .current)) (s .tree))
       (λ p l. Iff·trans (s .holders p l) (Iff·symm (create-holds (h .core) ok p l))))
 
-  give-kept : (c i : ℕ) (r : Rights) {v w : ℕ} {t′ : Table} → give t c i r ≡ done v w t′ → Keeps base end (apply (enter c (lines i)) g) (t′ .k)
+  give-kept : (c i : ℕ) (r : Rights) (m : Bool) {v w : ℕ} {t′ : Table} → give t c i r m ≡ done v w t′ → Keeps base end (apply (enter c (lines i)) g) (t′ .k)
   unfolding apply settle
-  give-kept c i r x =
-      let (e, ok, z) = give-done h c i r x in
-      rw z (kept refl refl (s .tree) λ p l. Iff·trans (or-means (s .holders p l) (at-lines c p l (ok .entry .at))) (Iff·symm (give-holds (h .core) ok p l)))
+  give-kept c i r m x =
+      let (e, ok, z) = give-done h c i r m x in
+      rw z (kept refl refl (s .tree) λ p l. Iff·trans (or-means (s .holders p l) (at-lines c p l (ok .entry .at))) (Iff·symm (give-holds m (h .core) ok p l)))
 
   -- the caller's child that stands for the lines of an entry which take may have back is the one that the entry is given to: it has them, and no other child has
   pub child-for : {i j : ℕ} {e f : Entry} → TakeOk (t .k) i j e f → lowest 16 (childFor g (t .k .current) (lines i)) ≡ some (e .given)
@@ -162,7 +162,7 @@ module _ {base end : ℕ} {g : Ledger} {t : Table} (h : Right t) (s : Keeps base
         delete = λ y x. rw y (delete-kept p x);
         prepare = λ y x. let (_, ok, q) = prepare-done h p i x in rw (y, q) (quiet refl refl refl (prepare-holds (h .core) ok));
         collect = λ y x. let (ok, q) = collect-done h p u x in rw (y, q) (quiet refl refl refl (collect-holds (h .core) ok));
-        give = λ y x. rw y (give-kept p i (f .rights) x);
+        give = λ y x. rw y (give-kept p i (f .rights) (f .whole) x);
         take = λ y x. rw y (take-kept i x);
         cut = λ y x. let (_, ok, q) = cut-done h i m x in rw (y, q) (quiet refl refl refl (cut-holds (h .core) ok));
         merge = λ y x. let (_, _, ok, q) = merge-done h i u x in rw (y, q) (quiet refl refl refl (merge-holds (h .core) ok));

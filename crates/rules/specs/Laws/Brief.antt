@@ -48,7 +48,7 @@ free t s k = needed 4 _ (omega arith) (λ e q. checked 5 _ (omega arith) (checke
 module _ (t : Table) where
   create-brief : (s : ℕ) → Brief (create t s)
   unfolding create
-  create-brief s = free t s λ e. found 8 16 _ (omega arith) λ n h. checked 9 _ (omega arith) (brief-done (omega arith))
+  create-brief s = free t s λ e. found 8 16 _ (omega arith) λ n h. checked 9 _ (omega arith) (checked 18 _ (omega arith) (brief-done (omega arith)))
 
   delete-brief : (p : ℕ) → Brief (delete t p)
   unfolding delete
@@ -56,15 +56,15 @@ module _ (t : Table) where
 
   prepare-brief : (p s : ℕ) → Brief (prepare t p s)
   unfolding prepare
-  prepare-brief p s = checked 3 _ (omega arith) (free t s λ e. found 8 4 _ (omega arith) λ j h. checked 9 _ (omega arith) (brief-done (omega arith)))
+  prepare-brief p s = checked 3 _ (omega arith) (free t s λ e. found 8 4 _ (omega arith) λ j h. checked 9 _ (omega arith) (checked 18 _ (omega arith) (brief-done (omega arith))))
 
   collect-brief : (p j : ℕ) → Brief (collect t p j)
   unfolding collect
   collect-brief p j = checked 3 _ (omega arith) (checked 4 _ (omega arith) (checked 15 _ (omega arith) (brief-done (omega arith))))
 
-  give-brief : (p s : ℕ) (r : Rights) → Brief (give t p s r)
+  give-brief : (p s : ℕ) (r : Rights) (w : Bool) → Brief (give t p s r w)
   unfolding give
-  give-brief p s r = checked 3 _ (omega arith) (free t s λ e. found 8 32 _ (omega arith) λ n h. checked 10 _ (omega arith) (brief-done (omega arith)))
+  give-brief p s r w = checked 3 _ (omega arith) (free t s λ e. found 8 32 _ (omega arith) λ n h. checked 10 _ (omega arith) (checked 18 _ (omega arith) (brief-done (omega arith))))
 
   take-brief : (s : ℕ) → Brief (take t s)
   unfolding take
@@ -72,7 +72,7 @@ module _ (t : Table) where
 
   cut-brief : (s l : ℕ) → Brief (cut t s l)
   unfolding cut
-  cut-brief s l = free t s λ e. checked 7 _ (omega arith) (found 8 32 _ (omega arith) λ n h. brief-done (omega arith))
+  cut-brief s l = free t s λ e. checked 7 _ (omega arith) (found 8 32 _ (omega arith) λ n h. checked 18 _ (omega arith) (brief-done (omega arith)))
 
   merge-brief : (s u : ℕ) → Brief (merge t s u)
   unfolding merge
@@ -111,7 +111,7 @@ module _ (t : Table) where
     delete = λ _. delete-brief (f .partition .0);
     prepare = λ _. prepare-brief (f .partition .0) (f .slot .0);
     collect = λ _. collect-brief (f .partition .0) (f .other);
-    give = λ _. give-brief (f .partition .0) (f .slot .0) (f .rights);
+    give = λ _. give-brief (f .partition .0) (f .slot .0) (f .rights) (f .whole);
     take = λ _. take-brief (f .slot .0);
     cut = λ _. cut-brief (f .slot .0) (f .line .0);
     merge = λ _. merge-brief (f .slot .0) (f .other);

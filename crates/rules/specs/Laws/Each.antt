@@ -17,7 +17,7 @@ pub record EachService {ℓ} (C : Result → Type ℓ) (board : Board) (t : Tabl
   pub delete : f .service ≡ 2 → C (delete t (f .partition .0))
   pub prepare : f .service ≡ 3 → C (prepare t (f .partition .0) (f .slot .0))
   pub collect : f .service ≡ 4 → C (collect t (f .partition .0) (f .other))
-  pub give : f .service ≡ 5 → C (give t (f .partition .0) (f .slot .0) (f .rights))
+  pub give : f .service ≡ 5 → C (give t (f .partition .0) (f .slot .0) (f .rights) (f .whole))
   pub take : f .service ≡ 6 → C (take t (f .slot .0))
   pub cut : f .service ≡ 7 → C (cut t (f .slot .0) (f .line .0))
   pub merge : f .service ≡ 8 → C (merge t (f .slot .0) (f .other))

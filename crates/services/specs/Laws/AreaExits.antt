@@ -27,13 +27,13 @@ use Rattle.blocks.specs.Pick.{Free}
 
 -- the parent that was written is the caller
 pub created : {l m r : List ℕ} {s n c : ℕ} {f : SlotFields} → Free l s f → lowest 16 (absentChild (view l .k)) ≡ some n → f .start .0 + 16 ≤ f .end .0
-    → view l .k .current ≡ c → Is m (putHeader (view l) n c (some (span (f .start) (f .end)))) → r ≡ encode (settled (view m)) → Ran (create (view l) s) l (Done n 0) r
+    → f .whole ≡ false → view l .k .current ≡ c → Is m (putHeader (view l) n c (some (span (f .start) (f .end)))) → r ≡ encode (settled (view m)) → Ran (create (view l) s) l (Done n 0) r
 unfolding create long
-created {l} {m} {n = n} {f = f} free q h now was e =
+created {l} {m} {n = n} {f = f} free q h y now was e =
     let put : Is m (putHeader (view l) n (view l .k .current) (some (span (f .start) (f .end))))
     = subst (λ (u : ℕ). Is m (putHeader (view l) n u (some (span (f .start) (f .end))))) (sym now) was
     in
-    ran-done (free .rule _ ∙ there 8 _ n q (pass 9 (le-leb _ _ h) refl)) (sym (settled-is put e .encoded))
+    ran-done (free .rule _ ∙ there 8 _ n q (pass 9 (le-leb _ _ h) (pass 18 (ap not y) refl))) (sym (settled-is put e .encoded))
 
 -- a slot that was read is present as its bit says
 pub slot-there : {l : List ℕ} {p i : ℕ} {f : SlotFields} {b : Bool} → Seen l p i f → f .present ≡ b → not (not (isSome (view l .k .slot p i))) ≡ b

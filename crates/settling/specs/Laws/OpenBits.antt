@@ -36,7 +36,7 @@ can-settle {n = n} {s} {e} h hp g =
 
 -- ── one slot ──
 abbrev pub withOpened : SlotFields → Bool → SlotFields
-withOpened f o = record { present = f .present; opened = o; rights = f .rights; given = f .given; start = f .start; end = f .end }
+withOpened f o = record { present = f .present; opened = o; rights = f .rights; given = f .given; start = f .start; end = f .end; whole = f .whole }
 
 module _ {l : List ℕ} {p i : ℕ} {f : SlotFields} (v : Seen l p i f) where
   -- the word of an absent slot stays
@@ -57,7 +57,7 @@ module _ {l : List ℕ} {p i : ℕ} {f : SlotFields} (v : Seen l p i f) where
       ∙ rw (v .slot, h, ← (q ∙ clear-quick (view l .k) g (f .start .0) (f .end .0))) refl
     where
       same : withOpened f o ≡ slotFor (entryOf f) o
-      same = λ x. record { present = h x; opened = o; rights = f .rights; given = f .given; start = f .start; end = f .end }
+      same = λ x. record { present = h x; opened = o; rights = f .rights; given = f .given; start = f .start; end = f .end; whole = f .whole }
 
 -- ── the slots of p ──
 -- at i, the words are those of this table

@@ -8,7 +8,7 @@ use borrow.Author.Tests.{eq-eqb, ne-eqb}
 use Rattle.loops.specs.Every.{all}
 use Rattle.loops.specs.Laws.Every.{all-of, all-true}
 use Rattle.words.specs.Kind.{zero-zeroed}
-use Rattle.words.specs.Words.{header, structure, regions, slot}
+use Rattle.words.specs.Words.{header, structure, regions}
 use Rattle.words.specs.declared.regions_word.Region.{Region}
 use Rattle.shapes.specs.declared.Board.{Board}
 use Rattle.tables.specs.State.{none, Entry}
@@ -23,7 +23,7 @@ use Rattle.tables.specs.Settle.{openBit, openAt}
 use Rattle.memory.specs.ByteRecords.{HeaderTells}
 use Rattle.sound.specs.Sound.{Sound}
 use Rattle.sound.specs.Laws.Sound.{s2-of}
-use Rattle.sound.specs.Clauses.{when, s3, rooted, s4Area, s4Absent, s4, s5Slot, s5, apartE, s6, s7Given, s7, s8Backed, s9, s10Names, s10Once, s10, s11Within, s11Equal, s11}
+use Rattle.sound.specs.Clauses.{when, s3, rooted, s4Area, s4Absent, s4, s5Slot, s5, apartE, s6, s7Given, s7Whole, s7, s8Backed, s9, s10Names, s10Once, s10, s11Within, s11Equal, s11}
 use Rattle.sound.specs.Laws.Tests.{and-true}
 use Rattle.sound.specs.Laws.MeansWords.{s3-means}
 
@@ -51,7 +51,6 @@ module _ (l : List ℕ) (p : ℕ) (z : zeroRecord l p ≡ true) where
     region-bits = rw (zero-regions l p words) (zero-zeroed regions);
     unloaded = λ r b _. ap (λ (x : Region). x .slot .0) (blank-regions l p (zero-regions l p words) r b);
     blank = zero-blanks l p words;
-    slot-bits = λ i b. rw (zero-slots l p words i b) (zero-zeroed slot);
   })
 
   pub absent-s4 : (p ≡ 0 → ⊥) → s4 l (view l .k) p ≡ true
@@ -69,9 +68,9 @@ module _ (l : List ℕ) (p : ℕ) (z : zeroRecord l p ≡ true) where
   unfolding s6 apartE when
   absent-s6 = all-of 32 (λ i. all i (λ j. apartE (view l .k .slot p i) (view l .k .slot p j))) (λ i h. rw (zero-entry l p z i) (all-true i))
 
-  pub absent-s7 : (p ≡ 0 → ⊥) → s7 (view l .k) p ≡ true
-  unfolding s7 s7Given present
-  absent-s7 n = rw (ne-eqb p 0 n, area-none 0) (and-true _ _ (no-entries _) refl)
+  pub absent-s7 : (p ≡ 0 → ⊥) → s7 (view l) p ≡ true
+  unfolding s7 s7Given s7Whole present
+  absent-s7 n = rw (ne-eqb p 0 n, area-none 0) (and-true _ _ (and-true _ _ (no-entries _) (no-entries _)) refl)
 
   pub absent-s8 : all 5 (s8Backed (view l .k) p) ≡ true
   unfolding s8Backed when

@@ -30,7 +30,7 @@ pub record Passes (board : Board) (l : List ℕ) (p : ℕ) : Type 0 where
   pub s4 : s4 l (view l .k) p ≡ true
   pub s5 : s5 l (view l .k) p ≡ true
   pub s6 : s6 (view l .k) p ≡ true
-  pub s7 : s7 (view l .k) p ≡ true
+  pub s7 : s7 (view l) p ≡ true
   pub s11 : s11 (view l .k) p ≡ true
   pub s8 : all 5 (s8Backed (view l .k) p) ≡ true
   pub s9 : s9 (view l) p ≡ true

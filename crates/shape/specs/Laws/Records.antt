@@ -10,7 +10,7 @@ use borrow.Author.Tests.{eqb-true, eq-eqb}
 use Rattle.loops.specs.Every.{all}
 use Rattle.loops.specs.Laws.Every.{bool-ext, all-at, all-of, all-ext}
 use Rattle.words.specs.Kind.{zeroed, zeroed-means, zero-zeroed}
-use Rattle.words.specs.Words.{header, structure, regions, slot}
+use Rattle.words.specs.Words.{header, structure, regions}
 use Rattle.tables.specs.State.{K}
 use Rattle.tables.specs.View.{areaWordAt, regionsWordAt, slotWordAt, nth, regionsAt, view}
 use Rattle.tables.specs.Search.{isSome}
@@ -18,11 +18,11 @@ use Rattle.tables.specs.Laws.ZeroWord.{no-entry, blank-regions}
 use Rattle.tables.specs.ZeroRecord.{zeroBlanks}
 use Rattle.sound.specs.Clauses.{blankRegion, s3Regions, s3, s4Area, s4Absent, s4, s5Slot, s5}
 use Rattle.sound.specs.Laws.Tests.{and-says, and-true}
-use Rattle.shape.specs.Records.{headerTest, structureTest, slotTest, slotsTest, HasStructure}
+use Rattle.shape.specs.Records.{headerTest, structureTest, slotsTest, HasStructure}
 
 -- ── tests ──
 unfoldable pub recordTest : List ℕ → K → ℕ → Bool
-recordTest l k p = headerTest l k p && all 4 (structureTest l k p) && s3Regions l p && zeroBlanks l p && all 32 (slotTest l k p)
+recordTest l k p = headerTest l k p && all 4 (structureTest l k p) && s3Regions l p && zeroBlanks l p && all 32 (s5Slot l k p)
 
 -- ── they are S3, S4 and S5 ──
 module _ (l : List ℕ) (k : K) (p : ℕ) where
@@ -32,7 +32,6 @@ module _ (l : List ℕ) (k : K) (p : ℕ) where
     structure : (j : ℕ) → j < 4 → zeroed structure (areaWordAt l p (1 + j)) ≡ true
     regions : s3Regions l p ≡ true
     blank : zeroBlanks l p ≡ true
-    slot : (i : ℕ) → i < 32 → zeroed slot (slotWordAt l p i) ≡ true
     area : (j : ℕ) → j < 5 → s4Area k p j ≡ true
     absent : (j : ℕ) → j < 4 → s4Absent l k p j ≡ true
     entry : (i : ℕ) → i < 32 → s5Slot l k p i ≡ true
@@ -44,15 +43,14 @@ module _ (l : List ℕ) (k : K) (p : ℕ) where
         let (ab, c) = and-says _ _ q in
         let (a, b) = and-says _ _ ab in
         let (x, y) = and-says _ _ b in
-        let (hsrb, e) = and-says _ _ a in
-        let (hsr, z) = and-says _ _ hsrb in
+        let (hsr, z) = and-says _ _ a in
         let (hs, r) = and-says _ _ hsr in
         let (h, s) = and-says _ _ hs in
-        record { header = h; structure = all-at 4 _ s; regions = r; blank = z; slot = all-at 32 _ e; area = all-at 5 _ x; absent = all-at 4 _ y; entry = all-at 32 _ c },
+        record { header = h; structure = all-at 4 _ s; regions = r; blank = z; area = all-at 5 _ x; absent = all-at 4 _ y; entry = all-at 32 _ c },
     λ h.
         and-true _ _
         (and-true _ _
-        (and-true _ _ (and-true _ _ (and-true _ _ (and-true _ _ (h .header) (all-of 4 _ (h .structure))) (h .regions)) (h .blank)) (all-of 32 _ (h .slot)))
+        (and-true _ _ (and-true _ _ (and-true _ _ (h .header) (all-of 4 _ (h .structure))) (h .regions)) (h .blank))
         (and-true _ _ (all-of 5 _ (h .area)) (all-of 4 _ (h .absent))))
         (all-of 32 _ (h .entry)),
   )
@@ -61,12 +59,8 @@ module _ (l : List ℕ) (k : K) (p : ℕ) where
   unfolding structureTest
   structure-asks j q = let (xy, z) = and-says _ _ q in let (x, y) = and-says _ _ xy in (x, y, z)
 
-  slot-asks : (i : ℕ) → slotTest l k p i ≡ true → (zeroed slot (slotWordAt l p i) ≡ true) × (s5Slot l k p i ≡ true)
-  unfolding slotTest
-  slot-asks i q = and-says _ _ q
-
   tests-ask : (recordTest l k p ≡ true) ↔ Asked
-  unfolding recordTest headerTest structureTest slotTest
+  unfolding recordTest headerTest structureTest
   tests-ask = (
     λ q.
         let (hsrb, e) = and-says _ _ q in
@@ -75,16 +69,14 @@ module _ (l : List ℕ) (k : K) (p : ℕ) where
         let (h, s) = and-says _ _ hs in
         let head = and-says _ _ h in
         let structures = all-at 4 (structureTest l k p) s in
-        let slots = all-at 32 (slotTest l k p) e in
         record {
           header = head .0;
           structure = λ j b. structure-asks j (structures j b) .0;
           regions = r;
           blank = b;
-          slot = λ i b. slot-asks i (slots i b) .0;
           area = each-area (head .1) (λ j b. structure-asks j (structures j b) .1);
           absent = λ j b. structure-asks j (structures j b) .2;
-          entry = λ i b. slot-asks i (slots i b) .1;
+          entry = all-at 32 (s5Slot l k p) e;
         },
     λ h.
         and-true _ _
@@ -95,7 +87,7 @@ module _ (l : List ℕ) (k : K) (p : ℕ) where
         (all-of 4 (structureTest l k p) (λ j b. and-true _ _ (and-true _ _ (h .structure j b) (h .area (1 + j) (omega arith))) (h .absent j b))))
         (h .regions))
         (h .blank))
-        (all-of 32 (slotTest l k p) (λ i b. and-true _ _ (h .slot i b) (h .entry i b))),
+        (all-of 32 (s5Slot l k p) (h .entry)),
   )
     where
       each-area : s4Area k p 0 ≡ true → ((j : ℕ) → j < 4 → s4Area k p (1 + j) ≡ true) → (j : ℕ) → j < 5 → s4Area k p j ≡ true
@@ -114,23 +106,22 @@ regions-empty l p q =
     (all-of 8 (λ r. blankRegion (nth (regionsAt l p) r)) (λ r h. rw (blank-regions l p q r h) refl))
 
 -- as a slot
-pub slot-empty : (l : List ℕ) (p i : ℕ) → slotWordAt l p i ≡ 0 → slotTest l (view l .k) p i ≡ true
-unfolding slotTest s5Slot
-slot-empty l p i q =
-    and-true _ _ (zeroed-means slot (slotWordAt l p i) .1 (rw q (zero-zeroed slot))) (rw (no-entry l p i (λ _ _. q)) (eq-eqb _ 0 q))
+pub slot-empty : (l : List ℕ) (p i : ℕ) → slotWordAt l p i ≡ 0 → s5Slot l (view l .k) p i ≡ true
+unfolding s5Slot
+slot-empty l p i q = rw (no-entry l p i (λ _ _. q)) (eq-eqb _ 0 q)
 
 -- ── slots by structure ──
 -- all 32
-pub slots-each : (l : List ℕ) (k : K) (p : ℕ) → all 4 (slotsTest l k p) ≡ all 32 (slotTest l k p)
+pub slots-each : (l : List ℕ) (k : K) (p : ℕ) → all 4 (slotsTest l k p) ≡ all 32 (s5Slot l k p)
 unfolding slotsTest
 slots-each l k p =
     bool-ext _ _
-    (λ q. all-of 32 (slotTest l k p) (λ i b.
+    (λ q. all-of 32 (s5Slot l k p) (λ i b.
     let h : i / 8 < 4 = omega arith in
     let g : i % 8 < 8 = omega arith in
     let z : 8 * (i / 8) + i % 8 ≡ i = omega arith in
-    rw z at (all-at 8 (λ o. slotTest l k p (8 * (i / 8) + o)) (all-at 4 (slotsTest l k p) q (i / 8) h) (i % 8) g)))
-    (λ q. all-of 4 (slotsTest l k p) (λ j b. all-of 8 _ (λ o c. all-at 32 (slotTest l k p) q (8 * j + o) (omega arith))))
+    rw z at (all-at 8 (λ o. s5Slot l k p (8 * (i / 8) + o)) (all-at 4 (slotsTest l k p) q (i / 8) h) (i % 8) g)))
+    (λ q. all-of 4 (slotsTest l k p) (λ j b. all-of 8 _ (λ o c. all-at 32 (s5Slot l k p) q (8 * j + o) (omega arith))))
 
 -- slot o of the eight is one of structure j
 pub eight-in : {l : List ℕ} {p j o : ℕ} → HasStructure l p j → o < 8 → HasStructure l p ((8 * j + o) / 8)
@@ -138,9 +129,9 @@ eight-in {j = j} {o} h b = let z : (8 * j + o) / 8 ≡ j = omega arith in record
 
 module _ (l : List ℕ) (p : ℕ) where
   -- where its structure is absent, a slot is a zero word
-  slot-absent : (i : ℕ) → isSome (view l .k .area p (1 + i / 8)) ≡ false → eqb (slotWordAt l p i) 0 ≡ slotTest l (view l .k) p i
+  slot-absent : (i : ℕ) → isSome (view l .k .area p (1 + i / 8)) ≡ false → eqb (slotWordAt l p i) 0 ≡ s5Slot l (view l .k) p i
   unfolding s5Slot
-  slot-absent i n = bool-ext _ _ (λ q. slot-empty l p i (eqb-true _ 0 q)) (λ q. go (isSome (view l .k .slot p i)) (rw n at (slot-asks l (view l .k) p i q .1)))
+  slot-absent i n = bool-ext _ _ (λ q. slot-empty l p i (eqb-true _ 0 q)) (λ q. go (isSome (view l .k .slot p i)) (rw n at q))
     where
       go : (b : Bool) → cond b false (eqb (slotWordAt l p i) 0) ≡ true → eqb (slotWordAt l p i) 0 ≡ true
       go true q = absurd (false≢true q)

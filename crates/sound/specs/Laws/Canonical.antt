@@ -8,7 +8,7 @@ use Rattle.tables.specs.View.{areaWordAt, view}
 use Rattle.tables.specs.Encode.{structureWord, Canon}
 use Rattle.tables.specs.Fitting.{Words}
 use Rattle.tables.specs.Laws.Spelling.{SpellsAt, spells-canon, zero-areas}
-use Rattle.tables.specs.Laws.Canonical.{first-kept, header-kept, structure-kept, slot-kept, regions-kept, header-clean, structure-clean, slot-clean, regions-clean, unloaded-blank, blank-clean}
+use Rattle.tables.specs.Laws.Canonical.{first-kept, header-kept, structure-kept, slot-kept, regions-kept, header-clean, structure-clean, regions-clean, unloaded-blank, blank-clean}
 use Rattle.sound.specs.Sound.{Sound, S3}
 use Rattle.sound.specs.Laws.Sound.{s2-of, s3-first-of, s3-of, s4-of, s5-of}
 
@@ -21,7 +21,7 @@ module _ {board : Board} {l : List ℕ} (fits : Words l) (s : Sound board l) whe
         structure = λ j x y. structures (j - 1) j (omega arith) y;
         regions = regions-kept fits p b (z .region-bits) (z .unloaded);
         blank = z .blank;
-        slot = λ i x. slot-kept fits p b i x (z .slot-bits i x) (s5-of s p b .other i x);
+        slot = λ i x. slot-kept fits p b i x (s5-of s p b .other i x);
       }
     where
       structures : (i j : ℕ) → 1 + i ≡ j → j < 5 → areaWordAt l p j ≡ structureWord (view l .k .area p j)
@@ -37,5 +37,4 @@ canon-s3 c p b = record {
   region-bits = regions-clean c p b;
   unloaded = λ r _. unloaded-blank c p b r;
   blank = blank-clean c p b;
-  slot-bits = slot-clean c p b;
 }

@@ -59,7 +59,7 @@ module _ {k : K} (h : Core k) {l : ℕ} where
     pub holder-above : {p : ℕ} → Holds (k .slot) p l → Above (k .parent) p q
     holder-above {p} u = let (m, _, s) = reaches→steps (h .s2-climb p (holder-present h u)) in up s u
 
--- ── so of all entries with the line one is not given (what 104 needs: a whole entry is the only free one with its lines) ──
+-- ── so of all entries with the line one is not given: a whole entry is the only free one with its lines ──
 above-depth : {up : ℕ → ℕ} → up 0 ≡ 0 → {p q m n : ℕ} → Above up p q → Steps up m p → Steps up n q → (m ≤ n) × (m ≡ n → p ≡ q)
 above-depth {up} top {m = m} (itself z) s t = let e = steps-one (subst (Steps up m) (sym z) s) t in (omega arith, λ _. sym z)
 above-depth {up} top (higher {p = q} a) s (no-step z) = let (b, f) = above-depth top a s (no-step (ap up z ∙ top)) in (b, λ e. f e ∙ ap up z ∙ top ∙ sym z)

@@ -1,5 +1,6 @@
 -- A sound table has this core; and a core has each clause but for its words, open bits and regions.
 use mathlib.Core.Path.{_≡_, refl, sym, _∙_}
+use mathlib.Core.Bool.{true}
 use mathlib.Core.List.{List}
 use mathlib.Core.Logic.{_⊎_, inl, inr, ⊎-elim}
 use Prim.Native.Nat.{ℕ, zero, suc, _+_, _/_, _≤_, _<_}
@@ -7,16 +8,16 @@ use native.Mathlib.Decide.{decLt, ℕ-discrete}
 use native.Mathlib.Omega.{arith}
 use Rattle.loops.specs.Climb.{Reaches}
 use Rattle.shapes.specs.declared.Board.{Board}
-use Rattle.tables.specs.State.{Opt, none, some, Entry, Area, nowhere, K}
+use Rattle.tables.specs.State.{Opt, none, some, Entry, Area, nowhere, K, Table}
 use Rattle.tables.specs.Laws.State.{not-none, same-at}
 use Rattle.tables.specs.View.{view}
 use Rattle.tables.specs.Laws.View.{slot-bounds, area-bounds}
 use Rattle.tables.specs.Laws.Spelling.{zero-areas}
 use Rattle.tables.specs.Laws.ZeroWord.{no-area, no-parent}
 use Rattle.tables.specs.Lines.{In, InA, Holds}
-use Rattle.sound.specs.Sound.{Present, Rooted, Granted, Equals, S1, S2, S6, S7, S8, S11, Sound}
-use Rattle.sound.specs.Core.{Inside, Backed, Core}
-use Rattle.sound.specs.Laws.Sound.{s1-of, s2-of, s4-of, s5-of, s6-of, s7-of, s8-of, s11-of}
+use Rattle.sound.specs.Sound.{Present, Rooted, Granted, Equals, S1, S2, S6, S7, S8, S9, S11, Sound}
+use Rattle.sound.specs.Core.{Inside, Whole, Backed, Core}
+use Rattle.sound.specs.Laws.Sound.{s1-of, s2-of, s4-of, s5-of, s6-of, s7-of, s8-of, s9-of, s11-of}
 
 -- ── from a sound table ──
 module _ {board : Board} (l : List ℕ) (h : Sound board l) where
@@ -64,6 +65,24 @@ module _ {board : Board} (l : List ℕ) (h : Sound board l) where
       let (a, e) = s7-of h p (slot-bounds l p i f u .0) .given i f u z in
       s7-of h (f .given) (area-bounds l (f .given) 0 (a .0) (a .1) .0) .cover z a i f (rw e u) refl n x
 
+  -- S7 says it by the open bit
+  whole : (c i : ℕ) (e : Entry) → view l .k .slot c i ≡ some e → e .whole ≡ true → Whole (view l .k .area) (view l .k .slot) (view l .k .parent) c e
+  whole c i e u w =
+      let b = slot-bounds l c i e u .0 in
+      let o = s7-of h c b .whole i e u w in
+      let g = o .lent in
+      record {
+        clear = s9-of h c b i e u .0 (o .opened);
+        free = o .free;
+        other = o .other;
+        i = g .i;
+        f = g .f;
+        at = g .at;
+        given = g .given;
+        start = g .start;
+        stop = g .stop;
+      }
+
   backed : (p j : ℕ) (a : Area) → view l .k .area p j ≡ some a → (Rooted p j → ⊥) → Backed (view l .k .slot) (view l .k .parent) p j a
   backed p j a u n = go j u n
     where
@@ -105,6 +124,7 @@ module _ {board : Board} (l : List ℕ) (h : Sound board l) where
         s7-given = λ p i e u. s7-of h p (slot-bounds l p i e u .0) .given i e u;
         s7-in = inside;
         s7-cover = cover;
+        s7-whole = whole;
         s8 = backed;
         s8-apart = apart;
         s11 = s11-of h 0 (omega arith) .root refl;
@@ -112,7 +132,7 @@ module _ {board : Board} (l : List ℕ) (h : Sound board l) where
       }
 
 -- ── and back ──
--- What a core says of the clauses: all but zero words and zero bits (S2 absent, S3, S4 absent, S5 other), open bits (S9) and regions (S10).
+-- What a core says of the clauses: all but zero words and zero bits (S2 absent, S3, S4 absent, S5 other), open bits (S7 whole, S9) and regions (S10).
 pub record Parts (k : K) : Type 0 where
   pub s1 : S1 k
   pub s2-root : (p : ℕ) → p ≡ 0 → (k .area p 0 ≡ some nowhere) × (k .parent p ≡ 0)
@@ -124,21 +144,29 @@ pub record Parts (k : K) : Type 0 where
   pub s5-structure : (p i : ℕ) (e : Entry) → k .slot p i ≡ some e → (a : Area) × (k .area p (1 + i / 8) ≡ some a)
   pub s5-range : (p i : ℕ) (e : Entry) → k .slot p i ≡ some e → e .start < e .stop
   pub s6 : (p : ℕ) → S6 k p
-  pub s7 : (p : ℕ) → S7 k p
   pub s8 : (p : ℕ) → S8 k p
   pub s11 : (p : ℕ) → S11 k p
 
-module _ {k : K} (h : Core k) where
-  core-s7 : (p : ℕ) → S7 k p
-  core-s7 p = record {
-    root = λ z l. rw z (h .s7-root l);
-    given = h .s7-given p;
-    inside = λ n i e u.
-        let o = h .s7-in p i e u n in
-        (o .i, o .f, record { at = o .at; given = o .given; around = record { from = o .from; to = o .to } });
-    cover = λ n a i f u g l x. rw g at (h .s7-cover (k .parent p) i f l u (λ z. n (sym g ∙ z)) x);
-  }
+-- S7, with the open bits of S9
+pub core-s7 : {t : Table} → Core (t .k) → (p : ℕ) → S9 t p → S7 t p
+core-s7 {t} h p s9 = record {
+  root = λ z l. rw z (h .s7-root l);
+  given = h .s7-given p;
+  inside = λ n i e u.
+      let o = h .s7-in p i e u n in
+      (o .i, o .f, record { at = o .at; given = o .given; around = record { from = o .from; to = o .to } });
+  cover = λ n a i f u g l x. rw g at (h .s7-cover (t .k .parent p) i f l u (λ z. n (sym g ∙ z)) x);
+  whole = λ i e u w.
+      let o = h .s7-whole p i e u w in
+      record {
+        opened = s9 i e u .1 (o .clear);
+        free = o .free;
+        other = o .other;
+        lent = record { i = o .i; f = o .f; at = o .at; given = o .given; start = o .start; stop = o .stop };
+      };
+}
 
+module _ {k : K} (h : Core k) where
   core-s8 : (p : ℕ) → S8 k p
   core-s8 p = record {
     header = λ n a u. ⊎-elim (λ o. absurd (omega (arith, o .0))) (λ e. e) (whose (h .s8 p 0 a u (λ r. n (r .0))));
@@ -182,7 +210,6 @@ module _ {k : K} (h : Core k) where
     s5-structure = h .s5;
     s5-range = h .s5-range;
     s6 = h .s6;
-    s7 = core-s7;
     s8 = core-s8;
     s11 = core-s11;
   }

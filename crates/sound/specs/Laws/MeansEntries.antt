@@ -1,7 +1,7 @@
 -- The tests of S6 and S7 say what the clauses say.
 use mathlib.Core.Path.{_≡_, refl}
 use mathlib.Core.Bool.{Bool, true, false, cond, not, _&&_, _||_, false≢true}
-use mathlib.Core.Logic.{_↔_}
+use mathlib.Core.Logic.{_↔_, Iff·rfl}
 use mathlib.Core.List.{List}
 use Prim.Native.Nat.{ℕ, _-_, _≤_, _<_}
 use native.Mathlib.Decide.{ℕ-discrete, decLt}
@@ -10,7 +10,7 @@ use lib.Dec.{leb, ltb, eqb}
 use borrow.Author.Tests.{ltb-true, lt-ltb, leb-true, le-leb, eqb-true, eqb-false, eq-eqb, ne-eqb}
 use Rattle.loops.specs.Every.{all, any}
 use Rattle.loops.specs.Laws.Every.{all-at, all-of, any-at, any-of}
-use Rattle.tables.specs.State.{Opt, none, some, Entry, Area, K}
+use Rattle.tables.specs.State.{Opt, none, some, Entry, Area, K, Table}
 use Rattle.tables.specs.Laws.State.{not-none, some-inj, same}
 use Rattle.tables.specs.View.{view}
 use Rattle.tables.specs.Laws.View.{slot-bounds}
@@ -18,9 +18,10 @@ use Rattle.tables.specs.Laws.Spelling.{zero-slots}
 use Rattle.tables.specs.Laws.ZeroWord.{no-entry}
 use Rattle.tables.specs.Lines.{In, Holds}
 use Rattle.tables.specs.Search.{isSome, present, child, holds}
-use Rattle.sound.specs.Sound.{Present, Around, Granted, OneGrant, S2, S5, S6, S7}
-use Rattle.sound.specs.Clauses.{when, has, apartE, s6, held, covered, s7Root, s7Given, grants, s7Inside, s7Cover, s7, containsBoth, oneGrant}
+use Rattle.sound.specs.Sound.{Present, Around, Granted, OneGrant, Lends, Undivided, S2, S5, S6, S7}
+use Rattle.sound.specs.Clauses.{when, has, apartE, s6, held, covered, s7Root, s7Given, grants, s7Inside, s7Cover, lends, undivided, s7Whole, s7, containsBoth, oneGrant}
 use Rattle.sound.specs.Laws.Tests.{and-says, and-true, then-says, then-true, not-says, when-says, when-true, every-says, every-true, some-says, some-true}
+use Rattle.sound.specs.Laws.Means.{eq-means, and-means, not-means}
 use Rattle.sound.specs.Laws.Meets.{meets-not}
 use Rattle.sound.specs.Laws.Cover.{Covered, ends-cover, cover-ends}
 
@@ -242,32 +243,68 @@ module _ (k : K) (slots : Slots32 k) where
         covered-means p (f .start) (f .stop) .1 (λ l a b. h i f u (eqb-true (f .given) p z) l (record { from = a; to = b })))),
   )
 
-  -- ── S7, where an owner of an entry is present, and each entry has a line ──
-  s7-of : (p : ℕ) → ((i : ℕ) (e : Entry) → k .slot p i ≡ some e → Present k p) → ((i : ℕ) (e : Entry) → k .slot p i ≡ some e → e .start < e .stop)
-      → (s7 k p ≡ true) ↔ S7 k p
-  unfolding s7
-  s7-of p owner ranged = (
+-- ── S7: whole entries ──
+module _ (t : Table) (slots : Slots32 (t .k)) (p : ℕ) where
+  lends-means : (e : Entry) → (any 32 (λ j. has (lends p e) (t .k .slot (t .k .parent p) j)) ≡ true) ↔ Lends (t .k) p e
+  unfolding lends
+  lends-means e = (
     λ q.
-        let (x, y) = and-says (s7Given k p) _ q in
+        let (i, f, u, w) = some-means (t .k) slots (lends p e) (t .k .parent p) .0 q in
+        let ((g, s), n) = equal f .0 w in
+        record { i = i; f = f; at = u; given = g; start = s; stop = n },
+    λ h. some-means (t .k) slots (lends p e) (t .k .parent p) .1 (h .i, h .f, h .at, equal (h .f) .1 ((h .given, h .start), h .stop)),
+  )
+    where
+      equal : (f : Entry) → (eqb (f .given) p && eqb (f .start) (e .start) && eqb (f .stop) (e .stop) ≡ true) ↔ (((f .given ≡ p) × (f .start ≡ e .start)) × (f .stop ≡ e .stop))
+      equal f = and-means (and-means (eq-means (f .given) p) (eq-means (f .start) (e .start))) (eq-means (f .stop) (e .stop))
+
+  undivided-means : (i : ℕ) (e : Entry) → (undivided (t .k) p (t .opened p i) e ≡ true) ↔ Undivided t p i e
+  unfolding undivided
+  undivided-means i e =
+      let opened : (t .opened p i ≡ true) ↔ (t .opened p i ≡ true) = Iff·rfl in
+      let m = and-means (and-means (and-means opened (eq-means (e .given) 0)) (not-means (eq-means p 0))) (lends-means e) in (
+        λ q. let (((o, z), n), l) = m .0 q in record { opened = o; free = z; other = n; lent = l },
+        λ h. m .1 (((h .opened, h .free), h .other), h .lent),
+      )
+
+  whole-means : (s7Whole t p ≡ true) ↔ ((i : ℕ) (e : Entry) → t .k .slot p i ≡ some e → e .whole ≡ true → Undivided t p i e)
+  unfolding s7Whole
+  whole-means = (
+    λ q i e u w. undivided-means i e .0 (then-says (e .whole) _ (every-says 32 (λ i e. not (e .whole) || undivided (t .k) p (t .opened p i) e) (t .k .slot p) q i e (slots p i e u) u) w),
+    λ h. every-true 32 (λ i e. not (e .whole) || undivided (t .k) p (t .opened p i) e) (t .k .slot p) (λ i e _ u. then-true (e .whole) _ (λ w. undivided-means i e .1 (h i e u w))),
+  )
+
+  -- ── S7, where an owner of an entry is present, and each entry has a line ──
+  s7-of : ((i : ℕ) (e : Entry) → t .k .slot p i ≡ some e → Present (t .k) p) → ((i : ℕ) (e : Entry) → t .k .slot p i ≡ some e → e .start < e .stop)
+      → (s7 t p ≡ true) ↔ S7 t p
+  unfolding s7
+  s7-of owner ranged = (
+    λ q.
+        let (xw, y) = and-says (s7Given k p && s7Whole t p) _ q in
+        let (x, w) = and-says (s7Given k p) (s7Whole t p) xw in
         let (root, other) = root-or-means p (s7Root k p) _ .0 y in
         record {
-          root = λ z. root-means p ranged .0 (root z);
-          given = given-means p .0 x;
+          root = λ z. root-means k slots p ranged .0 (root z);
+          given = given-means k slots p .0 x;
+          whole = whole-means .0 w;
           inside = λ n i e u.
               let h = then-says (present k p) _ (other n) (present-means k p .1 (owner i e u)) in
-              inside-means p .0 (and-says (s7Inside k p) (s7Cover k p) h .0) i e u;
+              inside-means k slots p .0 (and-says (s7Inside k p) (s7Cover k p) h .0) i e u;
           cover = λ n c.
               let h = then-says (present k p) _ (other n) (present-means k p .1 c) in
-              cover-means p .0 (and-says (s7Inside k p) (s7Cover k p) h .1);
+              cover-means k slots p .0 (and-says (s7Inside k p) (s7Cover k p) h .1);
         },
     λ h.
-        and-true _ _ (given-means p .1 (h .given))
+        and-true _ _ (and-true _ _ (given-means k slots p .1 (h .given)) (whole-means .1 (h .whole)))
         (root-or-means p (s7Root k p) _ .1 (
-          λ z. root-means p ranged .1 (h .root z),
+          λ z. root-means k slots p ranged .1 (h .root z),
           λ n. then-true (present k p) _ (λ c.
-              and-true _ _ (inside-means p .1 (h .inside n)) (cover-means p .1 (h .cover n (present-means k p .0 c)))),
+              and-true _ _ (inside-means k slots p .1 (h .inside n)) (cover-means k slots p .1 (h .cover n (present-means k p .0 c)))),
         )),
   )
+    where
+      k : K
+      k = t .k
 
 -- ── the table that words are ──
 module _ (l : List ℕ) where
@@ -286,5 +323,5 @@ module _ (l : List ℕ) where
   s6-means = s6-of (view l .k) slots32
 
   pub s7-means : ((q : ℕ) → q < 16 → S2 l (view l .k) q) → ((q : ℕ) → q < 16 → S5 l (view l .k) q)
-      → (p : ℕ) → p < 16 → (s7 (view l .k) p ≡ true) ↔ S7 (view l .k) p
-  s7-means s2 s5 p b = s7-of (view l .k) slots32 p (λ i e. owner-present p i e (s2 p b)) (s5 p b .range)
+      → (p : ℕ) → p < 16 → (s7 (view l) p ≡ true) ↔ S7 (view l) p
+  s7-means s2 s5 p b = s7-of (view l) slots32 p (λ i e. owner-present p i e (s2 p b)) (s5 p b .range)

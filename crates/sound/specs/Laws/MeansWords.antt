@@ -11,7 +11,7 @@ use borrow.Author.Tests.{eqb-true, eq-eqb}
 use Rattle.loops.specs.Climb.{Reaches, at-root}
 use Rattle.loops.specs.Laws.Climb.{reaches-iff}
 use Rattle.words.specs.Kind.{zeroed, Zeroed, zeroed-means}
-use Rattle.words.specs.Words.{first, header, structure, regions, slot}
+use Rattle.words.specs.Words.{first, header, structure, regions}
 use Rattle.words.specs.declared.regions_word.Region.{Region}
 use Rattle.tables.specs.State.{Opt, none, some, Entry, Area, nowhere, K}
 use Rattle.tables.specs.Laws.State.{not-none, none-of, some-inj, sameA}
@@ -124,16 +124,14 @@ s3-means l p =
     and-means
     (and-means
     (and-means
-    (and-means
     (zeroed-means header (areaWordAt l p 0))
     (all-means 4 (λ j. zeroed structure (areaWordAt l p (1 + j))) (λ j b. zeroed-means structure (areaWordAt l p (1 + j)))))
     (regions-mean l p))
-    (zero-blanks-mean l p))
-    (all-means 32 (λ i. zeroed slot (slotWordAt l p i)) (λ i b. zeroed-means slot (slotWordAt l p i))) in (
+    (zero-blanks-mean l p) in (
       λ q.
-          let ((((h, s), r), b), e) = m .0 q in
-          record { header-bits = h; structure-bits = s; region-bits = r .0; unloaded = r .1; blank = b; slot-bits = e },
-      λ h. m .1 ((((h .header-bits, h .structure-bits), (h .region-bits, h .unloaded)), h .blank), h .slot-bits),
+          let (((h, s), r), b) = m .0 q in
+          record { header-bits = h; structure-bits = s; region-bits = r .0; unloaded = r .1; blank = b },
+      λ h. m .1 (((h .header-bits, h .structure-bits), (h .region-bits, h .unloaded)), h .blank),
     )
 
 -- ── S4 ──

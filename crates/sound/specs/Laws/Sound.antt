@@ -32,7 +32,7 @@ module _ {board : Board} {l : List ℕ} (h : Sound board l) where
   pub s6-of : (p : ℕ) → p < 16 → S6 (view l .k) p
   s6-of = h .clauses 6 (omega arith) (omega arith)
 
-  pub s7-of : (p : ℕ) → p < 16 → S7 (view l .k) p
+  pub s7-of : (p : ℕ) → p < 16 → S7 (view l) p
   s7-of = h .clauses 7 (omega arith) (omega arith)
 
   pub s8-of : (p : ℕ) → p < 16 → S8 (view l .k) p

@@ -19,7 +19,7 @@ use Rattle.sound.specs.Core.{Core}
 use Rattle.sound.specs.Laws.Sound.{s9-all, loaded-all}
 use Rattle.sound.specs.Laws.List.{each-clause, sound-means}
 use Rattle.sound.specs.Laws.Canonical.{canon-s3}
-use Rattle.sound.specs.Laws.Core.{core-sound, sound-core}
+use Rattle.sound.specs.Laws.Core.{core-s7, core-sound, sound-core}
 use Rattle.sound.specs.Properties.{Isolated}
 use Rattle.sound.specs.Laws.Properties.{isolated}
 use Rattle.sound.specs.Whole.{Right}
@@ -68,7 +68,7 @@ right-sound board {l} c h =
           (λ p b. record { absent = λ j d. zero-structure c p (1 + j) b (omega arith) (omega arith); root = g .s4-root p; long = g .s4-long p })
           (λ p b. record { structure = g .s5-structure p; range = g .s5-range p; other = λ i d u. zero-slot c p i b d u })
           (λ p b. g .s6 p)
-          (λ p b. g .s7 p)
+          (λ p b. core-s7 (h .core) p (h .s9 p))
           (λ p b. g .s8 p)
           (λ p b. h .s9 p)
           (λ p b. record { loaded = h .s10 p })

@@ -8,15 +8,16 @@ use native.Mathlib.Decide.{ℕ-discrete}
 use lib.ListN.{getD, List·getD-map}
 use Rattle.words.specs.Kind.{Kind, fieldsIn, wordOf, Lawful, Zeroed, zero-zeroed}
 use Rattle.words.specs.Laws.Kind.{word-back, word-zeroed}
-use Rattle.words.specs.Words.{first, header, structure, regions, slot}
-use Rattle.words.specs.Laws.Kinds.{first-range, header-range, structure-range, slot-range, first-lawful, header-lawful, structure-lawful, regions-lawful, slot-lawful}
+use Rattle.words.specs.Laws.Fields.{slot-zeroed}
+use Rattle.words.specs.Words.{first, header, structure, regions}
+use Rattle.words.specs.Laws.Kinds.{first-range, header-range, structure-range, first-lawful, header-lawful, structure-lawful, regions-lawful, slot-lawful}
 use Rattle.words.specs.declared.header_word.HeaderFields.{HeaderFields}
 use Rattle.words.specs.declared.regions_word.Region.{Region}
 use Rattle.words.specs.declared.slot_word.SlotFields.{SlotFields}
 use Rattle.words.specs.declared.structure_word.StructureFields.{StructureFields}
-use Rattle.tables.specs.State.{Opt, none, some, Entry, Area, Table}
+use Rattle.tables.specs.State.{Opt, none, some, Area, Table}
 use Rattle.tables.specs.View.{firstWord, areaWordAt, regionsWordAt, blankWordAt, slotWordAt, entryIn, headerArea, structureArea, nth, named, slotAt, headerAt, structureAt, regionsAt, viewK, view}
-use Rattle.tables.specs.Encode.{slotFor, slotWord, headerFor, headerWord, structureFor, structureWord, regionFor, regionsFor, regionsWord, firstFor, Canon}
+use Rattle.tables.specs.Encode.{slotWord, headerFor, headerWord, structureFor, structureWord, regionFor, regionsFor, regionsWord, firstFor, Canon}
 use Rattle.tables.specs.Laws.Encode.{regions-none}
 use Rattle.tables.specs.Laws.Spelling.{Spells, canon-spells, zero-words}
 use Rattle.tables.specs.Spelling.{ZeroWords}
@@ -80,10 +81,10 @@ module _ {l : List ℕ} (fits : Words l) where
             (written structure-lawful (areaWordAt l p (1 + j)) (fits .small _) z (λ i. record { present = q i; start = f .start; end = f .end }))
         go false q = let n : view l .k .area p (1 + j) ≡ none = rw (seen .area, q) refl in rw n (absent n)
 
-    pub slot-kept : (i : ℕ) → i < 32 → Zeroed slot (slotWordAt l p i) → (view l .k .slot p i ≡ none → slotWordAt l p i ≡ 0)
+    pub slot-kept : (i : ℕ) → i < 32 → (view l .k .slot p i ≡ none → slotWordAt l p i ≡ 0)
         → slotWordAt l p i ≡ slotWord (view l .k .slot p i) (view l .opened p i)
     unfolding slotWordAt slotWord entryIn
-    slot-kept i hi z absent = go (f .present) refl
+    slot-kept i hi absent = go (f .present) refl
       where
         f : SlotFields
         f = slotAt l p i
@@ -94,8 +95,8 @@ module _ {l : List ℕ} (fits : Words l) where
         go : (b : Bool) → f .present ≡ b → slotWordAt l p i ≡ slotWord (view l .k .slot p i) (view l .opened p i)
         go true q =
             rw (seen .slot, seen .opened, q)
-            (written slot-lawful (slotWordAt l p i) (fits .small _) z
-            (λ x. record { present = q x; opened = f .opened; rights = f .rights; given = f .given; start = f .start; end = f .end }))
+            (written slot-lawful (slotWordAt l p i) (fits .small _) (slot-zeroed (slotWordAt l p i))
+            (λ x. record { present = q x; opened = f .opened; rights = f .rights; given = f .given; start = f .start; end = f .end; whole = f .whole }))
         go false q = let n : view l .k .slot p i ≡ none = rw (seen .slot, q) refl in rw n (absent n)
 
     pub regions-kept : Zeroed regions (regionsWordAt l p) → ((r : ℕ) → r < 8 → nth (regionsAt l p) r .loaded ≡ false → nth (regionsAt l p) r .slot .0 ≡ 0)
@@ -117,7 +118,7 @@ module _ {l : List ℕ} (fits : Words l) where
         at : (r : ℕ) → r < 8 → nth (regionsAt l p) r ≡ regionFor (view l .region p r)
         at r h = sym (ap regionFor (see-regions l p (regionsAt l p) hp refl .region r h) ∙ region-kept (nth (regionsAt l p) r) (unloaded r h))
 
--- ── the words of a table that fits have their zero bits zero ──
+-- ── the words of a table that fits have their zero bits zero (a slot has none) ──
 module _ {t : Table} (h : Fit t) where
   header-zeroed : (p : ℕ) → Zeroed header (headerWord (t .k .parent p) (t .k .area p 0))
   unfolding headerWord
@@ -137,17 +138,6 @@ module _ {t : Table} (h : Fit t) where
       go : (x : Opt Area) → t .k .area p j ≡ x → Zeroed structure (structureWord x)
       go none q = zero-zeroed structure
       go (some a) q = let b = h .area p j a q in word-zeroed structure-lawful (structureFor a) (structure-range (structureFor a) (b .2) (b .3))
-
-  slot-zeroed : (p i : ℕ) → Zeroed slot (slotWord (t .k .slot p i) (t .opened p i))
-  unfolding slotWord
-  slot-zeroed p i = go (t .k .slot p i) refl
-    where
-      go : (x : Opt Entry) → t .k .slot p i ≡ x → Zeroed slot (slotWord x (t .opened p i))
-      go none q = zero-zeroed slot
-      go (some e) q =
-          let f = slotFor e (t .opened p i) in
-          let b = h .slot p i e q in
-          word-zeroed slot-lawful f (slot-range f (b .2) (b .3) (b .4))
 
 -- a region that is written and not loaded names slot 0
 regions-unloaded : (f : ℕ → Opt ℕ) (r : ℕ) → nth (regionsFor f) r .loaded ≡ false → nth (regionsFor f) r .slot .0 ≡ 0
@@ -184,9 +174,6 @@ module _ {l : List ℕ} (c : Canon l) where
 
     pub structure-clean : (j : ℕ) → j < 4 → Zeroed structure (areaWordAt l p (1 + j))
     structure-clean j hj = rw (spelt .at p hp .structure (1 + j) (omega arith) (omega arith)) (structure-zeroed (fit-view c) p (1 + j))
-
-    pub slot-clean : (i : ℕ) → i < 32 → Zeroed slot (slotWordAt l p i)
-    slot-clean i hi = rw (spelt .at p hp .slot i hi) (slot-zeroed (fit-view c) p i)
 
     names : (r i : ℕ) → view l .region p r ≡ some i → i < 32
     names r i u = fit-view c .region p r i u .2

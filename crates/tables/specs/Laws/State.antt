@@ -22,6 +22,7 @@ same h = record {
   stop = ap (λ (x : Entry). x .stop) h;
   given = ap (λ (x : Entry). x .given) h;
   rights = ap (λ (x : Entry). x .rights) h;
+  whole = ap (λ (x : Entry). x .whole) h;
 }
 
 -- what a slot holds is one thing

@@ -196,7 +196,7 @@ module _ {b : ℕ} {t : Table} (h : Right t) (home : Present (t .k) b) (inside :
         delete = λ _ x. let (ok, q) = delete-done h p x in rw q (remove-step ok);
         prepare = λ _ x. let (e, ok, q) = prepare-done h p i x in rw q (settled-step (area-frame _ _ (own-in (ok .who))) (λ p r o. refl));
         collect = λ _ x. let (ok, q) = collect-done h p u x in rw q (settled-step (area-frame _ _ (own-in (ok .who))) (λ p r o. refl));
-        give = λ _ x. let (e, ok, q) = give-done h p i (f .rights) x in rw q (settled-step (two-frame _ _ _ _ (child-in (ok .child))) (λ p r o. refl));
+        give = λ _ x. let (e, ok, q) = give-done h p i (f .rights) (f .whole) x in rw q (settled-step (two-frame _ _ _ _ (child-in (ok .child))) (λ p r o. refl));
         take = λ _ x. let (j, e, g, ok, q) = take-done h i x in rw q (settled-step (two-frame _ _ _ _ (child-in (given-child (h .core) (k .current) i e (ok .at) (ok .given)))) (λ p r o. refl));
         cut = λ _ x. let (e, ok, q) = cut-done h i l x in rw q (settled-step (two-frame _ _ _ _ inside) (λ p r o. refl));
         merge = λ _ x. let (e, g, ok, q) = merge-done h i u x in rw q (settled-step (two-frame _ _ _ _ inside) (λ p r o. refl));

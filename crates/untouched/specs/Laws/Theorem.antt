@@ -84,7 +84,7 @@ left-on a c = record {
 }
 
 -- the way up comes to b, who is present
-up-present : {k : K} (h : Core k) {b x : ℕ} → Present k x → Under (k .parent) b x → Present k b
+pub up-present : {k : K} (h : Core k) {b x : ℕ} → Present k x → Under (k .parent) b x → Present k b
 up-present {k} h v (is-top z) = subst (Present k) z v
 up-present h {x = x} v (below n u) = up-present h (h .s2-up x v) u
 
@@ -109,7 +109,7 @@ module _ {b : ℕ} where
       no : (p : ℕ) → Outside (t .k) b p → ⊥
       no p o = o .out (rw z (none-outside (h .core .s2-climb p (o .present))))
 
-  call-left : {board : Board} {l : List ℕ} → Good board l → (w : ℕ) → Under (view l .k .parent) b (view l .k .current) → Left b (view l) (view (wordsAfter l (callOn board l w)))
+  pub call-left : {board : Board} {l : List ℕ} → Good board l → (w : ℕ) → Under (view l .k .parent) b (view l .k .current) → Left b (view l) (view (wordsAfter l (callOn board l w)))
   unfolding wordsAfter
   call-left {board} {l} g w u = one (callOn board l w) refl (ℕ-discrete b 0)
     where

@@ -55,6 +55,7 @@ turned-right {t} h v =
         s7-given = c .s7-given;
         s7-in = c .s7-in;
         s7-cover = c .s7-cover;
+        s7-whole = c .s7-whole;
         s8 = c .s8;
         s8-apart = c .s8-apart;
         s11 = c .s11;

@@ -3,7 +3,7 @@ use mathlib.Core.Path.{_≡_, refl, ap, sym, _∙_}
 use mathlib.Core.Bool.{false, cond}
 use Prim.Native.Nat.{ℕ, _^_, _<_}
 use native.Mathlib.Omega.{arith}
-use Rattle.words.specs.Kind.{fieldsIn, wordOf, zeroed, reading}
+use Rattle.words.specs.Kind.{fieldsIn, wordOf, zeroed, reading, Zeroed}
 use Rattle.words.specs.Laws.Kind.{zero-back}
 use Rattle.words.specs.Words.{first, header, structure, regions, slot, call}
 use Rattle.words.specs.Laws.Kinds.{regions-lawful}
@@ -87,7 +87,7 @@ pub structure-zero : fieldsIn structure 0 ≡ record { present = false; start = 
 unfolding structure
 structure-zero = refl
 
-pub slot-zero : fieldsIn slot 0 ≡ record { present = false; opened = false; rights = record { read = false; write = false; execute = false }; given = record { 0 = 0 }; start = record { 0 = 0 }; end = record { 0 = 0 } }
+pub slot-zero : fieldsIn slot 0 ≡ record { present = false; opened = false; rights = record { read = false; write = false; execute = false }; given = record { 0 = 0 }; start = record { 0 = 0 }; end = record { 0 = 0 }; whole = false }
 unfolding slot
 slot-zero = refl
 
@@ -110,6 +110,11 @@ regions-zero = refl
 -- .. and eight of them are written as the zero word
 pub no-regions-word : wordOf regions noRegions ≡ 0
 no-regions-word = ap (wordOf regions) (sym regions-zero) ∙ zero-back regions-lawful
+
+-- ── a slot has no zero bit ──
+pub slot-zeroed : (w : ℕ) → Zeroed slot w
+unfolding slot
+slot-zeroed w = tt
 
 -- ── what the reader of a call word answers ──
 pub call-reading : (w : ℕ) → reading call w ≡ cond (zeroed call w) (CallIs (fieldsIn call w)) (CallRefused 2)

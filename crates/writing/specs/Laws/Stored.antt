@@ -44,7 +44,7 @@ is-then {m = m} f was next = subst (λ (t : Table). Is m (f t)) (was .viewed) ne
 
 -- ── a slot ──
 slot-for : (f : SlotFields) → f .present ≡ true → f ≡ slotFor (entryOf f) (f .opened)
-slot-for f h = λ x. record { present = h x; opened = f .opened; rights = f .rights; given = f .given; start = f .start; end = f .end }
+slot-for f h = λ x. record { present = h x; opened = f .opened; rights = f .rights; given = f .given; start = f .start; end = f .end; whole = f .whole }
 
 pub entry-stored : {l : List ℕ} {p i : ℕ} {f : SlotFields} → CanEntry l p i f
     → Is (stored l (slotPlace p i) (writing slot f)) (putSlot (view l) p i (some (entryOf f)) (f .opened))

@@ -1,7 +1,7 @@
 use mathlib.Core.Path.{sym, _∙_}
 use Rattle.tables.specs.Laws.Search.{lowest-some}
 use Rattle.tables.specs.Laws.Answers.{found-is}
-use Rattle.blocks.specs.Laws.SlotExits.{can-split, cut-low, cut-high, cut-full, cut-done}
+use Rattle.blocks.specs.Laws.SlotExits.{can-split, cut-low, cut-high, cut-full, cut-whole, cut-done}
 use borrow.Author.Needs.{needs}
 use Rattle.blocks.proofs.slot_services.cut_entry.Statement.{statement}
 use Rattle.blocks.proofs.slot_services.cut_entry.Tie as tie
@@ -17,6 +17,7 @@ cut-entry-spec =
     (λ c. search needs)
     (λ c. search needs)
     (λ c. cut-full (c .before .before .before .before .before .before .before .before .before .before .before .before .before .pre) (c .before .before .before .before .before .first .ensures .current) (c .before .before .before .before .before .before .before .before .before .before .if1 .left) (c .before .before .before .before .before .before .before .if2 .left) (found-is _ (sym (c .enum-told .given .1) ∙ c .before .before .free-slot .ensures)))
-    (λ c κs. (can-split (c .before .before .before .before .before .before .before .before .before .before .before .before .before .before .before .pre) (c .before .before .before .before .before .before .before .first .ensures .current-small), lowest-some 32 _ _ (found-is _ (sym (c .before .before .found .given .1) ∙ c .before .before .before .before .free-slot .ensures)) .below, c .before .before .before .before .before .before .before .before .before .before .before .before .before .before .before .pre .line))
+    (λ c. cut-whole (c .before .before .before .before .before .before .before .before .before .before .before .before .before .before .before .pre) (c .before .before .before .before .before .before .before .first .ensures .current) (c .before .before .before .before .before .before .before .before .before .before .before .before .if1 .left) (c .before .before .before .before .before .before .before .before .before .if2 .left) (found-is _ (sym (c .before .before .found .given .1) ∙ c .before .before .before .before .free-slot .ensures)) (c .if3 .taken))
+    (λ c κs. (can-split (c .before .before .before .before .before .before .before .before .before .before .before .before .before .before .before .before .pre) (c .before .before .before .before .before .before .before .before .first .ensures .current-small), lowest-some 32 _ _ (found-is _ (sym (c .before .before .before .found .given .1) ∙ c .before .before .before .before .before .free-slot .ensures)) .below, c .before .before .before .before .before .before .before .before .before .before .before .before .before .before .before .before .pre .line))
     (λ c. search needs)
-    (λ c. cut-done (c .before .before .before .before .before .before .before .before .before .before .before .before .before .before .before .before .before .pre) (c .before .before .before .before .before .before .before .before .before .first .ensures .current) (c .before .before .before .before .before .before .before .before .before .before .before .before .before .before .if1 .left) (c .before .before .before .before .before .before .before .before .before .before .before .if2 .left) (found-is _ (sym (c .before .before .before .before .found .given .1) ∙ c .before .before .before .before .before .before .free-slot .ensures)) (c .before .split-entry .ensures)))
+    (λ c. cut-done (c .before .before .before .before .before .before .before .before .before .before .before .before .before .before .before .before .before .before .pre) (c .before .before .before .before .before .before .before .before .before .before .first .ensures .current) (c .before .before .before .before .before .before .before .before .before .before .before .before .before .before .before .if1 .left) (c .before .before .before .before .before .before .before .before .before .before .before .before .if2 .left) (found-is _ (sym (c .before .before .before .before .before .found .given .1) ∙ c .before .before .before .before .before .before .before .free-slot .ensures)) (c .before .before .before .if3 .left) (c .before .split-entry .ensures)))

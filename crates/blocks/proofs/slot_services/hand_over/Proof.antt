@@ -14,4 +14,4 @@ hand-over-spec =
     (tie.spec
     (λ c κs. search needs)
     (λ c κs. record { canon = is-canon (c .before .put-entry .ensures); inP = c .before .before .before .pre .1; inI = c .before .before .before .pre .2; present = c .before .before .before .pre .0 .present; given-small = omega arith; start-small = c .before .before .before .pre .0 .start-small; end-small = c .before .before .before .pre .0 .end-small })
-    (λ c. is-then (λ (t : Table). putSlot t (c .before .before .before .before .args .p .0) (c .before .before .before .before .args .n .0) (some (rangeOf (entryOf (c .before .before .before .before .args .f)) (c .before .before .before .before .args .r))) (c .before .before .before .before .args .f .opened)) (c .before .before .put-entry .ensures) (c .put-entry2 .ensures)))
+    (λ c. is-then (λ (t : Table). putSlot t (c .before .before .before .before .args .p .0) (c .before .before .before .before .args .n .0) (some (rangeOf (entryOf (c .before .before .before .before .args .f)) (c .before .before .before .before .args .r) (c .before .before .before .before .args .whole))) (c .before .before .before .before .args .f .opened)) (c .before .before .put-entry .ensures) (c .put-entry2 .ensures)))

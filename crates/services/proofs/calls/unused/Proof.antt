@@ -20,4 +20,6 @@ unused-spec =
     (λ c κs. search needs)
     (λ c. rw (← c .before .before .no-rights .ensures, ← c .before .before .before .before .before .before .before .before .before .before .before .either .ensures, not-false (c .before .before .before .before .before .before .before .before .before .before .before .either .result) (c .before .before .before .before .before .before .before .before .before .before .if1 .left), ← c .before .before .before .before .before .before .before .before .either2 .ensures, not-false (c .before .before .before .before .before .before .before .before .either2 .result) (c .before .before .before .before .before .before .before .if2 .left), ← c .before .before .before .before .before .either3 .ensures, not-false (c .before .before .before .before .before .either3 .result) (c .before .before .before .before .if3 .left), ← c .before .either4 .ensures, not-true (c .before .either4 .result) (c .if4 .taken)) refl)
     (λ c κs. search needs)
-    (λ c. rw (← c .before .before .before .before .no-rights .ensures, ← c .before .before .before .before .before .before .before .before .before .before .before .before .before .either .ensures, not-false (c .before .before .before .before .before .before .before .before .before .before .before .before .before .either .result) (c .before .before .before .before .before .before .before .before .before .before .before .before .if1 .left), ← c .before .before .before .before .before .before .before .before .before .before .either2 .ensures, not-false (c .before .before .before .before .before .before .before .before .before .before .either2 .result) (c .before .before .before .before .before .before .before .before .before .if2 .left), ← c .before .before .before .before .before .before .before .either3 .ensures, not-false (c .before .before .before .before .before .before .before .either3 .result) (c .before .before .before .before .before .before .if3 .left), ← c .before .before .before .either4 .ensures, not-false (c .before .before .before .either4 .result) (c .before .before .if4 .left)) (c .either5 .ensures)))
+    (λ c. rw (← c .before .before .before .before .before .no-rights .ensures, ← c .before .before .before .before .before .before .before .before .before .before .before .before .before .before .either .ensures, not-false (c .before .before .before .before .before .before .before .before .before .before .before .before .before .before .either .result) (c .before .before .before .before .before .before .before .before .before .before .before .before .before .if1 .left), ← c .before .before .before .before .before .before .before .before .before .before .before .either2 .ensures, not-false (c .before .before .before .before .before .before .before .before .before .before .before .either2 .result) (c .before .before .before .before .before .before .before .before .before .before .if2 .left), ← c .before .before .before .before .before .before .before .before .either3 .ensures, not-false (c .before .before .before .before .before .before .before .before .either3 .result) (c .before .before .before .before .before .before .before .if3 .left), ← c .before .before .before .before .either4 .ensures, not-false (c .before .before .before .before .either4 .result) (c .before .before .before .if4 .left), ← c .before .either5 .ensures, not-true (c .before .either5 .result) (c .if5 .taken)) refl)
+    (λ c κs. search needs)
+    (λ c. rw (← c .before .before .before .before .before .before .before .no-rights .ensures, ← c .before .before .before .before .before .before .before .before .before .before .before .before .before .before .before .before .either .ensures, not-false (c .before .before .before .before .before .before .before .before .before .before .before .before .before .before .before .before .either .result) (c .before .before .before .before .before .before .before .before .before .before .before .before .before .before .before .if1 .left), ← c .before .before .before .before .before .before .before .before .before .before .before .before .before .either2 .ensures, not-false (c .before .before .before .before .before .before .before .before .before .before .before .before .before .either2 .result) (c .before .before .before .before .before .before .before .before .before .before .before .before .if2 .left), ← c .before .before .before .before .before .before .before .before .before .before .either3 .ensures, not-false (c .before .before .before .before .before .before .before .before .before .before .either3 .result) (c .before .before .before .before .before .before .before .before .before .if3 .left), ← c .before .before .before .before .before .before .either4 .ensures, not-false (c .before .before .before .before .before .before .either4 .result) (c .before .before .before .before .before .if4 .left), ← c .before .before .before .either5 .ensures, not-false (c .before .before .before .either5 .result) (c .before .before .if5 .left)) (c .either6 .ensures)))

@@ -4,7 +4,8 @@ use Prim.Native.Nat.{_+_, _-_, _*_}
 use Rattle.loops.specs.Laws.Every.{Passing}
 use Rattle.loops.specs.Laws.Scan.{seek-start, seek-hit, seek-on, seek-end}
 use Rattle.tables.specs.View.{view}
-use Rattle.shape.specs.Records.{slotTest, slotsTest}
+use Rattle.sound.specs.Clauses.{s5Slot}
+use Rattle.shape.specs.Records.{slotsTest}
 use Rattle.shape.specs.Laws.Records.{eight-in}
 use native.Mathlib.Omega.{arith}
 use borrow.Author.Needs.{needs}
@@ -16,7 +17,7 @@ unfolding slotsTest
 eight-sound-spec =
     tie.close
     (tie.spec
-    (λ t p j o₀ o. Passing (λ o. slotTest t (view t .k) (p .0) (8 * j + o)) 8 o)
+    (λ t p j o₀ o. Passing (λ o. s5Slot t (view t .k) (p .0) (8 * j + o)) 8 o)
     (λ t p j o₀ o. 8 - o)
     (λ c. seek-start)
     (λ c. search needs)

@@ -1,4 +1,4 @@
-use mathlib.Core.Path.{refl}
+use native.Mathlib.Nat.{div-one}
 use Rattle.words.specs.Words.{slot}
 use borrow.Author.Needs.{needs}
 use Rattle.words.proofs.slot_word.fields.Statement.{statement}
@@ -12,4 +12,4 @@ fields-spec =
     (λ c. search needs)
     (λ c. search needs)
     (λ c. search needs)
-    (λ c. refl))
+    (λ c. simp div-one))

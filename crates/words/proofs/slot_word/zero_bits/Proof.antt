@@ -1,4 +1,4 @@
-use native.Mathlib.Nat.{add-zero, div-one}
+use mathlib.Core.Path.{refl}
 use Rattle.words.specs.Words.{slot}
 use Rattle.words.proofs.slot_word.zero_bits.Statement.{statement}
 use Rattle.words.proofs.slot_word.zero_bits.Tie as tie
@@ -8,4 +8,4 @@ unfolding slot
 zero-bits-spec =
     tie.close
     (tie.spec
-    (λ c. simp (add-zero, div-one)))
+    (λ c. refl))
