@@ -3,9 +3,10 @@
 # make lib:     proves the library and puts it, with its header, into build/.
 # make example: builds and runs examples/handset.c with it; make lines: examples/lines.c.
 # make bench:   the library against the second program, as quotients of their times, where x86-64 is only emulated also of their instructions.
+# make bench-aarch64: the instructions of the library's module, compiled for aarch64, against the second program's, in an emulator.
 # make arm, arm-run, arm-bench: the library for Cortex-M, the example on an emulated board, instructions counted there (arm/arm.mk).
 # make soak:    compares the library with the second program for MINUTES=10 from SEED=1 on, memory checked.
-.PHONY: test run lib example lines bench soak
+.PHONY: test run lib example lines bench bench-aarch64 soak
 
 test:
 	@tests/gate
@@ -34,6 +35,9 @@ lines: lib
 
 bench: lib
 	@bench/run
+
+bench-aarch64: build/aarch64/libulavrepit.a build/ulavrepit.h
+	@bench/run aarch64
 
 soak: export SEED ?= 1
 soak: export MINUTES ?= 10

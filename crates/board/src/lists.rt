@@ -1,19 +1,18 @@
 ghost use mathlib.Core.Path.{_≡_};
-ghost use lib.ListN.{length};
+ghost use lib.ListN.{replicate};
 ghost use Rattle.shapes.specs.declared.Board.the-variants.{V7};
-ghost use Rattle.runs.specs.Listing.{marksIn};
-ghost use Rattle.face.specs.Face.{handed};
-ghost use Rattle.face.specs.Lists.{readyOf, Handed};
+ghost use Rattle.face.specs.Lists.{readyOf, leftOf, Handed};
 use face::lists::Ready;
 use runs::Run;
 use runs::listing::run_at;
 use shapes::Board;
 
-fn plan_bytes(table: &[u8], size: usize, marks: &mut [u32; 513]) -> Ready
-    requires { ⌜ length (now marks) ≡ 513 ⌝ }
-    ensures { λ r. ⌜ (r ≡ readyOf V7 (now (table .entry)) size) × (now (marks .exit) ≡ marksIn V7 (handed (now (table .entry))) (now (marks .entry))) ⌝ }
+// The plan of a list of so many records; the marks that its runs are read from are left in the words, which are zero so far.
+fn plan_bytes(table: &[u8], size: usize, words: &mut [u64; 641]) -> Ready
+    requires { ⌜ now words ≡ replicate 641 0 ⌝ }
+    ensures { λ r. ⌜ (r ≡ readyOf V7 (now (table .entry)) size) × (now (words .exit) ≡ leftOf V7 (now (table .entry))) ⌝ }
 {
-    face::lists::plan_bytes(Board::V7, table, size, marks)
+    face::lists::plan_bytes(Board::V7, table, size, words)
 }
 
 // The runs of a table, written into a list of records. This is the one writer of them.
@@ -22,12 +21,12 @@ fn plan_bytes(table: &[u8], size: usize, marks: &mut [u32; 513]) -> Ready
 pub extern "C" fn ulavrepit_runs(table: &[u8], list: &mut [Run]) -> u64
     ensures { λ r. ⌜ Handed V7 (now (table .entry)) (now (list .entry)) r (now (list .exit)) ⌝ }
 {
-    let mut marks = [0u32; 513];
-    let p = plan_bytes(table, list.len(), &mut marks);
+    let mut words = [0u64; 641];
+    let p = plan_bytes(table, list.len(), &mut words);
     let n = p.number;
     let mut i = 0;
     while i < n {
-        list[i] = run_at(&marks, i);
+        list[i] = run_at(&words, i);
         i = i + 1;
     }
     p.answer

@@ -65,6 +65,7 @@ fn tile(
     let mut at = lo;
     let mut k = i;
     let mut s = r;
+    let mut first = true;
     while at.0 < hi.0 {
         if k >= n {
             return 33;
@@ -76,9 +77,10 @@ fn tile(
         if f.end.0 > hi.0 {
             return 33;
         }
-        if !follows(k == i, f.rights, s) {
+        if !follows(first, f.rights, s) {
             return 33;
         }
+        first = false;
         s = f.rights;
         at = f.end;
         k += 1;

@@ -1,15 +1,18 @@
 -- The runs, for the board's firmware: the table comes as bytes, the outcome goes back as one number.
 use mathlib.Core.Path.{_≡_}
+use mathlib.Core.Bool.{cond}
 use mathlib.Core.List.{List}
 use Prim.Native.Nat.{ℕ, _^_, _<_}
-use lib.ListN.{length}
+use lib.Dec.{eqb}
+use lib.ListN.{length, replicate}
 use Rattle.shapes.specs.declared.Board.{Board}
+use Rattle.memory.specs.Bytes.{wordsOf}
 use Rattle.tables.specs.declared.Outcome.{Outcome}
 use Rattle.tables.specs.declared.Outcome.the-variants.{Done, Refused}
 use Rattle.runs.specs.declared.Run.{Run}
 use Rattle.runs.specs.declared.listing.Plan.{Plan}
 use Rattle.runs.specs.Runs.{runsOutcome, runsRecords}
-use Rattle.runs.specs.Listing.{planOf}
+use Rattle.runs.specs.Listing.{planOf, marksIn}
 use Rattle.face.specs.declared.lists.Ready.{Ready}
 use Rattle.face.specs.Face.{handed, resultOf}
 
@@ -22,6 +25,10 @@ readyFrom p = record { number = p .number; answer = resultOf 0 (p .outcome) }
 
 abbrev pub readyOf : Board → List ℕ → ℕ → Ready
 readyOf b table size = readyFrom (planOf b (handed table) size)
+
+-- the words that are left where a table was loaded, over zeros; another number of bytes loads none
+unfoldable pub leftOf : Board → List ℕ → List ℕ
+leftOf b table = cond (eqb (length table) 5128) (marksIn b (wordsOf table)) (replicate 641 0)
 
 -- what the export promises: its answer, and every record of the list
 pub record Handed (b : Board) (table : List ℕ) (before : List Run) (r : ℕ) (after : List Run) : Type 0 where

@@ -1,8 +1,7 @@
 ghost use mathlib.Core.Path.{_≡_};
-ghost use lib.ListN.{length};
-ghost use Rattle.runs.specs.Listing.{marksIn};
-ghost use Rattle.face.specs.Face.{handed, resultOf};
-ghost use Rattle.face.specs.Lists.{Small, readyOf};
+ghost use lib.ListN.{replicate};
+ghost use Rattle.face.specs.Face.{resultOf};
+ghost use Rattle.face.specs.Lists.{Small, readyOf, leftOf};
 use shapes::Board;
 use tables::Outcome;
 use words::Partition;
@@ -24,10 +23,10 @@ fn answer_word(o: Outcome) -> u64
     }
 }
 
-// The plan of a list of so many records, and the marks that its runs are read from.
-pub fn plan_bytes(board: Board, table: &[u8], size: usize, marks: &mut [u32; 513]) -> Ready
-    requires { ⌜ length (now marks) ≡ 513 ⌝ }
-    ensures { λ r. ⌜ (r ≡ readyOf board (now (table .entry)) size) × (now (marks .exit) ≡ marksIn board (handed (now (table .entry))) (now (marks .entry))) ⌝ }
+// The plan of a list of so many records; the marks that its runs are read from are left in the words, which are zero so far.
+pub fn plan_bytes(board: Board, table: &[u8], size: usize, words: &mut [u64; 641]) -> Ready
+    requires { ⌜ now words ≡ replicate 641 0 ⌝ }
+    ensures { λ r. ⌜ (r ≡ readyOf board (now (table .entry)) size) × (now (words .exit) ≡ leftOf board (now (table .entry))) ⌝ }
 {
     if table.len() != 5128 {
         return Ready {
@@ -35,9 +34,8 @@ pub fn plan_bytes(board: Board, table: &[u8], size: usize, marks: &mut [u32; 513
             answer: 1,
         };
     }
-    let mut a = [0u64; 641];
-    let top = memory::load(table, &mut a);
-    let p = runs::listing::plan_of(board, &a, top, size, marks);
+    let top = memory::load(table, words);
+    let p = runs::listing::plan_of(board, words, top, size);
     let n = p.number;
     let outcome = p.outcome;
     let answer = answer_word(outcome);

@@ -23,6 +23,6 @@ writing k = record { number = length (runsOf k); outcome = Done (length (runsOf 
 unfoldable pub planOf : Board → List ℕ → ℕ → Plan
 planOf b t size = cond (sound b t) (cond (leb (length (runsOf (view t .k))) size) (writing (view t .k)) (refusal 17)) (refusal 1)
 
--- the marks of a sound table, over m
-unfoldable pub marksIn : Board → List ℕ → List ℕ → List ℕ
-marksIn b t m = cond (sound b t) (marksOver (view t .k) m) m
+-- the marks of a sound table, over its words
+unfoldable pub marksIn : Board → List ℕ → List ℕ
+marksIn b t = cond (sound b t) (marksOver 641 (view t .k) t) t

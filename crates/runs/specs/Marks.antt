@@ -2,11 +2,12 @@
 use mathlib.Core.Path.{_≡_}
 use mathlib.Core.Bool.{cond}
 use mathlib.Core.List.{List}
-use Prim.Native.Nat.{ℕ, _+_}
+use Prim.Native.Nat.{ℕ, _+_, _<_}
 use lib.Dec.{eqb, ltb}
 use lib.ListN.{length, getD, set}
 use Rattle.loops.specs.Rewrite.{tab}
 use Rattle.words.specs.Kinds.{markFor}
+use Rattle.keeping.specs.Keeping.{Kept}
 use Rattle.tables.specs.State.{K}
 use Rattle.runs.specs.declared.Run.{Run}
 use Rattle.runs.specs.Runs.{runOf, runsOf, nth}
@@ -22,8 +23,15 @@ markOf k b i =
     cond (ltb i (length (runsOf k))) (markFor (nth (runsOf k) i .start .0) (nth (runsOf k) i .deepest .0))
     (cond (eqb i (length (runsOf k))) (markFor (k .stop) 0) (getD b i 0))
 
-abbrev pub marksOver : K → List ℕ → List ℕ
-marksOver k b = tab 513 (markOf k b)
+-- .. over m numbers
+abbrev pub marksOver : ℕ → K → List ℕ → List ℕ
+marksOver m k b = tab m (markOf k b)
+
+-- two marks, at i and behind it, are kept in words
+pub record MarksAt (w : List ℕ) (i : ℕ) : Type 0 where
+  pub below : i < 512
+  pub here : Kept w i
+  pub next : Kept w (i + 1)
 
 -- ── the loop ──
 -- what the code does with a piece that begins at l and has deepest holder d

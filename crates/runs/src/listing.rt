@@ -1,8 +1,6 @@
 ghost use mathlib.Core.Path.{_≡_};
-ghost use lib.ListN.{length};
-ghost use Prim.Native.Nat.{_<_};
 ghost use Rattle.tables.specs.Top.{Top};
-ghost use Rattle.runs.specs.Marks.{runAt};
+ghost use Rattle.runs.specs.Marks.{runAt, MarksAt};
 ghost use Rattle.runs.specs.Listing.{refusal, planOf, marksIn};
 use crate::Run;
 use shapes::Board;
@@ -25,17 +23,17 @@ fn refuse(why: u64) -> Plan
     }
 }
 
-// Refused: 1 not a sound table, 17 a list shorter than the runs. Of a sound table the marks are made in any case.
-pub fn plan_of(board: Board, t: &[u64; 641], top: u32, size: usize, marks: &mut [u32; 513]) -> Plan
-    requires { ⌜ Top (now t) top × (length (now marks) ≡ 513) ⌝ }
-    ensures { λ r. ⌜ (r ≡ planOf board (now (t .entry)) size) × (now (marks .exit) ≡ marksIn board (now (t .entry)) (now (marks .entry))) ⌝ }
+// Refused: 1 not a sound table, 17 a list shorter than the runs. The marks of a sound table are left in place of its words in any case.
+pub fn plan_of(board: Board, t: &mut [u64; 641], top: u32, size: usize) -> Plan
+    requires { ⌜ Top (now t) top ⌝ }
+    ensures { λ r. ⌜ (r ≡ planOf board (now (t .entry)) size) × (now (t .exit) ≡ marksIn board (now (t .entry))) ⌝ }
 {
     let mut order = [0u8; 512];
     let mut counts = [0u32; 16];
     if !decide::is_ordered(board, t, top, &mut order, &mut counts) {
         return refuse(1);
     }
-    let n = crate::walk::mark_runs(t, &order, marks);
+    let n = crate::walk::leave_marks(t, &order);
     if size < n {
         return refuse(17);
     }
@@ -46,12 +44,12 @@ pub fn plan_of(board: Board, t: &[u64; 641], top: u32, size: usize, marks: &mut 
 }
 
 // Run i of those that the marks were made for: from its mark to the next.
-pub fn run_at(marks: &[u32; 513], i: usize) -> Run
-    requires { ⌜ (length (now marks) ≡ 513) × (i < 512) ⌝ }
+pub fn run_at(marks: &[u64; 641], i: usize) -> Run
+    requires { ⌜ MarksAt (now marks) i ⌝ }
     ensures { λ r. ⌜ r ≡ runAt (now (marks .entry)) i ⌝ }
 {
-    let here = mark_word::fields(marks[i]);
-    let next = mark_word::fields(marks[i + 1]);
+    let here = mark_word::fields(keeping::number(marks, i));
+    let next = mark_word::fields(keeping::number(marks, i + 1));
     let start = here.line;
     let end = next.line;
     let deepest = here.holder;

@@ -24,9 +24,9 @@ fn mark(marks: &mut [u32; 513], n: usize, last: Partition, start: Line, deepest:
 }
 
 // The number of runs, and their marks; after the last, one of the end of memory, with the root, which the way begins with too. Before the first run no partition is the deepest holder.
-pub fn mark_runs(t: &[u64; 641], order: &[u8; 512], marks: &mut [u32; 513]) -> usize
+fn mark_runs(t: &[u64; 641], order: &[u8; 512], marks: &mut [u32; 513]) -> usize
     requires { ⌜ Core (view (now t) .k) × InOrder (view (now t) .k) (now order) × (length (now marks) ≡ 513) ⌝ }
-    ensures { λ r. ⌜ (r ≡ length (runsOf (view (now (t .entry)) .k))) × (now (marks .exit) ≡ marksOver (view (now (t .entry)) .k) (now (marks .entry))) ⌝ }
+    ensures { λ r. ⌜ (r ≡ length (runsOf (view (now (t .entry)) .k))) × (now (marks .exit) ≡ marksOver 513 (view (now (t .entry)) .k) (now (marks .entry))) ⌝ }
 {
     let f = tables::read::first(t);
     let mut places = [0u32; 16];
@@ -46,5 +46,18 @@ pub fn mark_runs(t: &[u64; 641], order: &[u8; 512], marks: &mut [u32; 513]) -> u
         at = c.end;
     }
     marks[n] = mark_of(at, Partition(0));
+    n
+}
+
+// The number of runs; their marks are left in place of the table's first words. So the array that the walk fills is not there
+// while the table is decided, nor while the runs are written: the deepest stack has it beside the words alone.
+pub fn leave_marks(t: &mut [u64; 641], order: &[u8; 512]) -> usize
+    requires { ⌜ Core (view (now t) .k) × InOrder (view (now t) .k) (now order) ⌝ }
+    ensures { λ r. ⌜ (r ≡ length (runsOf (view (now (t .entry)) .k))) × (now (t .exit) ≡ marksOver 641 (view (now (t .entry)) .k) (now (t .entry))) ⌝ }
+{
+    tables::sized(t);
+    let mut marks = [0u32; 513];
+    let n = mark_runs(t, order, &mut marks);
+    keeping::keep(&marks, n, t);
     n
 }

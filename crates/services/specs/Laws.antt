@@ -1,4 +1,5 @@
 pub mod Zeroed
+pub mod Bare
 pub mod Who
 pub mod AreaExits
 pub mod DeleteExits

@@ -2,6 +2,7 @@ ghost use mathlib.Core.Path.{_≡_};
 ghost use Prim.Native.Nat.{_<_};
 ghost use Rattle.tables.specs.View.{view};
 ghost use Rattle.tables.specs.Encode.{Canon};
+ghost use Rattle.sound.specs.Whole.{Right};
 ghost use Rattle.rules.specs.Rules.{create, prepare, vacant, collect};
 ghost use Rattle.rules.specs.Ran.{Ran};
 use crate::who::own_or_child;
@@ -17,7 +18,7 @@ use words::structure_word::StructureFields;
 
 // 1: the lowest absent number becomes a child whose area is entry s
 pub fn create(t: &mut [u64; 641], s: Slot) -> Outcome
-    requires { ⌜ Canon (now t) × (s .0 < 32) ⌝ }
+    requires { ⌜ Canon (now t) × (s .0 < 32) × Right (view (now t)) ⌝ }
     ensures { λ r. ⌜ Ran (create (view (now (t .entry))) (s .0)) (now (t .entry)) r (now (t .exit)) ⌝ }
 {
     match free_entry(t, s) {
@@ -51,7 +52,7 @@ pub fn create(t: &mut [u64; 641], s: Slot) -> Outcome
 
 // 3: the lowest absent structure of p gets the area of entry s
 pub fn prepare(t: &mut [u64; 641], p: Partition, s: Slot) -> Outcome
-    requires { ⌜ Canon (now t) × (p .0 < 16) × (s .0 < 32) ⌝ }
+    requires { ⌜ Canon (now t) × (p .0 < 16) × (s .0 < 32) × Right (view (now t)) ⌝ }
     ensures { λ r. ⌜ Ran (prepare (view (now (t .entry))) (p .0) (s .0)) (now (t .entry)) r (now (t .exit)) ⌝ }
 {
     if !own_or_child(t, p) {
@@ -102,7 +103,7 @@ fn vacant(t: &[u64; 641], p: Partition, j: u32) -> bool
 
 // 4: structure j of p, vacant and not the root's first, is absent from now on
 pub fn collect(t: &mut [u64; 641], p: Partition, j: u32) -> Outcome
-    requires { ⌜ Canon (now t) × (p .0 < 16) ⌝ }
+    requires { ⌜ Canon (now t) × (p .0 < 16) × Right (view (now t)) ⌝ }
     ensures { λ r. ⌜ Ran (collect (view (now (t .entry))) (p .0) j) (now (t .entry)) r (now (t .exit)) ⌝ }
 {
     if !own_or_child(t, p) {

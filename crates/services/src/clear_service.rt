@@ -4,6 +4,7 @@ ghost use Prim.Native.Nat.{_+_, _<_};
 ghost use Rattle.tables.specs.View.{view};
 ghost use Rattle.tables.specs.Encode.{Canon};
 ghost use Rattle.tables.specs.Search.{present};
+ghost use Rattle.sound.specs.Whole.{Right};
 ghost use Rattle.rules.specs.Rules.{clearOut};
 ghost use Rattle.rules.specs.Ran.{Ran};
 ghost use Rattle.services.specs.ClearExits.{Cleared, Zero};
@@ -38,7 +39,7 @@ fn clear_children(t: &mut [u64; 641], p: Partition) -> u64
 
 // 14: the child p and every descendant of it are absent from now on, and nothing of the caller is given to p
 pub fn clear_out(t: &mut [u64; 641], p: Partition) -> Outcome
-    requires { ⌜ Canon (now t) × (p .0 < 16) ⌝ }
+    requires { ⌜ Canon (now t) × (p .0 < 16) × Right (view (now t)) ⌝ }
     ensures { λ r. ⌜ Ran (clearOut (view (now (t .entry))) (p .0)) (now (t .entry)) r (now (t .exit)) ⌝ }
 {
     let c = tables::read::first(t).current;

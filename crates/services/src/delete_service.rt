@@ -1,6 +1,7 @@
 ghost use Prim.Native.Nat.{_<_};
 ghost use Rattle.tables.specs.View.{view};
 ghost use Rattle.tables.specs.Encode.{Canon, Is};
+ghost use Rattle.sound.specs.Whole.{Right};
 ghost use Rattle.rules.specs.Rules.{delete};
 ghost use Rattle.rules.specs.Ran.{Ran};
 ghost use Rattle.services.specs.DeleteExits.{ungiveAt, ungiven};
@@ -40,7 +41,7 @@ pub fn ungive(t: &mut [u64; 641], c: Partition, p: Partition)
 
 // 2: the child p, without children, is absent from now on, and nothing of the caller is given to it
 pub fn delete(t: &mut [u64; 641], p: Partition) -> Outcome
-    requires { ⌜ Canon (now t) × (p .0 < 16) ⌝ }
+    requires { ⌜ Canon (now t) × (p .0 < 16) × Right (view (now t)) ⌝ }
     ensures { λ r. ⌜ Ran (delete (view (now (t .entry))) (p .0)) (now (t .entry)) r (now (t .exit)) ⌝ }
 {
     let c = tables::read::first(t).current;

@@ -6,7 +6,7 @@ ghost use Rattle.tables.specs.Encode.{regionFor, regionsFor, encode, Canon, Is}
 ghost use Rattle.tables.specs.Settle.{keep, settled};
 ghost use Rattle.settling.specs.OpenBits.{CanSettle, settledSlot, openTo};
 ghost use Rattle.tables.specs.Kept.{keepRegions};
-ghost use Rattle.settling.specs.Settled.{settleRecord};
+ghost use Rattle.settling.specs.Settled.{settleRecord, Bare};
 
 // Which entries are open, and the regions that follow: settled anew from the areas of the table.
 pub mod areas;
@@ -90,12 +90,12 @@ pub fn settle_regions(t: &mut [u64; 641], p: Partition)
     store(t, at, words::regions_word::write(kept_regions(t, p)));
 }
 
-// The record of p; of a zero record nothing changes.
+// The record of p; of an absent partition, which has no entry and no region, nothing changes.
 fn settle_record(t: &mut [u64; 641], p: Partition, n: usize, s: &[u32; 80], e: &[u32; 80])
-    requires { ⌜ CanSettle (now t) (p .0) n (now s) (now e) ⌝ }
+    requires { ⌜ CanSettle (now t) (p .0) n (now s) (now e) × Bare (view (now t)) ⌝ }
     ensures { λ _. ⌜ Is (now (t .exit)) (settleRecord (view (now (t .entry))) (p .0)) ⌝ }
 {
-    if areas::zero_record(t, p) {
+    if !tables::search::is_present(t, p) {
         return;
     }
     settle_slots(t, p, n, s, e);
@@ -104,7 +104,7 @@ fn settle_record(t: &mut [u64; 641], p: Partition, n: usize, s: &[u32; 80], e: &
 
 // Every open bit by S9, and no region left on a slot that is empty or closed.
 pub fn settle(t: &mut [u64; 641])
-    requires { ⌜ Canon (now t) ⌝ }
+    requires { ⌜ Canon (now t) × Bare (view (now t)) ⌝ }
     ensures { λ _. ⌜ now (t .exit) ≡ encode (settled (view (now (t .entry)))) ⌝ }
 {
     let mut starts = [0u32; 80];

@@ -133,8 +133,8 @@ fn print_run(t: &[u64; 641], run: Run) {
 
 // No table has more than 512 runs.
 fn print_runs(t: &[u64; 641]) {
-    let mut marks = [0u32; 513];
-    let plan = runs::listing::plan_of(Board::V7, t, 16, 512, &mut marks);
+    let mut marks = *t;
+    let plan = runs::listing::plan_of(Board::V7, &mut marks, 16, 512);
     let number = plan.number;
     let mut i = 0usize;
     while i < number {

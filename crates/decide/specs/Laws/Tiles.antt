@@ -98,6 +98,10 @@ pub record Compared (E : ℕ → Entry) (i k : ℕ) (r s : Rights) : Type 0 wher
 pub compare-start : {E : ℕ → Entry} {i : ℕ} {r : Rights} → Compared E i i r r
 compare-start = record { before = λ _. refl; after = λ h. absurd (omega arith) }
 
+-- after an entry the next is not the first: the flag that the walk carries
+pub not-first : {E : ℕ → Entry} {i k lo hi at : ℕ} {r : Rights} → Tiling E i k lo hi at r → false ≡ eqb (k + 1) i
+not-first {i = i} {k} t = sym (ne-eqb (k + 1) i (λ z. omega (arith, t .up)))
+
 pub both-true : (b : Bool) → b ≡ Bool·beq true b
 both-true true = refl
 both-true false = refl

@@ -5,7 +5,7 @@ use mathlib.Core.List.{List, _++_}
 use Prim.Native.Nat.{ℕ, _-_, _^_, _≤_, _<_}
 use native.Mathlib.Omega.{arith}
 use lib.Dec.{leb}
-use lib.ListN.{length, drop, replicate}
+use lib.ListN.{length, drop}
 use borrow.Author.Tests.{not-true, not-false, leb-true, lt-leb, le-leb}
 use Rattle.loops.specs.Laws.Rewrite.{length-tab}
 use Rattle.shapes.specs.declared.Board.{Board}
@@ -23,13 +23,9 @@ use Rattle.runs.specs.Laws.RunLaws.{runs-few}
 use Rattle.runs.specs.Laws.Bound.{runs-bound}
 use Rattle.runs.specs.Laws.Pieces.{stop-small}
 use Rattle.runs.specs.Places.{InOrder}
-use Rattle.runs.specs.Marks.{runAt, markOf, marksOver}
-use Rattle.runs.specs.Laws.Marks.{read-back}
+use Rattle.runs.specs.Marks.{runAt, markOf, marksOver, MarksAt}
+use Rattle.runs.specs.Laws.Marks.{read-back, marks-short}
 use Rattle.runs.specs.Listing.{refusal, writing, planOf, marksIn}
-
--- .. over nothing
-abbrev pub marksOf : Board → List ℕ → List ℕ
-marksOf board t = marksIn board t (replicate 513 0)
 
 -- ── the exits of the code ──
 -- a table that was found sound: its entries are in order
@@ -56,23 +52,14 @@ module _ (board : Board) (t : List ℕ) (size : ℕ) where
   unfolding planOf
   plan-done q e h = rw (q, le-leb (length (runsOf (view t .k))) size (omega arith), e) refl
 
-module _ (board : Board) (t b : List ℕ) where
-  pub marks-unsound : sound board t ≡ false → b ≡ marksIn board t b
+module _ (board : Board) (t : List ℕ) where
+  pub marks-unsound : sound board t ≡ false → t ≡ marksIn board t
   unfolding marksIn
   marks-unsound q = rw q refl
 
-  pub marks-sound : {w : List ℕ} → sound board t ≡ true → w ≡ marksOver (view t .k) b → w ≡ marksIn board t b
+  pub marks-sound : {w : List ℕ} → sound board t ≡ true → w ≡ marksOver 641 (view t .k) t → w ≡ marksIn board t
   unfolding marksIn
   marks-sound q e = e ∙ rw q refl
-
--- as many as there were before
-pub marks-size : (board : Board) (t b : List ℕ) {w : List ℕ} → length b ≡ 513 → w ≡ marksIn board t b → length w ≡ 513
-unfolding marksIn
-marks-size board t b h e = ap length e ∙ go (sound board t)
-  where
-    go : (x : Bool) → length (cond x (marksOver (view t .k) b) b) ≡ 513
-    go true = length-tab 513 (markOf (view t .k) b)
-    go false = h
 
 -- ── what was written ──
 -- no more runs than there are records, and than there are slots
@@ -93,16 +80,41 @@ runs-small t =
     let f = see-first t _ refl in
     omega (arith, runs-few (view t .k) (view t .k .stop - view t .k .base) (view t .k .base), f .stop, f .end-small)
 
--- the records after as many runs as planned were written one by one, from the marks
-abbrev pub written : Board → List ℕ → List Run → Plan → List Run
-written board t before p = firsts (runAt (marksOf board t)) (p .number) ++ drop (p .number) before
+-- w has the marks of t, if t is sound
+abbrev pub MarksOf : Board → List ℕ → List ℕ → Type 0
+MarksOf board t w = sound board t ≡ true → w ≡ marksIn board t
 
-pub listed : (board : Board) (t : List ℕ) (before : List Run) → Listed board t before (planOf board t (length before) .outcome) (written board t before (planOf board t (length before)))
+-- a run that is written is read from two marks
+pub marks-at : (board : Board) (t : List ℕ) (size : ℕ) {w : List ℕ} {i : ℕ} → MarksOf board t w → i < planOf board t size .number → MarksAt w i
+unfolding planOf marksIn
+marks-at board t size {w} {i} made h = go (sound board t) (leb (length (runsOf (view t .k))) size) refl h
+  where
+    go : (a b : Bool) → sound board t ≡ a → i < cond a (cond b (writing (view t .k)) (refusal 17)) (refusal 1) .number → MarksAt w i
+    go true true p x =
+        let e : w ≡ marksOver 641 (view t .k) t = made p ∙ rw p refl in
+        let (here, next) = marks-short (tested board t p) (stop-small t) t i x in
+        let size = ap length e ∙ length-tab 641 (markOf (view t .k) t) in
+        let few = runs-bound (tested board t p) in
+        record {
+          below = omega (arith, few);
+          here = record { size = size; below = omega (arith, few); small = rw e here };
+          next = record { size = size; below = omega (arith, few); small = rw e next };
+        }
+    go true false p x = absurd (omega arith)
+    go false b p x = absurd (omega arith)
+
+-- the records after as many runs as planned were written one by one, from the marks w
+abbrev pub written : List ℕ → List Run → Plan → List Run
+written w before p = firsts (runAt w) (p .number) ++ drop (p .number) before
+
+pub listed : (board : Board) (t : List ℕ) {w : List ℕ} (before : List Run) → MarksOf board t w → Listed board t before (planOf board t (length before) .outcome) (written w before (planOf board t (length before)))
 unfolding planOf marksIn runsOutcome runsRecords
-listed board t before = go (sound board t) (leb (length (runsOf (view t .k))) (length before)) refl refl
+listed board t {w} before made = go (sound board t) (leb (length (runsOf (view t .k))) (length before)) refl refl
   where
     go : (a b : Bool) → sound board t ≡ a → leb (length (runsOf (view t .k))) (length before) ≡ b
-        → Listed board t before (planOf board t (length before) .outcome) (written board t before (planOf board t (length before)))
-    go true true p q = record { outcome = rw (p, q) refl; records = rw (p, q) (ap (λ (rs : List Run). rs ++ drop (length (runsOf (view t .k))) before) (read-back (tested board t p) (stop-small t) (replicate 513 0))) }
+        → Listed board t before (planOf board t (length before) .outcome) (written w before (planOf board t (length before)))
+    go true true p q =
+        let e : w ≡ marksOver 641 (view t .k) t = made p ∙ rw p refl in
+        record { outcome = rw (p, q) refl; records = rw (p, q, e) (ap (λ (rs : List Run). rs ++ drop (length (runsOf (view t .k))) before) (read-back (tested board t p) (stop-small t) t)) }
     go true false p q = record { outcome = rw (p, q) refl; records = rw (p, q) refl }
     go false b p q = record { outcome = rw p refl; records = rw p refl }

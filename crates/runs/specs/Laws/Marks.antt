@@ -1,4 +1,4 @@
--- The walk that makes one mark for each run, line by line what it keeps; at its end the marks are those of the runs, and the runs are read back from them.
+-- The walk that makes one mark for each run, line by line what it keeps; at its end the marks are those of the runs. They are copied over words, and the runs are read back from there.
 use mathlib.Core.Path.{_≡_, refl, ap, ap₂, sym, subst, _∙_}
 use mathlib.Core.Bool.{Bool, true, false, cond}
 use mathlib.Core.List.{List}
@@ -6,15 +6,16 @@ use Prim.Native.Nat.{ℕ, suc, _+_, _-_, _^_, _≤_, _<_}
 use native.Mathlib.Decide.{ℕ-discrete, decLt}
 use native.Mathlib.Numerals.{add-one}
 use native.Mathlib.Omega.{arith}
-use lib.Dec.{eqb}
+use lib.Dec.{eqb, leb}
 use lib.ListN.{length, getD, set, replicate, length-set}
 use lib.Seq.{getD-set-same, getD-set-other}
-use borrow.Author.Tests.{eqb-true, eqb-false, eq-eqb, ne-eqb, lt-ltb, le-ltb}
-use Rattle.loops.specs.Laws.Rewrite.{tab-at, tab-is}
+use borrow.Author.Tests.{eqb-true, eqb-false, eq-eqb, ne-eqb, lt-ltb, le-ltb, le-leb, lt-leb}
+use Rattle.loops.specs.Laws.Rewrite.{tab-at, tab-is, tab-ext}
+use Rattle.keeping.specs.Keeping.{kept}
 use Rattle.words.specs.Kind.{fieldsIn}
 use Rattle.words.specs.Words.{mark}
 use Rattle.words.specs.Kinds.{lineIn, holderIn, markFor}
-use Rattle.words.specs.Laws.Kinds.{line-in, holder-in}
+use Rattle.words.specs.Laws.Kinds.{line-in, holder-in, mark-small}
 use Rattle.words.specs.declared.mark_word.MarkFields.{MarkFields}
 use Rattle.tables.specs.State.{K}
 use Rattle.sound.specs.Core.{Core}
@@ -328,7 +329,7 @@ module _ {k : K} (h : Core k) {b : List ℕ} {l n c : ℕ} {w : List ℕ} (inv :
   number : n ≡ length (runsOf k)
   number = sym size ∙ ap length all
 
-  pub mark-end : (n ≡ length (runsOf k)) × (set w n m ≡ marksOver k b)
+  pub mark-end : (n ≡ length (runsOf k)) × (set w n m ≡ marksOver 513 k b)
   unfolding markOf
   mark-end = (number, tab-is 513 (markOf k b) v (length-set w n m ∙ inv .size) (λ i x. go i (decLt i n) (ℕ-discrete i n)))
     where
@@ -341,6 +342,21 @@ module _ {k : K} (h : Core k) {b : List ℕ} {l n c : ℕ} {w : List ℕ} (inv :
           rw (le-ltb i (length (runsOf k)) (omega (arith, number)), ne-eqb i (length (runsOf k)) (λ z. e (z ∙ sym number)))
           (getD-set-other w n i m 0 e ∙ inv .rest i (omega arith))
 
+-- ── the marks in place of the words ──
+-- what is kept of the marks does not depend on what they stood over
+pub kept-marks : {k : K} (b c : List ℕ) {w : List ℕ} {n : ℕ} → Core k → n ≡ length (runsOf k) → w ≡ marksOver 513 k b → kept w n c ≡ marksOver 641 k c
+unfolding markOf
+kept-marks {k} b c {w} {n} h number made = tab-ext 641 _ _ (λ i _. go i (decLt n i) (ℕ-discrete i n))
+  where
+    go : (i : ℕ) → Dec (n < i) → Dec (i ≡ n) → cond (leb i n) (getD w i 0) (getD c i 0) ≡ markOf k c i
+    go i (yes x) e = rw (lt-leb i n x, le-ltb i (length (runsOf k)) (omega (arith, number)), ne-eqb i (length (runsOf k)) (λ z. omega (arith, number))) refl
+    go i (no x) e =
+        rw (le-leb i n (omega arith)) (ap (λ (v : List ℕ). getD v i 0) made ∙ tab-at 513 (markOf k b) i (omega (arith, number, runs-bound h)) ∙ same e)
+      where
+        same : Dec (i ≡ n) → markOf k b i ≡ markOf k c i
+        same (yes z) = rw (le-ltb i (length (runsOf k)) (omega (arith, number)), eq-eqb i (length (runsOf k)) (z ∙ number)) refl
+        same (no z) = rw (lt-ltb i (length (runsOf k)) (omega (arith, number))) refl
+
 -- ── read back ──
 module _ {k : K} (h : Core k) (few : k .stop < 2 ^ 27) (b : List ℕ) where
   abbrev all-runs : List Run
@@ -350,31 +366,31 @@ module _ {k : K} (h : Core k) (few : k .stop < 2 ^ 27) (b : List ℕ) where
   unfolding runsOf
   laws = runs-to k (k .base) (k .stop) (h .s1)
 
-  mark-at : (i : ℕ) → i < length all-runs → (getD (marksOver k b) i 0 ≡ markFor (nth all-runs i .start .0) (nth all-runs i .deepest .0)) × (nth all-runs i .deepest .0 < 16)
+  mark-at : (i : ℕ) → i < length all-runs → (getD (marksOver 641 k b) i 0 ≡ markFor (nth all-runs i .start .0) (nth all-runs i .deepest .0)) × (nth all-runs i .deepest .0 < 16)
   unfolding markOf
   mark-at i x = (
-    tab-at 513 (markOf k b) i (omega (arith, runs-bound h)) ∙ rw (lt-ltb i (length all-runs) x) refl,
+    tab-at 641 (markOf k b) i (omega (arith, runs-bound h)) ∙ rw (lt-ltb i (length all-runs) x) refl,
     rw (← (laws .same i (nth all-runs i .start .0) x (omega arith, laws .chain .long i x)))
         (deepest-small h (omega (arith, within (laws .chain) i x .0)) (omega (arith, within (laws .chain) i x .1, laws .chain .long i x))),
   )
 
-  mark-last : getD (marksOver k b) (length all-runs) 0 ≡ markFor (k .stop) 0
+  mark-last : getD (marksOver 641 k b) (length all-runs) 0 ≡ markFor (k .stop) 0
   unfolding markOf
-  mark-last = tab-at 513 (markOf k b) (length all-runs) (omega (arith, runs-bound h)) ∙ rw (le-ltb (length all-runs) (length all-runs) (omega arith), eq-eqb (length all-runs) (length all-runs) refl) refl
+  mark-last = tab-at 641 (markOf k b) (length all-runs) (omega (arith, runs-bound h)) ∙ rw (le-ltb (length all-runs) (length all-runs) (omega arith), eq-eqb (length all-runs) (length all-runs) refl) refl
 
   -- where run i starts, and who holds it
-  fields-at : (i : ℕ) → i < length all-runs → (lowAt (marksOver k b) i ≡ nth all-runs i .start .0) × (whoAt (marksOver k b) i ≡ nth all-runs i .deepest .0)
+  fields-at : (i : ℕ) → i < length all-runs → (lowAt (marksOver 641 k b) i ≡ nth all-runs i .start .0) × (whoAt (marksOver 641 k b) i ≡ nth all-runs i .deepest .0)
   fields-at i x =
       let (m, s) = mark-at i x in
       let z : nth all-runs i .start .0 < 2 ^ 27 = omega (arith, within (laws .chain) i x .1, laws .chain .long i x) in
       (ap lineIn m ∙ line-in _ _ z s, ap holderIn m ∙ holder-in _ _ z s)
 
-  run-at : (i : ℕ) → i < length all-runs → runAt (marksOver k b) i ≡ nth all-runs i
+  run-at : (i : ℕ) → i < length all-runs → runAt (marksOver 641 k b) i ≡ nth all-runs i
   run-at i x =
       let (start, deepest) = fields-at i x in
       rw (start, deepest, go (ℕ-discrete (suc i) (length all-runs))) refl
     where
-      go : Dec (suc i ≡ length all-runs) → lowAt (marksOver k b) (i + 1) ≡ nth all-runs i .end .0
+      go : Dec (suc i ≡ length all-runs) → lowAt (marksOver 641 k b) (i + 1) ≡ nth all-runs i .end .0
       go (yes z) =
           let e : i + 1 ≡ length all-runs = omega arith in
           let j : length all-runs - 1 ≡ i = omega arith in
@@ -385,5 +401,18 @@ module _ {k : K} (h : Core k) (few : k .stop < 2 ^ 27) (b : List ℕ) where
           rw (add-one i) (fields-at (suc i) y .0 ∙ laws .chain .next i y)
 
   -- the runs between the marks are the runs
-  pub read-back : firsts (runAt (marksOver k b)) (length (runsOf k)) ≡ runsOf k
-  read-back = firsts-is (runAt (marksOver k b)) (runOf 0 0 0) (runsOf k) run-at
+  pub read-back : firsts (runAt (marksOver 641 k b)) (length (runsOf k)) ≡ runsOf k
+  read-back = firsts-is (runAt (marksOver 641 k b)) (runOf 0 0 0) (runsOf k) run-at
+
+  -- each mark, and the one behind it, has 32 bits
+  pub marks-short : (i : ℕ) → i < length (runsOf k) → (getD (marksOver 641 k b) i 0 < 2 ^ 32) × (getD (marksOver 641 k b) (i + 1) 0 < 2 ^ 32)
+  marks-short i x = (short i x, go (ℕ-discrete (i + 1) (length all-runs)))
+    where
+      short : (i : ℕ) → i < length all-runs → getD (marksOver 641 k b) i 0 < 2 ^ 32
+      short i x =
+          let (m, s) = mark-at i x in
+          rw m (mark-small _ (omega (arith, within (laws .chain) i x .1, laws .chain .long i x)) s)
+
+      go : Dec (i + 1 ≡ length all-runs) → getD (marksOver 641 k b) (i + 1) 0 < 2 ^ 32
+      go (yes z) = rw (z, mark-last) (mark-small _ few (omega arith))
+      go (no z) = short (i + 1) (omega arith)

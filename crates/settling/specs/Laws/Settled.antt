@@ -1,9 +1,10 @@
--- The records settled one by one, those that are zero left alone, are the settled table; and the words are seen as that table.
+-- The records settled one by one, those of absent partitions left alone, are the settled table; and the words are seen as that table.
 use mathlib.Core.Path.{_≡_, refl, ap, sym, subst, _∙_}
-use mathlib.Core.Bool.{Bool, true}
+use mathlib.Core.Bool.{Bool, true, false, cond, false≢true}
 use mathlib.Core.List.{List}
 use Prim.Native.Nat.{ℕ, _+_, _≤_, _<_}
 use native.Mathlib.Omega.{arith}
+use lib.Dec.{ltb}
 use Rattle.tables.specs.State.{Opt, none, Table}
 use Rattle.tables.specs.Laws.State.{none-of}
 use Rattle.tables.specs.Update.{upd1}
@@ -17,12 +18,11 @@ use Rattle.tables.specs.Laws.Back.{Fit, view-encode}
 use Rattle.tables.specs.Laws.FitView.{fit-view}
 use Rattle.tables.specs.Laws.Writes.{is-fit}
 use Rattle.tables.specs.Settle.{openBit, openAt, keep, settle, settled}
-use Rattle.tables.specs.ZeroRecord.{zeroRecord}
-use Rattle.tables.specs.Laws.ZeroRecord.{zero-entry, zero-region}
+use Rattle.tables.specs.Search.{isSome, present}
 use Rattle.settling.specs.OpenBits.{openTo}
 use Rattle.tables.specs.Kept.{keepRegions}
 use Rattle.tables.specs.Laws.Kept.{keep-none, keep-some}
-use Rattle.settling.specs.Settled.{settleRecord}
+use Rattle.settling.specs.Settled.{settleRecord, Bare}
 
 -- .. with the first n records settled
 abbrev pub settleTo : Table → ℕ → Table
@@ -64,16 +64,20 @@ record-is t p h = λ x. record {
 pub record-done : (l m : List ℕ) {r : List ℕ} (p : ℕ) → Canon l → Is m (openTo (view l) p 32) → Is r (keepRegions (view m) p) → Is r (settleRecord (view l) p)
 record-done l m {r} p c o h = subst (Is r) (ap (λ (t : Table). keepRegions t p) (o .viewed) ∙ record-is (view l) p (fit-view c)) h
 
--- of a zero record nothing changes
-module _ (l : List ℕ) (p : ℕ) (c : Canon l) (z : zeroRecord l p ≡ true) where
+-- of an absent partition nothing changes
+module _ (l : List ℕ) (p : ℕ) (c : Canon l) (bare : Bare (view l)) (gone : present (view l .k) p ≡ false) where
+  away : view l .k .area p 0 ≡ none
+  unfolding present
+  away = none-of (view l .k .area p 0) (λ a u. false≢true (sym gone ∙ ap isSome u))
+
   bits : view l .opened p ≡ openAt (view l .k) p
-  bits = λ x i. no-entry (view l) (fit-view c) p i (zero-entry l p z i) x
+  bits = λ x i. no-entry (view l) (fit-view c) p i (bare .slot p i away) x
 
   names : view l .region p ≡ (λ r. keep (openAt (view l .k) p) (view l .region p r))
-  names = λ x r. keep-none (openAt (view l .k) p) (view l .region p r) (zero-region l p z r) x
+  names = λ x r. keep-none (openAt (view l .k) p) (view l .region p r) (bare .region p r away) x
 
-  pub zero-done : Is l (settleRecord (view l) p)
-  zero-done = subst (Is l) same (canon-is c)
+  pub absent-done : Is l (settleRecord (view l) p)
+  absent-done = subst (Is l) same (canon-is c)
     where
       same : view l ≡ settleRecord (view l) p
       same = λ x. record {
@@ -94,6 +98,15 @@ settle-start {l} c = record { within = omega arith; is = subst (Is l) (sym none-
     }
 
 module _ {t : Table} {n : ℕ} {l : List ℕ} (inv : Settling t n l) where
+  -- an absent partition still has no entry and no region
+  pub settle-bare : Bare t → Bare (view l)
+  unfolding upTo
+  settle-bare h = subst Bare (sym (inv .is .viewed)) (record { slot = h .slot; region = λ p r q. go p r (h .region p r q) (ltb p n) })
+    where
+      go : (p r : ℕ) → t .region p r ≡ none → (b : Bool) → cond b (λ r. keep (openAt (t .k) p) (t .region p r)) (t .region p) r ≡ none
+      go p r z true = sym (keep-none (openAt (t .k) p) (t .region p r) z) ∙ z
+      go p r z false = z
+
   pub settle-more : {m : List ℕ} → n < 16 → Is m (settleRecord (view l) n) → Settling t (n + 1) m
   settle-more {m} b h = record { within = omega arith; is = subst (Is m) (ap (λ (x : Table). settleRecord x n) (inv .is .viewed) ∙ next) h }
     where

@@ -17,8 +17,8 @@ unfolding resultOf
 plan-bytes-spec =
     tie.close
     (tie.spec
-    (λ c. ready-none _ _ _ _ (λ z. omega (arith, z)))
-    (λ c κs. (omega arith, refl))
-    (λ c κs. (top-at (c .before .before .load .ensures .0) (c .before .before .load .ensures .1), c .before .before .before .before .before .before .pre))
+    (λ c. ready-none _ _ _ (λ z. omega (arith, z)) (c .before .before .pre))
+    (λ c κs. (omega arith, c .before .before .before .pre))
+    (λ c κs. top-at (c .before .load .ensures .0) (c .before .load .ensures .1))
     (λ c κs. subst (λ (p : Plan). Small (p .outcome)) (sym (c .plan-of .ensures .0)) (plan-answers _ _ _))
-    (λ c. ready-plan _ _ _ _ (c .before .before .before .before .before .before .if1 .left) (c .before .plan-of .ensures .0 ∙ ap (λ (l : List ℕ). planOf (c .before .before .before .before .before .before .before .before .args .board) l (c .before .before .before .before .before .before .before .before .args .size)) (c .before .before .before .before .load .ensures .0)) (c .before .plan-of .ensures .1 ∙ ap (λ (l : List ℕ). marksIn (c .before .before .before .before .before .before .before .before .args .board) l (c .before .before .before .before .before .before .before .before .args .marks .now)) (c .before .before .before .before .load .ensures .0)) (c .answer-word .ensures)))
+    (λ c. ready-plan _ _ _ (c .before .before .before .before .before .if1 .left) (c .before .plan-of .ensures .0 ∙ ap (λ (l : List ℕ). planOf (c .before .before .before .before .before .before .before .args .board) l (c .before .before .before .before .before .before .before .args .size)) (c .before .before .before .load .ensures .0)) (c .before .plan-of .ensures .1 ∙ ap (marksIn (c .before .before .before .before .before .before .before .args .board)) (c .before .before .before .load .ensures .0)) (c .answer-word .ensures)))

@@ -10,16 +10,16 @@ pub plan-of-spec : {M : Type 1} → statement M
 plan-of-spec =
     tie.close
     (tie.spec
-    (λ c κs. (c .before .before .pre .0, refl, refl))
+    (λ c κs. (c .before .before .before .pre, refl, refl))
     (λ c κs. search needs)
     (λ c.
     let u = decided-unsound (c .before .before .is-ordered .ensures) (c .before .if1 .taken) in
-    (c .refuse .ensures ∙ plan-unsound _ _ _ u, marks-unsound _ _ _ u))
-    (λ c κs. (tested _ _ (decided-sound (c .before .before .before .is-ordered .ensures) (c .before .before .if1 .left)), decided-order (c .before .before .before .is-ordered .ensures) (c .before .before .if1 .left), c .before .before .before .before .before .before .pre .1))
+    (c .refuse .ensures ∙ plan-unsound _ _ _ u, marks-unsound _ _ u))
+    (λ c κs. (tested _ _ (decided-sound (c .before .before .before .is-ordered .ensures) (c .before .before .if1 .left)), decided-order (c .before .before .before .is-ordered .ensures) (c .before .before .if1 .left)))
     (λ c κs. search needs)
     (λ c.
     let s = decided-sound (c .before .before .before .before .before .before .is-ordered .ensures) (c .before .before .before .before .before .if1 .left) in
-    (c .refuse2 .ensures ∙ plan-short _ _ _ s (c .before .before .mark-runs .ensures .0) (c .before .if2 .taken), marks-sound _ _ _ s (c .before .before .mark-runs .ensures .1)))
+    (c .refuse2 .ensures ∙ plan-short _ _ _ s (c .before .before .leave-marks .ensures .0) (c .before .if2 .taken), marks-sound _ _ s (c .before .before .leave-marks .ensures .1)))
     (λ c.
     let s = decided-sound (c .before .before .before .before .before .is-ordered .ensures) (c .before .before .before .before .if1 .left) in
-    (plan-done _ _ _ s (c .before .mark-runs .ensures .0) (omega arith), marks-sound _ _ _ s (c .before .mark-runs .ensures .1))))
+    (plan-done _ _ _ s (c .before .leave-marks .ensures .0) (omega arith), marks-sound _ _ s (c .before .leave-marks .ensures .1))))

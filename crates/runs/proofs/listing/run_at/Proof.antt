@@ -1,4 +1,8 @@
 use borrow.Author.Needs.{needs}
+use mathlib.Core.Path.{ap, _∙_}
+use Prim.Native.Nat.{ℕ}
+use Rattle.words.specs.Kind.{fieldsIn}
+use Rattle.words.specs.Words.{mark}
 use Rattle.runs.specs.Laws.Marks.{run-is}
 use Rattle.runs.proofs.listing.run_at.Statement.{statement}
 use Rattle.runs.proofs.listing.run_at.Tie as tie
@@ -7,11 +11,9 @@ pub run-at-spec : {M : Type 1} → statement M
 run-at-spec =
     tie.close
     (tie.spec
-    (λ c. search needs)
-    (λ c. search needs)
+    (λ c κs. c .pre .here)
     (λ c κs. search needs)
     (λ c. search needs)
-    (λ c. search needs)
-    (λ c. search needs)
+    (λ c κs. c .before .before .pre .next)
     (λ c κs. search needs)
-    (λ c. run-is (c .before .before .before .before .before .before .before .args .marks .now) (c .before .before .before .before .before .before .before .args .i) (c .before .before .before .before .before .fields .ensures) (c .before .before .before .fields2 .ensures)))
+    (λ c. run-is (c .before .before .before .before .before .before .before .args .marks .now) (c .before .before .before .before .before .before .before .args .i) (c .before .before .before .before .before .fields .ensures ∙ ap (λ (m : ℕ). fieldsIn mark m) (c .before .before .before .before .before .before .number .ensures)) (c .before .before .before .fields2 .ensures ∙ ap (λ (m : ℕ). fieldsIn mark m) (c .before .before .before .before .number2 .ensures))))

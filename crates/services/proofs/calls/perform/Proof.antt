@@ -10,10 +10,10 @@ pub perform-spec : {M : Type 1} → statement M
 perform-spec =
     tie.close
     (tie.spec
-    (λ c κs. (c .before .before .pre .0, c .before .before .pre .1 .slot))
-    (λ c κs. (c .before .before .pre .0, c .before .before .pre .1 .partition))
-    (λ c κs. (c .before .before .pre .0, c .before .before .pre .1 .partition, c .before .before .pre .1 .slot))
-    (λ c κs. (c .before .before .pre .0, c .before .before .pre .1 .partition))
+    (λ c κs. (c .before .before .pre .0, c .before .before .pre .1 .slot, c .before .before .pre .3))
+    (λ c κs. (c .before .before .pre .0, c .before .before .pre .1 .partition, c .before .before .pre .3))
+    (λ c κs. (c .before .before .pre .0, c .before .before .pre .1 .partition, c .before .before .pre .1 .slot, c .before .before .pre .3))
+    (λ c κs. (c .before .before .pre .0, c .before .before .pre .1 .partition, c .before .before .pre .3))
     (λ c κs. (c .before .before .pre .0, c .before .before .pre .1 .partition, c .before .before .pre .1 .slot, c .before .before .pre .3))
     (λ c κs. (c .before .before .pre .0, c .before .before .pre .1 .slot, c .before .before .pre .3))
     (λ c κs. (c .before .before .pre .0, c .before .before .pre .1 .slot, c .before .before .pre .1 .line, c .before .before .pre .3))
@@ -22,7 +22,7 @@ perform-spec =
     (λ c κs. (c .before .before .pre .0, c .before .before .pre .1 .partition, c .before .before .pre .3))
     (λ c κs. (c .before .before .pre .0, c .before .before .pre .1 .partition, c .before .before .pre .3))
     (λ c κs. (c .before .before .pre .0, c .before .before .pre .1 .partition, c .before .before .pre .3))
-    (λ c κs. (c .before .before .pre .0, c .before .before .pre .1 .partition))
+    (λ c κs. (c .before .before .pre .0, c .before .before .pre .1 .partition, c .before .before .pre .3))
     (λ c. ran-as (perform-at _ 1 _ _ (c .before .before .match .keys1)) (c .create .ensures))
     (λ c. ran-as (perform-at _ 2 _ _ (c .before .before .match .keys2)) (c .delete .ensures))
     (λ c. ran-as (perform-at _ 3 _ _ (c .before .before .match .keys3)) (c .prepare .ensures))
