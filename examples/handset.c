@@ -2,8 +2,8 @@
  * A handset's firmware sets up its three parts with libulavrepit.a: a form store, a label reader and a
  * bought-in radio uploader, which the store starts in its own memory. Then it makes the mistake that the kernel is
  * there for: a block that the store has is given to the reader as well. The store lends the uploader a buffer
- * whole, and so has it back whatever the uploader tries. At last the reader is replaced, which has started a helper
- * of its own by then: both go at once.
+ * whole, and so has it back whatever the uploader tries. Then the reader is replaced, which has started a helper
+ * of its own by then: both go at once. At last the slots of a part are packed, after a long day of cuts and merges.
  *
  *   make example     or     cc -Iinclude examples/handset.c build/libulavrepit.a
  */
@@ -93,6 +93,33 @@ static void replace_reader(uint32_t reader, uint32_t first_line)
     print_holders(line);
 }
 
+/*
+ * The part gets three more structures, cuts its block in 32 and merges the pieces again: what is left is one entry in
+ * each of its four structures, and none of them can be collected. Packed, they stand in the first.
+ */
+static void end_a_long_day(uint32_t part, uint32_t first_line, uint32_t *rest, uint32_t *rest_start)
+{
+    uint32_t slots = ULAVREPIT_SLOTS / ULAVREPIT_STRUCTURES; /* of a structure */
+    for (uint32_t i = 1; i < ULAVREPIT_STRUCTURES; i++)
+        call("prepare", ulavrepit_prepare(part, carve(rest, rest_start, ULAVREPIT_AREA_LINES)));
+    call("switch", ulavrepit_switch(part));
+    for (uint32_t s = 1; s < ULAVREPIT_SLOTS; s++)
+        call("cut", ulavrepit_cut(s - 1, first_line + 8 * s));
+    for (uint32_t s = 1; s < ULAVREPIT_SLOTS; s++)
+        if (s % slots != 0)
+            call("merge", ulavrepit_merge(s - s % slots, s));
+    call("switch", ulavrepit_switch(0));
+
+    uint32_t line = first_line + 8 * ULAVREPIT_SLOTS - 1; /* the last one */
+    print_holders(line);
+    call("collect the last structure", ulavrepit_collect(part, ULAVREPIT_STRUCTURES - 1));
+    printf("the slots are packed: %u entries moved\n", (unsigned)call("pack", ulavrepit_pack(part)));
+    for (uint32_t i = 1; i < ULAVREPIT_STRUCTURES; i++)
+        call("collect", ulavrepit_collect(part, i));
+    puts("the other three structures are collected");
+    print_holders(line);
+}
+
 int main(void)
 {
     uint32_t rest = 0, start = 256, end = 4096;
@@ -122,5 +149,7 @@ int main(void)
 
     lend_buffer(1, 304);
     replace_reader(2, 1360);
+    add_part("new reader", &rest, &start, 8 * ULAVREPIT_SLOTS, ULAVREPIT_ALL_RIGHTS);
+    end_a_long_day(2, start - 8 * ULAVREPIT_SLOTS, &rest, &start);
     return 0;
 }

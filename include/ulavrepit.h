@@ -49,7 +49,8 @@ enum {
     ULAVREPIT_READ_REGION = 11,
     ULAVREPIT_FIND = 12,
     ULAVREPIT_SWITCH = 13,
-    ULAVREPIT_CLEAR_OUT = 14
+    ULAVREPIT_CLEAR_OUT = 14,
+    ULAVREPIT_PACK = 15
 };
 
 /* Refusal numbers. Where several apply, the lowest is given. */
@@ -305,6 +306,16 @@ static inline uint64_t ulavrepit_switch(uint32_t partition)
 static inline uint64_t ulavrepit_clear_out(uint32_t child)
 {
     return ulavrepit_word(ULAVREPIT_CLEAR_OUT, child, 0, 0, 0, 0);
+}
+
+/*
+ * The entries of the caller, or of a child, move to its lowest slots in present structures, in unchanged slot order, and
+ * its regions follow them: so each structure that is not needed has no entry and can be collected. Slot numbers that were
+ * noted are to be looked up anew. First: how many entries moved.
+ */
+static inline uint64_t ulavrepit_pack(uint32_t partition)
+{
+    return ulavrepit_word(ULAVREPIT_PACK, partition, 0, 0, 0, 0);
 }
 
 /* ---- entry words, as find and read region answer them ---- */

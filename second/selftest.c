@@ -96,12 +96,12 @@ static uint64_t word_of(unsigned service, unsigned p, unsigned s, unsigned t, un
 /* Service 9 with R = 1 unloads: that has a row of its own in what follows, 10, which is no service's number. */
 enum {
     CREATE = 1, DELETE, PREPARE, COLLECT, GIVE, TAKE, CUT, MERGE, LOAD, UNLOAD, READ, FIND, SWITCH, CLEAR_OUT,
-    SERVICES = CLEAR_OUT
+    PACK, SERVICES = PACK
 };
 
 /* The fields that each service uses, by its number. */
 static const char *const used[SERVICES + 1] = {"", "S", "P", "PS", "PT", "PSRW", "S", "SL", "ST", "PSTR",
-                                               "", "PT", "PL", "P", "P"};
+                                               "", "PT", "PL", "P", "P", "P"};
 
 #define UNTOUCHED UINT64_C(0x5a5a5a5a5a5a5a5a)
 
@@ -819,8 +819,8 @@ static void test_clear_out_refusals(void)
           "clear out of a grandchild, of its child: 3");
     check(is_refused(CLEAR_OUT, 1, 1, 0, 0, 0, 2) && is_refused(CLEAR_OUT, 1, 0, 1, 0, 0, 2) &&
               is_refused(CLEAR_OUT, 1, 0, 0, 1, 0, 2) && is_refused(CLEAR_OUT, 1, 0, 0, 0, 1, 2) &&
-              is_refused(CLEAR_OUT, 2, 1, 0, 0, 0, 2) && is_refused(15, 1, 0, 0, 0, 0, 2),
-          "clear out with another field than P: 2, and 2 before 3; service 15 still 2");
+              is_refused(CLEAR_OUT, 2, 1, 0, 0, 0, 2),
+          "clear out with another field than P: 2, and 2 before 3");
     check(goes(SWITCH, 1, 0, 0, 0, 0) && is_refused(CLEAR_OUT, 1, 0, 0, 0, 0, 3) &&
               is_refused(CLEAR_OUT, 0, 0, 0, 0, 0, 3) && is_refused(CLEAR_OUT, 5, 0, 0, 0, 0, 3),
           "clear out of oneself, of the parent, of a sibling: 3");
@@ -899,6 +899,71 @@ static void test_clear_out_of_a_chain(void)
     for (unsigned p = 1; p < 16; p++)
         good = good && is_blank(p);
     check(good && holders_are(1999, "\0", 1), "clear out of a chain of 15: 15");
+}
+
+/* A long day: 32 entries of one line in partition 1, of which one is left in each of its four structures. */
+static bool make_long_day(void)
+{
+    bool good = boot_to(0, 2000) && goes(CUT, 0, 0, 0, 0, 16);
+    for (unsigned i = 1; i < 5; i++)
+        good = good && is_done(CUT, 0, i, 0, 0, 16 * i + 16, i + 1, 0);
+    good = good && goes(CUT, 0, 5, 0, 0, 112) && is_done(CREATE, 0, 0, 0, 0, 0, 1, 0);
+    for (unsigned i = 0; i < 4; i++)
+        good = good && is_done(PREPARE, 1, i + 1, 0, 0, 0, i, 0);
+    good = good && is_done(GIVE, 1, 5, 0, 7, 0, 0, 0) && goes(SWITCH, 1, 0, 0, 0, 0);
+    for (unsigned i = 1; i < 32; i++)
+        good = good && is_done(CUT, 0, i - 1, 0, 0, 80 + i, i, 0);
+    for (unsigned i = 1; i < 32; i++)
+        if (i % 8 != 0)
+            good = good && goes(MERGE, 0, i - i % 8, i, 0, 0);
+    return good && goes(SWITCH, 0, 0, 0, 0, 0);
+}
+
+/* Partition 1 was given nine blocks, and eight were taken back: it has the last one, in slot 8, and no structure 0. */
+static bool make_upper(void)
+{
+    bool good = boot_to(0, 2000);
+    for (unsigned i = 0; i < 5; i++)
+        good = good && is_done(CUT, 0, i, 0, 0, 16 * i + 16, i + 1, 0);
+    good = good && goes(PREPARE, 0, 0, 0, 0, 0) && goes(PREPARE, 0, 1, 0, 0, 0) && is_done(CREATE, 0, 2, 0, 0, 0, 1, 0) &&
+           goes(PREPARE, 1, 3, 0, 0, 0) && goes(PREPARE, 1, 4, 0, 0, 0);
+    for (unsigned i = 0; i < 9; i++)
+        good = good && goes(CUT, 0, 5 + i, 0, 0, 90 + 10 * i) && is_done(GIVE, 1, 5 + i, 0, 7, 0, i, 0);
+    for (unsigned i = 0; i < 8; i++)
+        good = good && goes(TAKE, 0, 5 + i, 0, 0, 0);
+    return good && goes(COLLECT, 1, 0, 0, 0, 0);
+}
+
+/* The entry in slot s of partition 1 starts at a line. */
+static bool starts(unsigned s, uint32_t line)
+{
+    return get(table, slot_at(1, s), E_PRESENT) == 1 && get(table, slot_at(1, s), E_START) == line;
+}
+
+static void test_pack(void)
+{
+    check(make_long_day() && is_refused(COLLECT, 1, 0, 0, 0, 0, 15) && is_refused(COLLECT, 1, 0, 1, 0, 0, 15) &&
+              is_refused(COLLECT, 1, 0, 2, 0, 0, 15) && is_refused(COLLECT, 1, 0, 3, 0, 0, 15),
+          "one entry in each of four structures: none can be collected");
+    check(goes(LOAD, 1, 24, 0, 0, 0) && goes(LOAD, 1, 8, 7, 0, 0) && is_done(PACK, 1, 0, 0, 0, 0, 3, 0) &&
+              starts(0, 80) && starts(1, 88) && starts(2, 96) && starts(3, 104) &&
+              get_word(table, slot_at(1, 8)) == 0 && get_word(table, slot_at(1, 16)) == 0 && get_word(table, slot_at(1, 24)) == 0,
+          "pack: 3 moved, in slot order, freed slots are zero");
+    check(get_word(table, regions_at(1)) == UINT64_C(0x8300000000000081), "pack: regions follow their entries");
+    check(is_done(PACK, 1, 0, 0, 0, 0, 0, 0) && is_done(PACK, 0, 0, 0, 0, 0, 0, 0), "packing twice moves none");
+    check(goes(COLLECT, 1, 0, 1, 0, 0) && goes(COLLECT, 1, 0, 2, 0, 0) && goes(COLLECT, 1, 0, 3, 0, 0) &&
+              is_refused(COLLECT, 1, 0, 0, 0, 0, 15) && holders_are(111, "\0\1", 2),
+          "then the other three are collected");
+
+    check(make_long_day() && goes(SWITCH, 1, 0, 0, 0, 0) && is_done(CUT, 0, 24, 0, 0, 107, 1, 0) &&
+              is_done(PACK, 1, 0, 0, 0, 0, 3, 0) && starts(0, 80) && starts(1, 107) && starts(2, 88) && starts(3, 96) && starts(4, 104),
+          "pack: slot order is not the order of lines");
+    check(is_refused(PACK, 0, 0, 0, 0, 0, 3) && is_refused(PACK, 2, 0, 0, 0, 0, 3) && is_refused(PACK, 1, 1, 0, 0, 0, 2) &&
+              is_refused(PACK, 1, 0, 1, 0, 0, 2) && is_refused(PACK, 1, 0, 0, 1, 0, 2) && is_refused(PACK, 0, 0, 0, 0, 1, 2),
+          "pack of the parent, of an absent one: 3; another field than P: 2");
+    check(make_upper() && is_done(PACK, 1, 0, 0, 0, 0, 0, 0) && starts(8, 160) && is_done(GIVE, 1, 5, 0, 7, 0, 9, 0) &&
+              goes(TAKE, 0, 13, 0, 0, 0) && is_done(PACK, 1, 0, 0, 0, 0, 1, 0) && starts(8, 80),
+          "pack: the slots of an absent structure are not used");
 }
 
 /* A chain of 16 partitions with 32 entries each, the last lines in slot 31 of each. */
@@ -1395,7 +1460,7 @@ static fields called(uint64_t w)
 /* The checks of each, ended by 0. */
 static const unsigned char checks[SERVICES + 1][8] = {
     {0}, {4, 5, 6, 8, 9, 18}, {3, 15}, {3, 4, 5, 6, 8, 9, 18}, {3, 4, 15}, {3, 4, 5, 6, 8, 10, 18}, {4, 6, 14},
-    {4, 5, 6, 7, 8, 18}, {4, 5, 6, 11, 12}, {3, 4, 5, 16}, {3, 16}, {3, 16}, {3, 7}, {3}, {3}};
+    {4, 5, 6, 7, 8, 18}, {4, 5, 6, 11, 12}, {3, 4, 5, 16}, {3, 16}, {3, 16}, {3, 7}, {3}, {3}, {3}};
 
 static unsigned m_free(const uint8_t *t, unsigned p)
 {
@@ -1514,6 +1579,20 @@ static uint32_t m_remove(uint8_t *t, unsigned p)
     return n;
 }
 
+/* The entry of a slot moves to the lowest free slot below it, if there is one; answers whether it moved. */
+static bool m_move(uint8_t *t, unsigned p, unsigned s)
+{
+    unsigned to = m_free(t, p);
+    if (to > s)
+        return false;
+    set_word(t, slot_at(p, to), get_word(t, slot_at(p, s)));
+    set_word(t, slot_at(p, s), 0);
+    for (unsigned r = 0; r < 8; r++)
+        if (m_region(t, p, r) == (0x80 | s))
+            *region_byte(t, p, r) = (uint8_t)(0x80 | to);
+    return true;
+}
+
 /* The effect of an accepted call on the words; the open bits and regions come after. */
 static void m_effect(uint8_t *t, fields f, uint32_t *first, uint64_t *second)
 {
@@ -1584,6 +1663,10 @@ static void m_effect(uint8_t *t, fields f, uint32_t *first, uint64_t *second)
     case SWITCH:
         set(t, 0, CURRENT, f.p);
         break;
+    case PACK:
+        for (unsigned s = 0; s < 32; s++)
+            *first += m_entry(t, f.p, s) && m_move(t, f.p, s);
+        break;
     }
 }
 
@@ -1637,7 +1720,7 @@ static result m_call(uint8_t *t, uint64_t word)
 
 /* ---- what is generated ---- */
 
-static uint64_t seed = UINT64_C(0x9e3779b97f4a7c15);
+static uint64_t seed = UINT64_C(0x9e3779b97f4a7c16);
 
 static uint64_t random_word(void)
 {
@@ -1796,6 +1879,7 @@ static uint64_t likely_word(const uint8_t *t, const unsigned char weights[SERVIC
 
 static unsigned long met[SERVICES + 1][19], accepted;
 static uint32_t most_removed; /* by one clear out */
+static uint32_t most_packed;  /* by one pack */
 
 /* Calls the program and the model, and compares everything. */
 static bool agree(uint64_t word)
@@ -1804,10 +1888,12 @@ static bool agree(uint64_t word)
     memcpy(model, table, SECOND_BYTES);
     result expected = m_call(model, word);
     result a = call_word_on(table, word);
-    if ((word >> 60) <= SERVICES && (word >> 60) != 10)
+    if ((word >> 60) != 10)
         met[called(word).service][expected.refusal]++;
     if ((word >> 60) == CLEAR_OUT && a.first > most_removed)
         most_removed = a.first;
+    if ((word >> 60) == PACK && a.first > most_packed)
+        most_packed = a.first;
     accepted += a.refusal == 0;
     return a.clean && a.refusal == expected.refusal && a.caller == expected.caller &&
            a.first == expected.first && a.second == expected.second &&
@@ -1920,10 +2006,10 @@ static void test_generated(void)
 {
     /* How often each service is tried: fairly, with many partitions, with many slots, deep. */
     static const unsigned char weights[4][SERVICES + 1] = {
-        {0, 6, 2, 6, 3, 9, 4, 14, 8, 8, 2, 3, 3, 9, 2},
-        {0, 14, 1, 2, 1, 2, 1, 14, 1, 3, 1, 1, 1, 2, 1},
-        {0, 4, 1, 9, 1, 9, 1, 24, 2, 6, 1, 1, 1, 6, 1},
-        {0, 4, 0, 8, 0, 14, 1, 9, 1, 3, 1, 1, 1, 14, 1}};
+        {0, 6, 2, 6, 3, 9, 4, 14, 8, 8, 2, 3, 3, 9, 2, 3},
+        {0, 14, 1, 2, 1, 2, 1, 14, 1, 3, 1, 1, 1, 2, 1, 1},
+        {0, 4, 1, 9, 1, 9, 1, 24, 2, 6, 1, 1, 1, 6, 1, 1},
+        {0, 4, 0, 8, 0, 14, 1, 9, 1, 3, 1, 1, 1, 14, 1, 1}};
     static uint8_t kept[SECOND_BYTES];
     static unsigned long clauses[12];
     bool good_calls = true, good_sound = true, good_lists = true, good_clauses = true,
@@ -2018,6 +2104,7 @@ static void test_generated(void)
     check(all, "every clause was the lowest failing one");
     check(accepted > 10000 && deepest >= 10, "thousands of calls were accepted, ten levels deep");
     check(most_removed >= 5, "branches of five partitions were cleared out");
+    check(most_packed >= 5, "five entries were packed at once");
 }
 
 /* ---- The line engine, request 110. ---- */
@@ -2082,6 +2169,7 @@ int main(void)
     test_clear_out_of_one();
     test_clear_out_of_a_branch();
     test_clear_out_of_a_chain();
+    test_pack();
     test_how_far();
     test_clauses();
     test_generated();

@@ -278,7 +278,7 @@ static void test_runs(void)
 /* One refusal of each number that a booted board can meet; 8 and 12 need longer sessions. */
 static void test_refusals(void)
 {
-    check(make_x() && refused(0, 2) && refused(UINT64_C(15) << 60, 2) && refused(UINT64_MAX, 2) &&
+    check(make_x() && refused(0, 2) && refused(UINT64_C(10) << 60, 2) && refused(UINT64_MAX, 2) &&
               refused(ulavrepit_cut(1, 600) | 1, 2) && refused(ulavrepit_word(ULAVREPIT_CUT, 1, 1, 0, 0, 600), 2),
           "refused 2: no service, a zero bit, a field not used");
     check(refused(UINT64_C(0xa000000000000000), 2) && refused(ulavrepit_load(0, 1, 0) | UINT64_C(1) << 44, 2) &&
@@ -468,6 +468,52 @@ static void test_places(void)
     check(good, "a table may begin at any address");
 }
 
+/* ---- pack ---- */
+
+/* The word of an entry that is open and not given, to be read and written. */
+static uint64_t own_entry(uint64_t start, uint64_t end)
+{
+    return UINT64_C(0xf000000000000000) | start << 28 | end << 1;
+}
+
+/* The words of slots 0 to 4 of partition 1. */
+static bool slots_are(uint64_t a, uint64_t b, uint64_t c, uint64_t d, uint64_t e)
+{
+    const uint64_t words[] = {a, b, c, d, e};
+    bool good = true;
+    for (unsigned s = 0; s < 5; s++)
+        good = good && table_word(now.table, slot_at(1, s)) == words[s];
+    return good;
+}
+
+/* X, in which 1 has cut its block in four and merged two of them: slots 0, 2 and 3; regions 5 and 6 name the last two. */
+static bool make_gap(void)
+{
+    return make_x() && done(ulavrepit_switch(1), 0, 0) && done(ulavrepit_cut(0, 320), 1, 0) &&
+           done(ulavrepit_cut(1, 352), 2, 0) && done(ulavrepit_cut(2, 384), 3, 0) && done(ulavrepit_merge(0, 1), 0, 0) &&
+           done(ulavrepit_load(1, 3, 5), 0, 0) && done(ulavrepit_load(1, 2, 6), 0, 0);
+}
+
+static void test_pack(void)
+{
+    check(make_gap() && slots_are(own_entry(288, 352), 0, own_entry(352, 384), own_entry(384, 512), 0) &&
+              done(ulavrepit_pack(1), 2, 0) &&
+              slots_are(own_entry(288, 352), own_entry(352, 384), own_entry(384, 512), 0, 0),
+          "pack of oneself: 2 moved, in unchanged slot order, the freed slot is zero");
+    check(done(ulavrepit_read_region(1, 5), 0, own_entry(384, 512)) && done(ulavrepit_read_region(1, 6), 0, own_entry(352, 384)) &&
+              holders_are(400, 16, "\0\1", 2),
+          "its regions have followed, and who holds a line stays");
+    check(done(ulavrepit_pack(1), 0, 0) && done(ulavrepit_cut(2, 400), 3, 0), "a second pack moves none; the freed slot is used again");
+    check(make_gap() && done(ulavrepit_switch(0), 0, 0) && done(ulavrepit_pack(0), 0, 0) && done(ulavrepit_pack(1), 2, 0) &&
+              slots_are(own_entry(288, 352), own_entry(352, 384), own_entry(384, 512), 0, 0),
+          "pack of a child");
+    check(make_gap() && refused(ulavrepit_pack(0), 3) && refused(ulavrepit_pack(2), 3) &&
+              refused(ulavrepit_word(ULAVREPIT_PACK, 1, 1, 0, 0, 0), 2) && refused(ulavrepit_word(ULAVREPIT_PACK, 1, 0, 1, 0, 0), 2) &&
+              refused(ulavrepit_word(ULAVREPIT_PACK, 0, 0, 0, 1, 0), 2) && refused(ulavrepit_word(ULAVREPIT_PACK, 0, 0, 0, 0, 1), 2) &&
+              refused(ulavrepit_pack(1) | 1, 2),
+          "pack of the parent, of an absent one: 3; a field not used, a zero bit: 2");
+}
+
 /* ---- the header's own functions ---- */
 
 static void test_packing(void)
@@ -490,7 +536,7 @@ static void test_packing(void)
               ulavrepit_read_region(1, 3) == UINT64_C(0xb100c00000000000) &&
               ulavrepit_find(1, 300) == UINT64_C(0xc1000000012c0000) &&
               ulavrepit_switch(1) == UINT64_C(0xd100000000000000) &&
-              ulavrepit_clear_out(1) == UINT64_C(0xe100000000000000),
+              ulavrepit_clear_out(1) == UINT64_C(0xe100000000000000) && ulavrepit_pack(1) == UINT64_C(0xf100000000000000),
           "the packers of the other services");
     check(make_b() && refused(ulavrepit_word(16, 0, 0, 0, 0, 0), 2) && refused(ulavrepit_switch(16), 2) &&
               refused(ulavrepit_create(32), 2) && refused(ulavrepit_merge(0, 32), 2) &&
@@ -537,6 +583,7 @@ int main(void)
     test_regions();
     test_clear_out();
     test_clear_out_by_a_child();
+    test_pack();
     test_places();
     test_packing();
     test_unpacking();

@@ -30,6 +30,8 @@ static uint64_t most_looked; /* by one listing of holders */
 static unsigned long cells[LAST_SERVICE + 1][LAST_REFUSAL + 1]; /* by service, or unload, and refusal number */
 static unsigned long missed[REGION_MISSES];       /* refused with 2, by what was wrong */
 static unsigned long cleared[SECOND_PARTITIONS];  /* clear outs, by the number of partitions removed */
+static unsigned long packs_of_none, packs_of_child, packs_with_region, packs_with_mark, packs_over_absent; /* of each kind */
+static unsigned long most_moved; /* entries, by one pack */
 static unsigned long alone[CLAUSES + 1];
 static unsigned long mismarked[MISMARKS];       /* S7 failed alone, by what is wrong with a whole entry */
 static unsigned long unlike[SECOND_PARTITIONS]; /* S11 failed alone, by who has unlike rights inside one grant */
@@ -89,7 +91,28 @@ static unsigned row_of(uint64_t word)
     unsigned service = (unsigned)(word >> 60);
     if (service == ULAVREPIT_LOAD && (word >> 43 & 7) != 0)
         return UNLOAD;
-    return service == 10 || service > LAST_SERVICE ? 0 : service;
+    return service == 10 ? 0 : service;
+}
+
+/* A pack of P that was done, and moved so many entries; the state is still the one before it. */
+static void note_pack(uint8_t p, unsigned long moved)
+{
+    const second_partition *q = &state.partitions[p];
+    bool region = false, mark = false, absent = false;
+    for (unsigned r = 0; r < SECOND_REGIONS; r++)
+        region = region || (q->regions[r].loaded && moves(&state, p, q->regions[r].slot));
+    for (uint8_t s = 0; s < SECOND_SLOTS; s++) {
+        mark = mark || (q->slots[s].whole && moves(&state, p, s));
+        for (uint8_t i = 0; moves(&state, p, s) && i < s / SECOND_STRUCTURE_SLOTS; i++)
+            absent = absent || !q->structures[i].present;
+    }
+    packs_of_none += moved == 0;
+    packs_of_child += moved > 0 && p != state.current;
+    packs_with_region += region;
+    packs_with_mark += mark;
+    packs_over_absent += absent;
+    if (moved > most_moved)
+        most_moved = moved;
 }
 
 /* Answers the refusal number. */
@@ -104,6 +127,8 @@ static unsigned call_both(uint64_t word)
     missed[region_missed(word)] += (their & 0xff) == ULAVREPIT_REFUSED_WORD;
     if (word >> 60 == ULAVREPIT_CLEAR_OUT && (their & 0xff) == 0)
         cleared[their >> 32 & 15]++;
+    if (word >> 60 == ULAVREPIT_PACK && (their & 0xff) == 0)
+        note_pack((uint8_t)(word >> 56 & 15), (unsigned long)(their >> 32));
     return (unsigned)(their & 0xff);
 }
 
@@ -319,7 +344,7 @@ static void session(unsigned long last)
 
 static const char *const names[LAST_SERVICE + 1] = {"", "create", "delete", "prepare", "collect", "give", "take", "cut",
                                                     "merge", "load", "unload", "read region", "find", "switch",
-                                                    "clear out"};
+                                                    "clear out", "pack"};
 
 static void print_cells(void)
 {
@@ -334,6 +359,9 @@ static void print_cells(void)
     printf("\n# clear outs by the number of partitions removed:");
     for (unsigned size = 1; size < SECOND_PARTITIONS; size++)
         printf(" %u: %lu%s", size, cleared[size], size < SECOND_PARTITIONS - 1 ? "," : "");
+    printf("\n# packs that moved nothing: %lu; a child's entries: %lu; one that a region names: %lu; one lent whole: %lu; one from\n"
+           "# above an absent structure: %lu; the most entries moved: %lu", packs_of_none, packs_of_child, packs_with_region,
+           packs_with_mark, packs_over_absent, most_moved);
     printf("\n# refused 2: service 9 with R above 1 %lu, with R 1 and S not 0 %lu, service 10 %lu", missed[RIGHTS_ABOVE_1],
            missed[UNLOAD_OF_A_SLOT], missed[SERVICE_10]);
     printf("\n# tables in which one clause failed alone:");
@@ -435,6 +463,9 @@ int main(int count, char **words)
           "blocks were lent whole and taken back, and no take of one was refused 14");
     check(every_child_unlike(), "S11 failed alone by unlike rights inside one grant, at each of the partitions 1 to 15");
     check(every_branch_cleared(), "branches of 1 to 15 partitions were cleared out");
+    check(packs_of_none > 0 && packs_of_child > 0 && packs_with_region > 0 && packs_with_mark > 0 && packs_over_absent > 0 &&
+              most_moved >= 16,
+          "packs moved nothing, a child's entries, what regions name or is lent whole, from above an absent structure, 16 at once");
     check(deepest == SECOND_PARTITIONS - 1, "chains of 15 levels below the root were met");
     check(most_runs == MOST_RUNS && short_lists >= last / 100, "324 runs, and lists too short, were met");
     check(most_looked == ULAVREPIT_LOOKS, "a listing of holders that looks at 512 slot words was met");

@@ -32,7 +32,7 @@ static uint8_t start[ULAVREPIT_TABLE_BYTES], table[ULAVREPIT_TABLE_BYTES];
 static uint8_t list[ULAVREPIT_HOLDERS_BYTES];
 static ulavrepit_run runs[ULAVREPIT_RUNS];
 static uint64_t argument;
-static bool accepted[ULAVREPIT_CLEAR_OUT + 1]; /* by service; there is no service 10, so unload is noted there */
+static bool accepted[ULAVREPIT_PACK + 1]; /* by service; there is no service 10, so unload is noted there */
 
 static void do_nothing(void)
 {
@@ -91,7 +91,7 @@ static void measure_services(uint32_t p, uint32_t s, uint32_t t, uint32_t line)
         ulavrepit_create(s), ulavrepit_delete(p), ulavrepit_prepare(p, s), ulavrepit_collect(p, t),
         ulavrepit_give(p, s, t & 7), ulavrepit_give_whole(p, s, t & 7), ulavrepit_take(s), ulavrepit_cut(s, line), ulavrepit_merge(s, t),
         ulavrepit_load(p, s, t), ulavrepit_unload(p, t), ulavrepit_read_region(p, t), ulavrepit_find(p, line),
-        ulavrepit_switch(p), ulavrepit_clear_out(p), 0};
+        ulavrepit_switch(p), ulavrepit_clear_out(p), ulavrepit_pack(p), 0};
     for (size_t i = 0; i < sizeof words / sizeof *words; i++)
         measure(1, do_call, words[i]);
 }
@@ -135,7 +135,7 @@ static void measure_script(void)
 
 static bool every_service_accepted(void)
 {
-    for (unsigned service = ULAVREPIT_CREATE; service <= ULAVREPIT_CLEAR_OUT; service++)
+    for (unsigned service = ULAVREPIT_CREATE; service <= ULAVREPIT_PACK; service++)
         if (!accepted[service])
             return false;
     return true;

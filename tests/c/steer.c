@@ -6,17 +6,17 @@
 
 const uint8_t service_checks[LAST_SERVICE + 1][8] = {
     {0}, {4, 5, 6, 8, 9, 18}, {3, 15}, {3, 4, 5, 6, 8, 9, 18}, {3, 4, 15}, {3, 4, 5, 6, 8, 10, 18}, {4, 6, 14},
-    {4, 5, 6, 7, 8, 18}, {4, 5, 6, 11, 12}, {3, 4, 5, 16}, {3, 16}, {3, 16}, {3, 7}, {3}, {3}};
+    {4, 5, 6, 7, 8, 18}, {4, 5, 6, 11, 12}, {3, 4, 5, 16}, {3, 16}, {3, 16}, {3, 7}, {3}, {3}, {3}};
 
 /* How often each service is tried, by mood. */
 static const uint8_t weights[MOODS][LAST_SERVICE + 1] = {
-    [MIXED] = {0, 7, 1, 8, 3, 12, 5, 14, 8, 8, 2, 2, 3, 12, 1},
-    [DEEP] = {0, 6, 1, 6, 1, 12, 3, 12, 4, 4, 1, 1, 2, 12, 0},
-    [WIDE] = {0, 20, 1, 6, 2, 6, 1, 18, 2, 3, 1, 1, 1, 6, 0},
-    [DENSE] = {0, 3, 0, 12, 1, 16, 2, 30, 2, 4, 1, 1, 2, 10, 0},
-    [LENDING] = {0, 5, 0, 10, 1, 26, 6, 18, 10, 3, 1, 1, 2, 16, 0},
-    [REGIONS] = {0, 5, 1, 7, 3, 10, 6, 10, 6, 24, 5, 5, 3, 10, 1},
-    [CLEARING] = {0, 14, 0, 8, 0, 12, 1, 12, 2, 8, 1, 1, 2, 14, 1}};
+    [MIXED] = {0, 7, 1, 8, 3, 12, 5, 14, 8, 8, 2, 2, 3, 12, 1, 4},
+    [DEEP] = {0, 6, 1, 6, 1, 12, 3, 12, 4, 4, 1, 1, 2, 12, 0, 1},
+    [WIDE] = {0, 20, 1, 6, 2, 6, 1, 18, 2, 3, 1, 1, 1, 6, 0, 1},
+    [DENSE] = {0, 3, 0, 12, 1, 16, 2, 30, 2, 4, 1, 1, 2, 10, 0, 1},
+    [LENDING] = {0, 5, 0, 10, 1, 26, 6, 18, 10, 3, 1, 1, 2, 16, 0, 3},
+    [REGIONS] = {0, 5, 1, 7, 3, 10, 6, 10, 6, 24, 5, 5, 3, 10, 1, 6},
+    [CLEARING] = {0, 14, 0, 8, 0, 12, 1, 12, 2, 8, 1, 1, 2, 14, 1, 1}};
 
 /* ---- the tree ---- */
 
@@ -457,6 +457,23 @@ static uint64_t clear_out(const second_table *t, uint8_t refusal, dice *d)
     return ulavrepit_clear_out(p);
 }
 
+bool moves(const second_table *t, uint8_t p, uint8_t s)
+{
+    for (uint8_t below_it = 0; is_entry(t, p, s) && below_it < s; below_it++)
+        if (is_free(t, p, below_it))
+            return true;
+    return false;
+}
+
+/* Rather a partition with an entry that moves. */
+static uint64_t pack(const second_table *t, uint8_t refusal, dice *d)
+{
+    uint8_t p = some_partition(t, ULAVREPIT_PACK, refusal, d);
+    for (unsigned tries = 0; refusal == 0 && tries < 3 && some_slot(t, p, moves, d) == SECOND_SLOTS; tries++)
+        p = some_partition(t, ULAVREPIT_PACK, refusal, d);
+    return ulavrepit_pack(p);
+}
+
 /* A word that is meant to be refused with the number, or accepted (0); of unload, one of service 9. */
 static uint64_t word_for(const second_table *t, uint8_t service, uint8_t refusal, dice *d)
 {
@@ -485,6 +502,8 @@ static uint64_t word_for(const second_table *t, uint8_t service, uint8_t refusal
         return find(t, refusal, d);
     case ULAVREPIT_CLEAR_OUT:
         return clear_out(t, refusal, d);
+    case ULAVREPIT_PACK:
+        return pack(t, refusal, d);
     default:
         return switch_to(t, refusal, d);
     }

@@ -16,10 +16,10 @@
 typedef enum { MIXED, DEEP, WIDE, DENSE, LENDING, REGIONS, CLEARING, MOODS } mood;
 
 /*
- * The services are 1 to 14 without 10. What service 9 does with R = 1, unload, has checks of its own and is counted by
+ * The services are 1 to 15 without 10. What service 9 does with R = 1, unload, has checks of its own and is counted by
  * itself: in row 10, which is free.
  */
-enum { UNLOAD = 10, LAST_SERVICE = 14 };
+enum { UNLOAD = 10, LAST_SERVICE = 15 };
 
 /* No call is refused with a higher number. */
 enum { LAST_REFUSAL = 18 };
@@ -61,5 +61,6 @@ bool is_closed(const second_table *t, uint8_t p, uint8_t s); /* an entry that is
 bool is_lent(const second_table *t, uint8_t p, uint8_t s);   /* an entry that is open and given */
 bool is_free(const second_table *t, uint8_t p, uint8_t s);   /* no entry, in a present structure */
 bool is_entry(const second_table *t, uint8_t p, uint8_t s);
+bool moves(const second_table *t, uint8_t p, uint8_t s);     /* an entry that a pack moves: a slot below it is free */
 
 #endif

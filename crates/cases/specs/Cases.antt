@@ -1,7 +1,7 @@
 -- 01's "A session printed whole" and "Checked by the prover, and by a run": one list, `cases`, and a single statement over it, `every-case`.
 -- The checker computes every case by the rules that the contracts cite: callOn, bootOn, wordsAfter, holdersOutcome, holdersBytes; on ARMv7-M.
 use mathlib.Core.Path.{_≡_, refl, ap₂}
-use mathlib.Core.Bool.{Bool, true, false, _&&_, and-eq-true-iff, false≢true}
+use mathlib.Core.Bool.{Bool, true, false, cond, _&&_, and-eq-true-iff, false≢true}
 use mathlib.Core.List.{List, [], _∷_, _++_, map}
 use Prim.Native.Nat.{ℕ, _+_, _*_, _^_}
 use native.Mathlib.Decide.{ℕ-discrete}
@@ -28,7 +28,8 @@ use Rattle.tables.specs.declared.Outcome.{Outcome}
 use Rattle.sound.specs.Clauses.{when, has, isNowhere, long, s1, s2Root, s2Other, s2, blankRegion, s3Regions, s3First, s3, rooted, s4Area, s4Absent, s4, s5Slot, s5, apartE, s6, held, covered, s7Root, s7Given, grants, s7Inside, s7Cover, lends, undivided, s7Whole, s7, equals, s8Backed, s8Apart, s8, s9, s10Names, s10Once, s10, full, within, s11Within, containsBoth, oneGrant, sameRights, s11Equal, s11, clauseAt, sound}
 use Rattle.sound.specs.Holders.{receiver, givenBy, heir, deepest, trail, holdersOf, sumOver, looksOf, inMemory, holdersOutcome, holdersBytes}
 use Rattle.rules.specs.Ran.{outcomeOf}
-use Rattle.rules.specs.Rules.{Result, check, need, ownOrChild, parentOrChild, freeEntry, create, delete, prepare, vacant, collect, give, returned, take, cut, merge, elsewhere, load, unload, regionWord, readRegion, find, switch, ungive, branch, clearOut, noRights, uses, unused, regionCall, known, perform, serve, serveRead, callOn, bootOn, wordsAfter}
+use Rattle.rules.specs.Pack.{usable, rename, moveTo, packSlot, packed}
+use Rattle.rules.specs.Rules.{Result, check, need, ownOrChild, parentOrChild, freeEntry, create, delete, prepare, vacant, collect, give, returned, take, cut, merge, elsewhere, load, unload, regionWord, readRegion, find, switch, ungive, branch, clearOut, pack, noRights, uses, unused, regionCall, known, perform, serve, serveRead, callOn, bootOn, wordsAfter}
 
 -- ── a case: what is computed, and what 01 says ──
 abbrev pub Case : Type 0
@@ -150,6 +151,33 @@ D = encode (settle (record {
 unfoldable pub A : List ℕ
 A = run B (0x7000000002000000 ∷ 0x7000000001100000 ∷ 0x7010000001200000 ∷ []) .1
 
+-- ── 02's story of a long day (111): partition 1 has one entry in each of its four structures, whose areas are entries of the root ──
+-- things of a partition, each with its number
+abbrev placed : {A : Type 0} → List (ℕ × A) → ℕ → Opt A
+placed [] i = none
+placed ((j, x) ∷ xs) i = cond (eqb i j) (some x) (placed xs i)
+
+abbrev own : ℕ → ℕ → Entry
+own start stop = entry start stop 0 allRights false
+
+abbrev story : (ℕ → Opt Entry) → (ℕ → Opt ℕ) → List ℕ
+story slots regions = encode (settle (record {
+  base = 256;
+  stop = 1024;
+  current = 0;
+  parent = λ p. 0;
+  area = rows (area 0 0 ∷ area 0 0 ∷ []) (area 256 272 ∷ area 272 288 ∷ area 288 304 ∷ area 304 320 ∷ area 320 336 ∷ []) [] [];
+  slot = λ p. cond (eqb p 1) slots (rows (piece 256 272 0 ∷ piece 272 288 0 ∷ piece 288 304 0 ∷ piece 304 320 0 ∷ piece 320 336 0 ∷ piece 336 512 1 ∷ piece 512 1024 0 ∷ []) [] [] [] p);
+}) (λ p. cond (eqb p 1) regions (λ r. none)))
+
+-- in slots 3, 12, 17 and 30; regions 0 and 2 name the last two
+unfoldable pub E : List ℕ
+E = story (placed ((3, own 400 440) ∷ (12, own 336 400) ∷ (17, own 480 512) ∷ (30, own 440 480) ∷ [])) (placed ((0, 30) ∷ (2, 17) ∷ []))
+
+-- .. in slots 0 to 3
+unfoldable pub F : List ℕ
+F = story (placed ((0, own 400 440) ∷ (1, own 336 400) ∷ (2, own 480 512) ∷ (3, own 440 480) ∷ [])) (placed ((0, 3) ∷ (2, 2) ∷ []))
+
 -- ── the cases, in 01's order; a star as there ──
 abbrev pub casesOf : List ℕ → List ℕ × List ℕ → List Case
 casesOf B (lines, X) =
@@ -244,8 +272,28 @@ lentCases L =
     ∷ refuses L (word 6 0 3 0 0 + 2 ^ 15) 2
     ∷ []
 
+-- ── request 111 of 02; E and F as above ──
+abbrev pub packCases : List ℕ → List ℕ → List Case
+packCases E F =
+    let packs = run E (word 15 1 0 0 0 ∷ []) in
+    let collects = run F (word 4 1 0 1 0 ∷ word 4 1 0 2 0 ∷ word 4 1 0 3 0 ∷ []) in
+    -- E, collect structure 3 of 1, which has an entry: 15
+    refuses E (word 4 1 0 3 0) 15
+    -- E, pack 1: done, 4; afterwards F: the entries stand in slots 0 to 3 in unchanged slot order, and regions 0 and 2 have followed theirs
+    ∷ (packs .0, 0 ∷ 4 ∷ 0 ∷ [])
+    ∷ (packs .1, F)
+    -- F, collect structures 1, 2 and 3 of 1, which are not needed: done
+    ∷ (collects .0, 0 ∷ 0 ∷ 0 ∷ 0 ∷ 0 ∷ 0 ∷ 0 ∷ 0 ∷ 0 ∷ [])
+    -- F, pack 1 once more: none moves; pack 0, the caller: none
+    ∷ gives F (word 15 1 0 0 0) 0 0
+    ∷ gives E (word 15 0 0 0 0) 0 0
+    -- E, pack 2, which is absent: 3; pack with a slot: 2
+    ∷ refuses E (word 15 2 0 0 0) 3
+    ∷ refuses E (word 15 1 1 0 0) 2
+    ∷ []
+
 abbrev pub cases : List Case
-cases = casesOf B session ++ furtherCases B (session .1) D A ++ lentCases L
+cases = casesOf B session ++ furtherCases B (session .1) D A ++ lentCases L ++ packCases E F
 
 -- ── a test that every case is right: the list is then computed once, not once for each side ──
 abbrev equal : List ℕ → List ℕ → Bool
@@ -291,6 +339,14 @@ lent-right : right (lentCases L) ≡ true
 unfolding B L carried rest tabFrom climb first header structure regions slot call firstWord recordWord areaWordAt regionsWordAt blankWordAt slotWordAt view viewK entryIn headerArea structureArea areaIn nth named inside parentAt encode slotWord headerWord structureWord regionFor regionsWord partWord wordFor pick upd upd1 both? ℕ-discrete lowest present absent absentChild child hasChild noStructure free holds lookedAt meets apart clear openBit openAt keep settle zeroTo zeroBlanks when has isNowhere long s1 s2Root s2Other s2 blankRegion s3Regions s3First s3 rooted s4Area s4Absent s4 s5Slot s5 apartE s6 held covered s7Root s7Given grants s7Inside s7Cover lends undivided s7Whole s7 equals s8Backed s8Apart s8 s9 s10Names s10Once s10 full within s11Within containsBoth oneGrant sameRights s11Equal s11 clauseAt sound receiver givenBy heir deepest trail holdersOf sumOver looksOf inMemory holdersOutcome holdersBytes check need ownOrChild parentOrChild freeEntry create delete prepare vacant collect give returned take cut merge elsewhere load unload regionWord readRegion find switch ungive branch clearOut sum noRights uses unused regionCall known perform serve serveRead callOn bootOn wordsAfter outcomeOf
 lent-right = refl
 
+pack-right : right (packCases E F) ≡ true
+unfolding E F carried rest tabFrom climb first header structure regions slot call firstWord recordWord areaWordAt regionsWordAt blankWordAt slotWordAt view viewK entryIn headerArea structureArea areaIn nth named inside parentAt encode slotWord headerWord structureWord regionFor regionsWord partWord wordFor pick upd upd1 both? ℕ-discrete lowest present absent absentChild child hasChild noStructure free holds lookedAt meets apart clear openBit openAt keep settle zeroTo zeroBlanks when has isNowhere long s1 s2Root s2Other s2 blankRegion s3Regions s3First s3 rooted s4Area s4Absent s4 s5Slot s5 apartE s6 held covered s7Root s7Given grants s7Inside s7Cover lends undivided s7Whole s7 equals s8Backed s8Apart s8 s9 s10Names s10Once s10 full within s11Within containsBoth oneGrant sameRights s11Equal s11 clauseAt sound receiver givenBy heir deepest trail holdersOf sumOver looksOf inMemory holdersOutcome holdersBytes check need ownOrChild parentOrChild freeEntry create delete prepare vacant collect give returned take cut merge elsewhere load unload regionWord readRegion find switch ungive branch clearOut usable rename moveTo packSlot packed pack sum noRights uses unused regionCall known perform serve serveRead callOn bootOn wordsAfter outcomeOf
+pack-right = refl
+
 -- ── the statement: in every case, what is computed is what 01 and 02 say ──
 pub every-case : computed cases ≡ expected cases
-every-case = right-says cases (right-both (casesOf B session) (furtherCases B (session .1) D A ++ lentCases L) base-right (right-both (furtherCases B (session .1) D A) (lentCases L) further-right lent-right))
+every-case =
+    let further = furtherCases B (session .1) D A in
+    right-says cases
+    (right-both (casesOf B session) (further ++ lentCases L ++ packCases E F) base-right
+    (right-both further (lentCases L ++ packCases E F) further-right (right-both (lentCases L) (packCases E F) lent-right pack-right)))

@@ -26,6 +26,7 @@ use Rattle.isolation.specs.Regions.{loadLadder, unloadLadder, readRegion
 use Rattle.isolation.specs.Find.{findLadder}
 use Rattle.isolation.specs.Switch.{switchLadder}
 use Rattle.isolation.specs.ClearOut.{clearLadder}
+use Rattle.isolation.specs.Pack.{packLadder}
 
 -- ── 2: fields that a service doesn't use are zero ──
 abbrev pub Rightless : Rights → Type 0
@@ -69,7 +70,8 @@ numberedLadder b n t f =
     (cond (eqb n 12) (findLadder t p l)
     (cond (eqb n 13) (switchLadder t p)
     (cond (eqb n 14) (clearLadder t p)
-    (must 2 ⊥ (finish 0 0 t))))))))))))))
+    (cond (eqb n 15) (packLadder t p)
+    (must 2 ⊥ (finish 0 0 t)))))))))))))))
 
 abbrev pub serveLadder : Board → Table → CallFields → Ladder
 serveLadder b t f = must 2 (Known f) (numberedLadder b (f .service) t f)

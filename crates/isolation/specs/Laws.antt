@@ -20,6 +20,10 @@ pub mod Regions
 pub mod Find
 pub mod Switch
 pub mod ClearOut
+pub mod PackOrder
+pub mod Pack
+pub mod PackNumber
+pub mod Packed
 pub mod Boot
 pub mod Exact
 pub mod Lent

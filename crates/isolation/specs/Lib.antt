@@ -14,6 +14,7 @@ pub mod Regions
 pub mod Find
 pub mod Switch
 pub mod ClearOut
+pub mod Pack
 pub mod Boot
 pub mod Whole
 pub mod Lent

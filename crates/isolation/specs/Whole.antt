@@ -37,6 +37,7 @@ use Rattle.isolation.specs.Laws.Regions.{load-right, unload-right, readR
 use Rattle.isolation.specs.Laws.Find.{find-same}
 use Rattle.isolation.specs.Laws.Switch.{switch-right}
 use Rattle.isolation.specs.Laws.ClearOut.{clear-right}
+use Rattle.isolation.specs.Laws.Pack.{pack-right}
 use Rattle.isolation.specs.Laws.Boot.{boot-right}
 
 -- ── one call ──
@@ -62,6 +63,7 @@ serve-right b {t} h f z =
       find = λ _ z. rw (find-same h p l z) h;
       switch = λ _. switch-right h p;
       clearOut = λ _. clear-right h p;
+      pack = λ _. pack-right h p;
     })
 
 -- services 11 and 12, read region and find

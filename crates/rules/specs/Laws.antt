@@ -1,5 +1,6 @@
 pub mod Each
 pub mod Branch
+pub mod Pack
 pub mod Ran
 pub mod Calls
 pub mod Reads

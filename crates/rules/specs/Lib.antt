@@ -1,3 +1,4 @@
+pub mod Pack
 pub mod Rules
 pub mod Branch
 pub mod Ran

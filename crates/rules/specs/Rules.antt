@@ -1,4 +1,4 @@
--- The rules of boot and of the thirteen services, in 01's order and words: the checks with their numbers, then the effect and the values.
+-- The rules of boot and of the fourteen services, in 01's order and words: the checks with their numbers, then the effect and the values.
 use mathlib.Core.Bool.{Bool, true, false, cond, not, _&&_, _||_}
 use mathlib.Core.List.{List}
 use Prim.Native.Nat.{ℕ, _+_, _*_, _^_}
@@ -22,6 +22,7 @@ use Rattle.tables.specs.Write.{withSlot, withArea, withCurrent}
 use Rattle.tables.specs.Search.{lowest, isSome, child, hasChild, absentChild, noStructure, free, lookFor}
 use Rattle.tables.specs.Settle.{settle}
 use Rattle.sound.specs.Clauses.{sound, has, long, within, oneGrant}
+use Rattle.rules.specs.Pack.{packed}
 
 -- done with its two values and the table after it, or refused with its number
 pub data Result : Type 0 where
@@ -238,6 +239,18 @@ clearOut t p =
     check 3 (child (t .k) (t .k .current) p)
     (done (count 16 (branch (t .k .parent) p)) 0 (remove t p (branch (t .k .parent) p)))
 
+-- ── 15 pack: P own or child; 3; entries to the lowest usable slots in unchanged slot order, regions follow them; entries moved, 0 ──
+abbrev pub packK : Table → ℕ → K
+packK t p = withSlot (t .k) (upd1 (t .k .slot) p (packed t p .slot))
+
+abbrev pub packRegion : Table → ℕ → ℕ → ℕ → Opt ℕ
+packRegion t p = upd1 (t .region) p (packed t p .region)
+
+unfoldable pub pack : Table → ℕ → Result
+pack t p =
+    check 3 (ownOrChild (t .k) p)
+    (done (packed t p .moved) 0 (settle (packK t p) (packRegion t p)))
+
 -- ── a call word ──
 unfoldable pub noRights : Rights → Bool
 noRights r = not (r .read) && not (r .write) && not (r .execute)
@@ -267,7 +280,8 @@ uses n =
     (cond (eqb n 12) (some (record { p = true; s = false; u = false; r = false; l = true; w = false }))
     (cond (eqb n 13) (some (record { p = true; s = false; u = false; r = false; l = false; w = false }))
     (cond (eqb n 14) (some (record { p = true; s = false; u = false; r = false; l = false; w = false }))
-    none))))))))))))
+    (cond (eqb n 15) (some (record { p = true; s = false; u = false; r = false; l = false; w = false }))
+    none)))))))))))))
 
 -- a field that the service doesn't use is 0
 unfoldable pub unused : Uses → CallFields → Bool
@@ -303,7 +317,8 @@ numbered b n t f =
     (cond (eqb n 12) (find t p l)
     (cond (eqb n 13) (switch t p)
     (cond (eqb n 14) (clearOut t p)
-    (refused 2)))))))))))))
+    (cond (eqb n 15) (pack t p)
+    (refused 2))))))))))))))
 
 unfoldable pub perform : Board → Table → CallFields → Result
 perform b t f = numbered b (f .service) t f

@@ -5,3 +5,4 @@ pub mod AreaExits
 pub mod DeleteExits
 pub mod ClearExits
 pub mod Boot
+pub mod PackExits

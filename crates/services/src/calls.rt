@@ -98,6 +98,7 @@ fn known(f: CallFields) -> bool
         12 => unused(true, false, false, false, true, false, f),
         13 => unused(true, false, false, false, false, false, f),
         14 => unused(true, false, false, false, false, false, f),
+        15 => unused(true, false, false, false, false, false, f),
         _ => false,
     }
 }
@@ -134,6 +135,7 @@ fn perform(board: Board, t: &mut [u64; 641], f: CallFields) -> Outcome
         12 => crate::looks::find(t, f.partition, f.line),
         13 => crate::looks::switch(t, f.partition),
         14 => crate::clear_service::clear_out(t, f.partition),
+        15 => crate::pack::pack(t, f.partition),
         _ => Outcome::Refused(2),
     }
 }

@@ -9,6 +9,7 @@ pub mod calls;
 pub mod clear_service;
 pub mod delete_service;
 pub mod looks;
+pub mod pack;
 pub mod region_services;
 pub mod who;
 

@@ -162,6 +162,7 @@ module _ {base end : ℕ} {g : Ledger} {ms : List ℕ} (fit : Memory (length ms)
           find = λ y _. rw y same;
           switch = λ y _. rw y same;
           clearOut = λ y x. rw y (clear-follows p x);
+          pack = λ y _. rw y same;
         })
 
 -- ── any call ──

@@ -34,6 +34,7 @@ use Rattle.isolation.specs.Laws.Regions.{load-exact, unload-exact, readR
 use Rattle.isolation.specs.Laws.Find.{find-exact}
 use Rattle.isolation.specs.Laws.Switch.{switch-exact}
 use Rattle.isolation.specs.Laws.ClearOut.{clear-exact}
+use Rattle.isolation.specs.Laws.Pack.{pack-exact}
 use Rattle.isolation.specs.Exact.{Unused, RegionCall, Known, numberedLadder, serveLadder, callLadder}
 
 -- ── 2: fields that a service doesn't use are zero ──
@@ -99,6 +100,7 @@ module _ (board : Board) {t : Table} (h : Right t) (f : CallFields) where
         find = at 12 (find-exact h p l);
         switch = at 13 (switch-exact h p);
         clearOut = at 14 (clear-exact h p);
+        pack = at 15 (pack-exact h p);
       }))
 
 module _ (board : Board) (l : List ℕ) (w : ℕ) (small : Words l) where

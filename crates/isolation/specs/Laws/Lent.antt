@@ -46,6 +46,7 @@ use Rattle.isolation.specs.Laws.Regions.{load-done, unload-done, readReg
 use Rattle.isolation.specs.Laws.Find.{find-same}
 use Rattle.isolation.specs.Laws.Switch.{switch-done}
 use Rattle.isolation.specs.Laws.ClearOut.{branch-goes, clear-done}
+use Rattle.isolation.specs.Laws.Pack.{pack-lowered, pack-done}
 
 -- ── take ──
 module _ {t : Table} (h : Right t) {s c : ℕ} (b : LentWhole (t .k) (t .k .current) s c) where
@@ -165,4 +166,5 @@ module _ {t : Table} (h : Right t) {i : ℕ} {a : Entry} (u : t .k .slot (t .k .
         find = λ _ x. rw (find-same h p l x) (i, u);
         switch = λ _ x. let (c, q) = switch-done h p x in rw q (i, u);
         clearOut = λ _ x. let (c, _, q) = clear-done h p x in rw q (gone (branch-goes (h .core) c));
+        pack = λ _ x. let (_, _, q) = pack-done h p x in let (m, _, v) = pack-lowered h p (t .k .current) .now i a u in rw q (m, v);
       })

@@ -85,7 +85,7 @@ module _ {k : K} (h : Core k) {new : ℕ → ℕ → Opt Entry} where
   }
 
   -- where what is around an old entry stays, a whole one is whole
-  whole-stays : {p i : ℕ} {a : Entry} → k .slot p i ≡ some a → Stays k new p a → a .whole ≡ true → Whole (k .area) new (k .parent) p a
+  pub whole-stays : {p i : ℕ} {a : Entry} → k .slot p i ≡ some a → Stays k new p a → a .whole ≡ true → Whole (k .area) new (k .parent) p a
   whole-stays {p} {i} {a} u s z =
       let w = h .s7-whole p i a u z in
       let o = h .s7-in p i a u (w .other) in

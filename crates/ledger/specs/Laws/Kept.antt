@@ -51,6 +51,7 @@ use Rattle.isolation.specs.Laws.Regions.{load-done, unload-done, readRegion-sam
 use Rattle.isolation.specs.Laws.Find.{find-same}
 use Rattle.isolation.specs.Laws.Switch.{switch-done}
 use Rattle.isolation.specs.Laws.ClearOut.{branch-goes, clear-done}
+use Rattle.isolation.specs.Laws.Pack.{pack-done, pack-holds}
 use Rattle.isolation.specs.Laws.Boot.{boot-exact, boot-holds, boot-right}
 use Rattle.isolation.specs.Whole.{serve-right, served, afterAll}
 use Rattle.ledger.specs.Ledger.{Ledger, opening, Lines, among, adopt, enter, strikeAll, apply, childFor, struck, accepted, eventOf, noted, answerOn, linesOf, linesNamed, keptOn}
@@ -172,6 +173,7 @@ module _ {base end : ℕ} {g : Ledger} {t : Table} (h : Right t) (s : Keeps base
         find = λ y x. rw (y, find-same h p m x) s;
         switch = λ y x. let (_, q) = switch-done h p x in rw (y, q) (quiet refl refl refl (λ p l. Iff·rfl));
         clearOut = λ y x. rw y (clear-kept p x);
+        pack = λ y x. let (_, _, q) = pack-done h p x in rw (y, q) (quiet refl refl refl (pack-holds h p));
       })
 
 -- ── any list of calls ──

@@ -15,7 +15,9 @@ use Rattle.tables.specs.View.{view}
 use Rattle.tables.specs.Search.{lowest}
 use Rattle.tables.specs.Laws.Search.{lowest-some}
 use Rattle.tables.specs.declared.Outcome.the-variants.{Done, Refused}
-use Rattle.rules.specs.Rules.{Result, done, refused, check, need, freeEntry, create, delete, prepare, collect, give, take, cut, merge, load, unload, readRegion, find, switch, branch, clearOut, serve, callOn, bootOn}
+use Rattle.rules.specs.Rules.{Result, done, refused, check, need, freeEntry, create, delete, prepare, collect, give, take, cut, merge, load, unload, readRegion, find, switch, branch, clearOut, pack, serve, callOn, bootOn}
+use Rattle.rules.specs.Pack.{packingOf, usable, packed}
+use Rattle.rules.specs.Laws.Pack.{packed-few}
 use Rattle.rules.specs.Laws.Each.{serve-each}
 use Rattle.rules.specs.Ran.{outcomeOf}
 use Rattle.rules.specs.Laws.Ran.{refused-done, done-first, refused-number}
@@ -104,6 +106,10 @@ module _ (t : Table) where
   unfolding clearOut
   clear-brief p = checked 3 _ (omega arith) (brief-done (omega (arith, count-le 16 (branch (t .k .parent) p))))
 
+  pack-brief : (p : ℕ) → Brief (pack t p)
+  unfolding pack packed
+  pack-brief p = checked 3 _ (omega arith) (brief-done (omega (arith, packed-few (usable (t .k) p) (packingOf t p 0) 32)))
+
   -- ── a call word ──
   serve-brief : (board : Board) (f : CallFields) → Brief (serve board t f)
   serve-brief board f = serve-each Brief board t f (brief-refused (omega arith)) (record {
@@ -121,6 +127,7 @@ module _ (t : Table) where
     find = λ _. find-brief (f .partition .0) (f .line .0);
     switch = λ _. switch-brief (f .partition .0);
     clearOut = λ _. clear-brief (f .partition .0);
+    pack = λ _. pack-brief (f .partition .0);
   })
 
 pub call-brief : (board : Board) (l : List ℕ) (w : ℕ) → Brief (callOn board l w)

@@ -9,7 +9,7 @@ use Rattle.shapes.specs.declared.Board.{Board}
 use Rattle.tables.specs.State.{Opt, some, Table}
 use Rattle.sound.specs.Clauses.{has}
 use Rattle.sound.specs.Laws.Tests.{and-says}
-use Rattle.rules.specs.Rules.{Result, done, refused, check, create, delete, prepare, collect, give, take, cut, merge, load, unload, readRegion, find, switch, clearOut, Uses, uses, unused, regionCall, known, numbered, perform, serve}
+use Rattle.rules.specs.Rules.{Result, done, refused, check, create, delete, prepare, collect, give, take, cut, merge, load, unload, readRegion, find, switch, clearOut, pack, Uses, uses, unused, regionCall, known, numbered, perform, serve}
 use Rattle.rules.specs.Laws.Ran.{check-done}
 
 pub record EachService {ℓ} (C : Result → Type ℓ) (board : Board) (t : Table) (f : CallFields) : Type ℓ where
@@ -27,6 +27,7 @@ pub record EachService {ℓ} (C : Result → Type ℓ) (board : Board) (t : Tabl
   pub find : f .service ≡ 12 → C (find t (f .partition .0) (f .line .0))
   pub switch : f .service ≡ 13 → C (switch t (f .partition .0))
   pub clearOut : f .service ≡ 14 → C (clearOut t (f .partition .0))
+  pub pack : f .service ≡ 15 → C (pack t (f .partition .0))
 
 module _ {ℓ} (C : Result → Type ℓ) (board : Board) (t : Table) (f : CallFields) where
   -- a row of `uses` and of `perform`, or the rows after it
@@ -62,7 +63,8 @@ module _ {ℓ} (C : Result → Type ℓ) (board : Board) (t : Table) (f : CallFi
       (row 12 _ _ _ _ (e .find)
       (row 13 _ _ _ _ (e .switch)
       (row 14 _ _ _ _ (e .clearOut)
-      (λ z. absurd (false≢true z)))))))))))))) (and-says (not (eqb (f .service) 9) || regionCall f) (has (λ y. unused y f) (uses (f .service))) h .1)
+      (row 15 _ _ _ _ (e .pack)
+      (λ z. absurd (false≢true z))))))))))))))) (and-says (not (eqb (f .service) 9) || regionCall f) (has (λ y. unused y f) (uses (f .service))) h .1)
 
   pub serve-each : C (refused 2) → EachService C board t f → C (serve board t f)
   unfolding check serve

@@ -18,7 +18,7 @@ use Rattle.sound.specs.Sound.{Present}
 use Rattle.sound.specs.Properties.{Child}
 use Rattle.sound.specs.Whole.{Right}
 use Rattle.rules.specs.Branch.{Under, itself as is-top, below}
-use Rattle.rules.specs.Rules.{done, areaOf, createK, removeK, remove, create, delete, prepare, collect, give, take, cut, merge, load, unload, readRegion, find, switch, clearOut, serve}
+use Rattle.rules.specs.Rules.{done, areaOf, createK, removeK, remove, create, delete, prepare, collect, give, take, cut, merge, load, unload, readRegion, find, switch, clearOut, pack, serve}
 use Rattle.rules.specs.Laws.Each.{done-each}
 use Rattle.isolation.specs.Laws.Settled.{settled-same}
 use Rattle.isolation.specs.Checks.{OwnOrChild}
@@ -36,6 +36,7 @@ use Rattle.isolation.specs.Laws.Regions.{load-done, unload-done, readRegion-sam
 use Rattle.isolation.specs.Laws.Find.{find-same}
 use Rattle.isolation.specs.Laws.Switch.{switch-done}
 use Rattle.isolation.specs.Laws.ClearOut.{branch-goes, clear-done}
+use Rattle.isolation.specs.Laws.Pack.{pack-done}
 use Rattle.untouched.specs.Untouched.{Outside}
 use Rattle.untouched.specs.Laws.Frame.{Alike, Frame}
 
@@ -177,6 +178,11 @@ module _ {b : ℕ} {t : Table} (h : Right t) (home : Present (t .k) b) (inside :
   region-step {p} r x c = settled-step (record { alike = λ q o. same; stays = home; tree = λ q v. inl (v, refl) })
       (λ q i o. upd-other (t .region) p r x q i (λ z. not-in (own-in c) o (z .0)))
 
+  -- the slots and regions of p
+  row-step : {p : ℕ} (slot : ℕ → Opt Entry) (region : ℕ → Opt ℕ) → OwnOrChild k p → Step b t (settle (withSlot k (upd1 (k .slot) p slot)) (upd1 (t .region) p region))
+  row-step {p} slot region c = settled-step (slots-frame (λ q i o. row-other (k .slot) p slot q i (not-in (own-in c) o)))
+      (λ q r o. row-other (t .region) p region q r (not-in (own-in c) o))
+
   current-frame : (p : ℕ) → Frame b k (withCurrent k p)
   current-frame p = record { alike = λ q o. record { parent = refl; area = λ j. refl; slot = λ i. refl }; stays = home; tree = λ q v. inl (v, refl) }
 
@@ -206,4 +212,5 @@ module _ {b : ℕ} {t : Table} (h : Right t) (home : Present (t .k) b) (inside :
         find = λ _ x. same-step (find-same h p l x);
         switch = λ _ x. let (c, q) = switch-done h p x in rw q (settled-step (current-frame p) (λ p r o. refl));
         clearOut = λ _ x. let (c, _, q) = clear-done h p x in rw q (remove-step (branch-goes (h .core) c));
+        pack = λ _ x. let (c, _, q) = pack-done h p x in rw q (row-step _ _ c);
       })

@@ -24,6 +24,7 @@ known-spec =
     (λ c κs. search needs)
     (λ c κs. search needs)
     (λ c κs. search needs)
+    (λ c κs. search needs)
     (λ c. c .unused .ensures ∙ known-at 1 _ (c .before .match .keys1) refl)
     (λ c. c .unused2 .ensures ∙ known-at 2 _ (c .before .match .keys2) refl)
     (λ c. c .unused3 .ensures ∙ known-at 3 _ (c .before .match .keys3) refl)
@@ -37,4 +38,5 @@ known-spec =
     (λ c. c .unused10 .ensures ∙ known-at 12 _ (c .before .match .keys11) refl)
     (λ c. c .unused11 .ensures ∙ known-at 13 _ (c .before .match .keys12) refl)
     (λ c. c .unused12 .ensures ∙ known-at 14 _ (c .before .match .keys13) refl)
+    (λ c. c .unused13 .ensures ∙ known-at 15 _ (c .before .match .keys14) refl)
     (λ c. known-not _ (c .match .rest)))

@@ -23,6 +23,7 @@ perform-spec =
     (λ c κs. (c .before .before .pre .0, c .before .before .pre .1 .partition, c .before .before .pre .3))
     (λ c κs. (c .before .before .pre .0, c .before .before .pre .1 .partition, c .before .before .pre .3))
     (λ c κs. (c .before .before .pre .0, c .before .before .pre .1 .partition, c .before .before .pre .3))
+    (λ c κs. (c .before .before .pre .0, c .before .before .pre .1 .partition, c .before .before .pre .3))
     (λ c. ran-as (perform-at _ 1 _ _ (c .before .before .match .keys1)) (c .create .ensures))
     (λ c. ran-as (perform-at _ 2 _ _ (c .before .before .match .keys2)) (c .delete .ensures))
     (λ c. ran-as (perform-at _ 3 _ _ (c .before .before .match .keys3)) (c .prepare .ensures))
@@ -36,4 +37,5 @@ perform-spec =
     (λ c. ran-as (perform-at _ 12 _ _ (c .before .before .match .keys11)) (c .find .ensures))
     (λ c. ran-as (perform-at _ 13 _ _ (c .before .before .match .keys12)) (c .switch .ensures))
     (λ c. ran-as (perform-at _ 14 _ _ (c .before .before .match .keys13)) (c .clear-out .ensures))
+    (λ c. ran-as (perform-at _ 15 _ _ (c .before .before .match .keys14)) (c .pack .ensures))
     (λ c. absurd (false≢true (known-not _ (c .match .rest) ∙ c .before .pre .2))))

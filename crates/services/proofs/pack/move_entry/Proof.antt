@@ -1,0 +1,18 @@
+use mathlib.Core.Bool.{false}
+use Rattle.tables.specs.State.{Table, none}
+use Rattle.tables.specs.Laws.Encode.{is-canon}
+use Rattle.tables.specs.Write.{putSlot}
+use Rattle.writing.specs.Laws.Stored.{is-then}
+use Rattle.services.specs.PackExits.{renamed}
+use borrow.Author.Needs.{needs}
+use Rattle.services.proofs.pack.move_entry.Statement.{statement}
+use Rattle.services.proofs.pack.move_entry.Tie as tie
+
+pub move-entry-spec : {M : Type 1} → statement M
+move-entry-spec =
+    tie.close
+    (tie.spec
+    (λ c κs. search needs)
+    (λ c κs. record { canon = is-canon (c .before .put-entry .ensures); inP = c .before .before .before .pre .0 .inP; inI = c .before .before .before .pre .1 })
+    (λ c κs. (is-canon (c .before .clear-entry .ensures), c .before .before .before .before .before .pre .0 .inP, c .before .before .before .before .before .pre .0 .inI))
+    (λ c. is-then (λ (t : Table). renamed t (c .before .before .before .before .before .before .args .p .0) (c .before .before .before .before .before .before .args .i .0) (c .before .before .before .before .before .before .args .j .0)) (is-then (λ (t : Table). putSlot t (c .before .before .before .before .before .before .args .p .0) (c .before .before .before .before .before .before .args .i .0) none false) (c .before .before .before .before .put-entry .ensures) (c .before .before .clear-entry .ensures)) (c .rename-regions .ensures)))
