@@ -10,9 +10,10 @@
 
 static volatile uint32_t *const timer = (volatile uint32_t *)0xe000e010; /* control, start, value; it counts down from 2^24 */
 
-static const kernel library = {ulavrepit_boot, ulavrepit_call, ulavrepit_holders, ulavrepit_runs};
+static const kernel library = {ulavrepit_boot, ulavrepit_call, ulavrepit_holders, ulavrepit_runs, ulavrepit_pieces};
 static uint8_t start[ULAVREPIT_TABLE_BYTES], table[ULAVREPIT_TABLE_BYTES], list[ULAVREPIT_HOLDERS_BYTES];
 static ulavrepit_run runs[ULAVREPIT_RUNS];
+static uint64_t pieces[ULAVREPIT_PIECES];
 
 /* What is done with the argument: answers as the library does. */
 static uint64_t argument;
@@ -51,6 +52,12 @@ static uint64_t holders(void)
 static uint64_t list_runs(void)
 {
     return ulavrepit_runs(table, sizeof table, runs, ULAVREPIT_RUNS);
+}
+
+/* Of the root's slot. */
+static uint64_t list_pieces(void)
+{
+    return ulavrepit_pieces(table, sizeof table, 0, argument, pieces, ULAVREPIT_PIECES);
 }
 
 /* Ticks of the work on the table in 'start', and its refusal. */
@@ -95,6 +102,7 @@ int main(void)
     row("cut, fresh", call, ulavrepit_cut(0, 512), 0);
     row("create, fresh", call, ulavrepit_create(0), 0);
     row("runs, fresh", list_runs, 0, 0);
+    row("pieces, fresh", list_pieces, 0, 0);
 
     good = make_typical(&library, start) && good;
     row("find, typical", call, ulavrepit_find(0, 8000), 0);
@@ -110,6 +118,7 @@ int main(void)
     row("delete, typical", call, ulavrepit_delete(5), 0);
     row("clear out a child with two of its own, typical", call, ulavrepit_clear_out(1), 0);
     row("runs, typical", list_runs, 0, 0);
+    row("pieces, typical", list_pieces, 10, 0);
     row("no service (refused 2), typical", call, 0, 2);
     start[LAST_ZERO_BYTE] ^= 1;
     row("find, typical with the last zero bit set (refused 1)", call, ulavrepit_find(0, 8000), 1);

@@ -21,13 +21,29 @@
 
 enum { ROUNDS = 301, BATCH_NANOSECONDS = 300000, WORDS = 2 };
 
-static uint64_t second_runs_too(const uint8_t *t, uint64_t len, ulavrepit_run *list, uint64_t list_len)
+/* The second program, for the library's board. */
+static uint64_t call_v7(uint8_t *t, uint64_t len, uint64_t word, uint64_t *value)
 {
-    return second_runs(t, len, (second_run *)list, list_len);
+    return second_call(SECOND_V7, t, len, word, value);
 }
 
-static const kernel library = {ulavrepit_boot, ulavrepit_call, ulavrepit_holders, ulavrepit_runs};
-static const kernel second = {second_boot, second_call, second_holders, second_runs_too};
+static uint64_t holders_v7(const uint8_t *t, uint64_t len, uint64_t line, uint8_t *list, uint64_t list_len, uint64_t *value)
+{
+    return second_holders(SECOND_V7, t, len, line, list, list_len, value);
+}
+
+static uint64_t runs_v7(const uint8_t *t, uint64_t len, ulavrepit_run *list, uint64_t list_len)
+{
+    return second_runs(SECOND_V7, t, len, (second_run *)list, list_len);
+}
+
+static uint64_t pieces_v7(const uint8_t *t, uint64_t len, uint64_t partition, uint64_t slot, uint64_t *list, uint64_t list_len)
+{
+    return second_pieces(SECOND_V7, t, len, partition, slot, list, list_len);
+}
+
+static const kernel library = {ulavrepit_boot, ulavrepit_call, ulavrepit_holders, ulavrepit_runs, ulavrepit_pieces};
+static const kernel second = {second_boot, call_v7, holders_v7, runs_v7, pieces_v7};
 
 static void must(bool good, const char *what)
 {
@@ -41,7 +57,10 @@ static void must(bool good, const char *what)
 
 static uint8_t table[ULAVREPIT_TABLE_BYTES];
 
-/* Call words to be carried out in turn, which leave the table as it was; or a line whose holders are listed. */
+/*
+ * Call words to be carried out in turn, which leave the table as it was; or a line whose holders are listed; or, in the place
+ * of the words, a partition and a slot whose pieces are.
+ */
 typedef struct {
     const char *name;
     uint64_t words[WORDS];
@@ -77,6 +96,12 @@ static bool do_runs(const kernel *k, const job *j)
 {
     static ulavrepit_run list[ULAVREPIT_RUNS];
     return (k->runs(table, sizeof table, list, ULAVREPIT_RUNS) & 0xff) == j->refusal;
+}
+
+static bool do_pieces(const kernel *k, const job *j)
+{
+    uint64_t list[ULAVREPIT_PIECES];
+    return (k->pieces(table, sizeof table, j->words[0], j->words[1], list, ULAVREPIT_PIECES) & 0xff) == j->refusal;
 }
 
 /* ---- timing ---- */
@@ -185,8 +210,8 @@ static void have_table(bool make(const kernel *k, uint8_t *t), const char *name)
         must(fwrite(table, sizeof table, 1, saved) == 1, name);
 }
 
-/* Holders, find, load with unload of the entry that holds the line, and runs, on the table as it is. */
-static void table_rows(const char *const names[4], uint64_t line)
+/* Holders, find, load with unload of the entry that holds the line, runs, and that entry's pieces, on the table as it is. */
+static void table_rows(const char *const names[5], uint64_t line)
 {
     uint64_t word;
     uint32_t current = (uint32_t)(table[7] >> 6 | (table[6] & 3) << 2);
@@ -198,8 +223,10 @@ static void table_rows(const char *const names[4], uint64_t line)
     report(do_holders, &listing, 1);
     report(do_calls, &finding, WORDS);
     job running = {names[3], {0}, 0, ULAVREPIT_DONE};
+    job listing_pieces = {names[4], {current, slot}, 0, ULAVREPIT_DONE};
     report(do_calls, &loading, WORDS);
     report(do_runs, &running, 1);
+    report(do_pieces, &listing_pieces, 1);
 }
 
 /* A call and the one that undoes it, on the table as it is. */
@@ -212,9 +239,12 @@ static void undone_row(const char *name, uint64_t word, uint64_t undoing)
 /* Every row, on its table. */
 static void rows(void)
 {
-    static const char *const fresh[] = {"holders, fresh", "find, fresh", "load and unload, fresh", "runs, fresh"};
-    static const char *const typical[] = {"holders, typical", "find, typical", "load and unload, typical", "runs, typical"};
-    static const char *const densest[] = {"holders, densest", "find, densest", "load and unload, densest", "runs, densest"};
+    static const char *const fresh[] = {"holders, fresh", "find, fresh", "load and unload, fresh", "runs, fresh",
+                                        "pieces, fresh"};
+    static const char *const typical[] = {"holders, typical", "find, typical", "load and unload, typical", "runs, typical",
+                                          "pieces, typical"};
+    static const char *const densest[] = {"holders, densest", "find, densest", "load and unload, densest", "runs, densest",
+                                          "pieces, densest"};
     job most_runs = {"runs, the most", {0}, 0, ULAVREPIT_DONE};
     job booting = {"boot", {0}, 1024, ULAVREPIT_DONE};
     job refused_word = {"call refused 2, typical", {0}, 0, ULAVREPIT_REFUSED_WORD};

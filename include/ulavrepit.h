@@ -2,7 +2,8 @@
  * Ulavrepit: the tables of a separation kernel, kept by a proved library (libulavrepit.a).
  *
  * Memory is counted in lines of 32 bytes. A block is start to end, end excluded. There are 16 partitions in a
- * tree; 0 is the root. Each has 4 structures of 8 slots (slots 0 to 31) and 8 regions.
+ * tree; 0 is the root. Each has 4 structures of 8 slots (slots 0 to 31) and 8 regions. The board is an ARMv7-M: a
+ * region of its MPU has a power of two of bytes, 32 or more, and lies at a multiple of them.
  *
  * The table is 5,128 bytes of your memory; the library keeps nothing of its own and may be called from any
  * context, but only once at a time for one table. Every call reads the whole table and refuses (1) one that is
@@ -29,6 +30,7 @@ enum {
     ULAVREPIT_HOLDERS_BYTES = 16,    /* a list for holders has so many bytes or more */
     ULAVREPIT_RUNS = 512,            /* no sound table has more runs */
     ULAVREPIT_LOOKS = 512,           /* no listing of holders looks at more slot words */
+    ULAVREPIT_PIECES = 52,           /* no entry has more pieces */
     ULAVREPIT_ENGINE_LINES = 2048    /* the line engine takes memory of so many lines or fewer */
 };
 
@@ -60,7 +62,8 @@ enum {
     ULAVREPIT_REFUSED_WORD = 2,           /* no such service, a zero bit set, a field that it doesn't use not 0 (W is
                                              give's alone); service 9: R above 1, or R = 1 and S not 0 */
     ULAVREPIT_REFUSED_PARTITION = 3,      /* P is not as the service says */
-    ULAVREPIT_REFUSED_NO_ENTRY = 4,       /* slot S (merge: S or T) is no entry; structure T absent or above 3 */
+    ULAVREPIT_REFUSED_NO_ENTRY = 4,       /* slot S (merge: S or T) is no entry; structure T absent or above 3;
+                                             pieces: also an absent partition, or a number out of range */
     ULAVREPIT_REFUSED_NOT_OPEN = 5,       /* the entry serves the kernel */
     ULAVREPIT_REFUSED_GIVEN = 6,          /* the entry is given already; take: it is not given */
     ULAVREPIT_REFUSED_LINE = 7,           /* cut, find, holders: line outside; boot: no such range */
@@ -75,6 +78,7 @@ enum {
     ULAVREPIT_REFUSED_REGION = 16,        /* T above 7; S already in another region */
     ULAVREPIT_REFUSED_LIST = 17,          /* the list is too short */
     ULAVREPIT_REFUSED_WHOLE = 18,         /* create, prepare, give, cut: the entry is lent whole */
+    ULAVREPIT_REFUSED_PIECES = 19,        /* load: the partition's loaded entries would have more than 8 pieces */
     ULAVREPIT_REFUSED_ENGINE = 21         /* the line engine alone gives it, and no other number */
 };
 
@@ -82,9 +86,9 @@ enum {
 
 /*
  * Each answers  refusal + 2^8 * caller + 2^32 * first;  bits 16 to 31 are zero. Refusal 0: done. The caller's
- * number is the one before the call; it is 0 where refusal is 1, and for boot, holders and runs. Refused: first is 0,
- * and *second, which is lent memory, stays as it was; it is written only when done. Pointers are never null; buffers
- * don't overlap.
+ * number is the one before the call; it is 0 where refusal is 1, and for boot, holders, runs and pieces. Refused: first
+ * is 0, and *second, which is lent memory, stays as it was; it is written only when done. Pointers are never null;
+ * buffers don't overlap.
  */
 
 /* Rewrites the whole table, whatever it holds: base to end, all of it the root's. First 0. */
@@ -116,6 +120,16 @@ typedef struct {
  * length is counted in records; those past them stay. First is n.
  */
 uint64_t ulavrepit_runs(const uint8_t *table, uint64_t table_len, ulavrepit_run *list, uint64_t list_len);
+
+/*
+ * The regions of the MPU that an entry takes: the fewest pieces that cover it exactly, each a power of two of lines at a
+ * multiple of it, in rising order. The first n words of the list, whose length is counted in words, become
+ * start * 2^32 + lines (ulavrepit_unpack_piece, below), and those past them stay. First is n, at most ULAVREPIT_PIECES.
+ * The entry may be loaded or not, open or not. Those that a partition has loaded have at most 8 pieces together, one for
+ * each region of the MPU: load refuses (19) what would make them more.
+ */
+uint64_t ulavrepit_pieces(const uint8_t *table, uint64_t table_len, uint64_t partition, uint64_t slot, uint64_t *list,
+                          uint64_t list_len);
 
 /* ---- the line engine ---- */
 
@@ -193,6 +207,12 @@ static inline ulavrepit_answer ulavrepit_runs_answer(const uint8_t *table, uint6
     return ulavrepit_unpack_answer(ulavrepit_runs(table, table_len, list, list_len), 0);
 }
 
+static inline ulavrepit_answer ulavrepit_pieces_answer(const uint8_t *table, uint64_t table_len, uint64_t partition,
+                                                       uint64_t slot, uint64_t *list, uint64_t list_len)
+{
+    return ulavrepit_unpack_answer(ulavrepit_pieces(table, table_len, partition, slot, list, list_len), 0);
+}
+
 /* ---- call words: service 4, P 4, S 5, T 5, R 3, L 27, W 1, zero 15 bits, most significant first ---- */
 
 /* What the packers answer for a field too wide: no call, refused with 2 by any sound table. */
@@ -256,19 +276,19 @@ static inline uint64_t ulavrepit_take(uint32_t slot)
     return ulavrepit_word(ULAVREPIT_TAKE, 0, slot, 0, 0, 0);
 }
 
-/* The entry ends at the line; a new one starts there. First: the new one's slot. */
+/* The entry ends at the line, and a region that named it names nothing; a new one starts there. First: the new one's slot. */
 static inline uint64_t ulavrepit_cut(uint32_t slot, uint32_t line)
 {
     return ulavrepit_word(ULAVREPIT_CUT, 0, slot, 0, 0, line);
 }
 
-/* The entry and the one that starts where it ends become one, in slot. */
+/* The entry and the one that starts where it ends become one, in slot; regions that named either name nothing. */
 static inline uint64_t ulavrepit_merge(uint32_t slot, uint32_t next_slot)
 {
     return ulavrepit_word(ULAVREPIT_MERGE, 0, slot, next_slot, 0, 0);
 }
 
-/* The region of the caller or a child names that partition's slot. */
+/* The region of the caller or a child names that partition's slot, if all that it has loaded then has at most 8 pieces. */
 static inline uint64_t ulavrepit_load(uint32_t partition, uint32_t slot, uint32_t region)
 {
     return ulavrepit_word(ULAVREPIT_LOAD, partition, slot, region, 0, 0);
@@ -339,6 +359,41 @@ static inline ulavrepit_entry ulavrepit_unpack_entry(uint64_t word)
     entry.end = (uint32_t)(word >> 1 & ULAVREPIT_LAST_LINE);
     entry.whole = (uint32_t)(word & 1);
     return entry;
+}
+
+/* ---- pieces, and the registers of an ARMv7-M's MPU for them ---- */
+
+typedef struct {
+    uint32_t start, lines; /* lines is a power of two, and start a multiple of it */
+} ulavrepit_piece;
+
+static inline ulavrepit_piece ulavrepit_unpack_piece(uint64_t word)
+{
+    ulavrepit_piece piece;
+    piece.start = (uint32_t)(word >> 32);
+    piece.lines = (uint32_t)word;
+    return piece;
+}
+
+/* MPU_RBAR: the address. VALID is 0, so the region is the one that MPU_RNR names. */
+static inline uint32_t ulavrepit_rbar(ulavrepit_piece piece)
+{
+    return piece.start * ULAVREPIT_LINE_BYTES;
+}
+
+/*
+ * MPU_RASR of a piece of an entry with these rights: XN (bit 28), AP (26 to 24), SIZE (5 to 1), ENABLE (0). Unprivileged code
+ * may do what the rights say, but for this: what it may not read, it may neither write nor execute. Privileged code reads and
+ * writes. TEX, S, C, B and the subregions' bits are 0: add what suits the memory.
+ */
+static inline uint32_t ulavrepit_rasr(ulavrepit_piece piece, uint32_t rights)
+{
+    uint32_t access = !(rights & ULAVREPIT_READ) ? 1 : rights & ULAVREPIT_WRITE ? 3 : 2;
+    uint32_t never_execute = !(rights & ULAVREPIT_EXECUTE);
+    uint32_t size = 4; /* 2^(size + 1) bytes: a line has 32 */
+    while (piece.lines >> (size - 4) > 1)
+        size++;
+    return never_execute << 28 | access << 24 | size << 1 | 1;
 }
 
 #ifdef __cplusplus

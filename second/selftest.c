@@ -113,13 +113,14 @@ typedef struct {
 } result;
 
 static uint8_t table[SECOND_BYTES];
+static second_board board = SECOND_V7;
 
 static result call_word_on(uint8_t *on, uint64_t word)
 {
     static uint8_t before[SECOND_BYTES];
     memcpy(before, on, SECOND_BYTES);
     uint64_t second = UNTOUCHED;
-    uint64_t a = second_call(on, SECOND_BYTES, word, &second);
+    uint64_t a = second_call(board, on, SECOND_BYTES, word, &second);
     result r = {(unsigned)(a & 0xff), (unsigned)(a >> 8 & 0xff), (uint32_t)(a >> 32), second, true};
     r.clean = (a >> 16 & 0xffff) == 0;
     if (r.refusal != 0)
@@ -133,7 +134,7 @@ static bool is_done(unsigned service, unsigned p, unsigned s, unsigned t, unsign
     unsigned caller = get(table, 0, CURRENT);
     result a = call_word_on(table, word_of(service, p, s, t, r, l));
     return a.clean && a.refusal == 0 && a.caller == caller && a.first == first &&
-           a.second == second && second_unsound(table, SECOND_BYTES) == 0;
+           a.second == second && second_unsound(board, table, SECOND_BYTES) == 0;
 }
 
 static bool is_refused(unsigned service, unsigned p, unsigned s, unsigned t, unsigned r, uint32_t l,
@@ -148,13 +149,13 @@ static bool is_refused(unsigned service, unsigned p, unsigned s, unsigned t, uns
 static bool goes(unsigned service, unsigned p, unsigned s, unsigned t, unsigned r, uint32_t l)
 {
     result a = call_word_on(table, word_of(service, p, s, t, r, l));
-    return a.clean && a.refusal == 0 && second_unsound(table, SECOND_BYTES) == 0;
+    return a.clean && a.refusal == 0 && second_unsound(board, table, SECOND_BYTES) == 0;
 }
 
 static bool boot_to(uint64_t base, uint64_t end)
 {
     return second_boot(table, SECOND_BYTES, base, end) == 0 &&
-           second_unsound(table, SECOND_BYTES) == 0;
+           second_unsound(board, table, SECOND_BYTES) == 0;
 }
 
 /* B is boot 256 to 1024. */
@@ -197,7 +198,7 @@ static bool holders_are(uint64_t line, const char *expected, unsigned n)
     uint8_t list[20];
     uint64_t second = UNTOUCHED;
     memset(list, 0xee, sizeof list);
-    if (second_holders(table, SECOND_BYTES, line, list, sizeof list, &second) != (uint64_t)n << 32)
+    if (second_holders(board, table, SECOND_BYTES, line, list, sizeof list, &second) != (uint64_t)n << 32)
         return false;
     for (unsigned i = 0; i < sizeof list; i++)
         if (list[i] != (i < n ? (uint8_t)expected[i] : 0xee))
@@ -209,7 +210,7 @@ static uint64_t sum_for(uint64_t line)
 {
     uint8_t list[SECOND_HOLDERS];
     uint64_t second = UNTOUCHED;
-    second_holders(table, SECOND_BYTES, line, list, sizeof list, &second);
+    second_holders(board, table, SECOND_BYTES, line, list, sizeof list, &second);
     return second;
 }
 
@@ -218,7 +219,7 @@ static bool holders_refused(uint64_t line, uint64_t list_len, unsigned refusal)
     uint8_t list[20];
     uint64_t second = UNTOUCHED;
     memset(list, 0xee, sizeof list);
-    if (second_holders(table, SECOND_BYTES, line, list, list_len, &second) != refusal)
+    if (second_holders(board, table, SECOND_BYTES, line, list, list_len, &second) != refusal)
         return false;
     for (unsigned i = 0; i < sizeof list; i++)
         if (list[i] != 0xee)
@@ -231,13 +232,13 @@ static bool runs_are(const second_run *expected, unsigned n)
     static second_run list[SECOND_RUNS + 1], blank[SECOND_RUNS + 1];
     memset(list, 0xee, sizeof list);
     memset(blank, 0xee, sizeof blank);
-    if (n > 0 && second_runs(table, SECOND_BYTES, list, n - 1) != 17)
+    if (n > 0 && second_runs(board, table, SECOND_BYTES, list, n - 1) != 17)
         return false;
     if (memcmp(list, blank, sizeof list) != 0)
         return false;
-    if (second_runs(table, SECOND_BYTES, list, n) != (uint64_t)n << 32)
+    if (second_runs(board, table, SECOND_BYTES, list, n) != (uint64_t)n << 32)
         return false;
-    if (second_runs(table, SECOND_BYTES, list, SECOND_RUNS + 1) != (uint64_t)n << 32)
+    if (second_runs(board, table, SECOND_BYTES, list, SECOND_RUNS + 1) != (uint64_t)n << 32)
         return false;
     return memcmp(list, expected, n * sizeof *list) == 0 &&
            memcmp(list + n, blank, (SECOND_RUNS + 1 - n) * sizeof *list) == 0;
@@ -371,12 +372,13 @@ static void test_lengths(void)
         memcpy(before, table, SECOND_BYTES);
         good = good && second_boot(at, lengths[i], 1, 2) == 1;
         good = good && second_boot(at, lengths[i], 2, 1) == 1;
-        good = good && second_call(at, lengths[i], word_of(CUT, 0, 0, 0, 0, 300), &second) == 1;
-        good = good && second_call(at, lengths[i], 0, &second) == 1;
-        good = good && second_holders(at, lengths[i], 300, before, 16, &second) == 1;
-        good = good && second_holders(at, lengths[i], 0, NULL, 0, &second) == 1;
-        good = good && second_runs(at, lengths[i], NULL, 0) == 1;
-        good = good && second_unsound(at, lengths[i]) == -1;
+        good = good && second_call(board, at, lengths[i], word_of(CUT, 0, 0, 0, 0, 300), &second) == 1;
+        good = good && second_call(board, at, lengths[i], 0, &second) == 1;
+        good = good && second_holders(board, at, lengths[i], 300, before, 16, &second) == 1;
+        good = good && second_holders(board, at, lengths[i], 0, NULL, 0, &second) == 1;
+        good = good && second_runs(board, at, lengths[i], NULL, 0) == 1;
+        good = good && second_pieces(board, at, lengths[i], 0, 0, NULL, 0) == 1;
+        good = good && second_unsound(board, at, lengths[i]) == -1;
         good = good && second == UNTOUCHED && memcmp(before, table, SECOND_BYTES) == 0;
     }
     check(good, "a wrong length: 1, nothing written");
@@ -387,7 +389,7 @@ static void test_refusal_1_and_2(void)
     make_x();
     set(table, 0, ZERO, 1);
     check(is_refused(CUT, 0, 1, 0, 0, 600, 1) && is_refused(0, 0, 0, 0, 0, 0, 1) &&
-              holders_refused(0, 0, 1) && second_runs(table, SECOND_BYTES, NULL, 0) == 1,
+              holders_refused(0, 0, 1) && second_runs(board, table, SECOND_BYTES, NULL, 0) == 1,
           "a table not sound: 1 before all others");
     uint64_t huge[] = {134217728, UINT64_C(1) << 32, (UINT64_C(1) << 32) + 300, UINT64_MAX};
     bool good = true;
@@ -396,7 +398,7 @@ static void test_refusal_1_and_2(void)
         good = good && second_boot(table, SECOND_BYTES, huge[i], huge[i] + 1) == 7;
         good = good && second_boot(table, SECOND_BYTES, huge[i], 5) == 7;
     }
-    check(good && second_unsound(table, SECOND_BYTES) == 3, "boot with a number above 134,217,727: 7");
+    check(good && second_unsound(board, table, SECOND_BYTES) == 3, "boot with a number above 134,217,727: 7");
     check(boot_to(256, 1024), "boot takes a table that is not sound");
 
     make_x();
@@ -454,9 +456,8 @@ static void test_create_and_delete(void)
 
     make_x();
     bool good = goes(LOAD, 0, 3, 2, 0, 0) && *region_byte(table, 0, 2) == 0x83 &&
-                goes(SWITCH, 1, 0, 0, 0, 0) && goes(LOAD, 1, 0, 0, 0, 0) &&
-                *region_byte(table, 1, 0) == 0x80 && goes(CUT, 0, 0, 0, 0, 304) &&
-                is_done(CREATE, 0, 0, 0, 0, 0, 2, 0);
+                goes(SWITCH, 1, 0, 0, 0, 0) && goes(CUT, 0, 0, 0, 0, 304) && goes(LOAD, 1, 0, 0, 0, 0) &&
+                *region_byte(table, 1, 0) == 0x80 && is_done(CREATE, 0, 0, 0, 0, 0, 2, 0);
     check(good && get(table, header_at(2), H_PARENT) == 1 && get(table, slot_at(1, 0), E_OPEN) == 0 &&
               get(table, slot_at(0, 3), E_OPEN) == 0 && get(table, slot_at(1, 1), E_OPEN) == 1,
           "trap: create in a child closes the ancestor's larger entry");
@@ -546,7 +547,7 @@ static void test_prepare_and_collect(void)
         set_word(table, slot_at(0, 8 + i), get_word(table, slot_at(0, i)));
         set_word(table, slot_at(0, i), 0);
     }
-    check(good && second_unsound(table, SECOND_BYTES) == 0 && is_refused(COLLECT, 0, 0, 0, 0, 0, 15),
+    check(good && second_unsound(board, table, SECOND_BYTES) == 0 && is_refused(COLLECT, 0, 0, 0, 0, 0, 15),
           "collect of root structure 0, empty: 15");
 
     /* Structure 1 without entries between two that have some. */
@@ -557,7 +558,7 @@ static void test_prepare_and_collect(void)
     set_word(table, slot_at(0, 1), 0);
     set_word(table, slot_at(0, 16), get_word(table, slot_at(0, 0)));
     set_word(table, slot_at(0, 0), 0);
-    check(good && second_unsound(table, SECOND_BYTES) == 0 && is_refused(COLLECT, 0, 0, 2, 0, 0, 15) &&
+    check(good && second_unsound(board, table, SECOND_BYTES) == 0 && is_refused(COLLECT, 0, 0, 2, 0, 0, 15) &&
               is_done(COLLECT, 0, 0, 1, 0, 0, 0, 0) && is_refused(COLLECT, 0, 0, 1, 0, 0, 4),
           "collect looks at the slots of its structure only");
 
@@ -614,10 +615,14 @@ static void test_give_take_cut_merge(void)
     good = goes(LOAD, 0, 0, 0, 0, 0) && goes(LOAD, 0, 1, 1, 0, 0) && goes(LOAD, 0, 2, 2, 0, 0);
     check(good && is_done(MERGE, 0, 0, 1, 0, 0, 0, 0) && get_word(table, slot_at(0, 1)) == 0 &&
               get(table, slot_at(0, 0), E_START) == 256 && get(table, slot_at(0, 0), E_END) == 768 &&
-              get_word(table, regions_at(0)) == UINT64_C(0x8000820000000000),
-          "merge; trap: a region whose slot was emptied is zeroed");
-    check(is_done(CUT, 0, 0, 0, 0, 300, 1, 0) && get_word(table, regions_at(0)) == UINT64_C(0x8000820000000000),
-          "cut uses the emptied slot again and leaves the regions");
+              get_word(table, regions_at(0)) == UINT64_C(0x0000820000000000),
+          "merge unloads both slots and no other; trap: a region whose slot was emptied is zeroed");
+    check(is_done(CUT, 0, 0, 0, 0, 300, 1, 0) && get_word(table, regions_at(0)) == UINT64_C(0x0000820000000000),
+          "cut uses the emptied slot again and leaves the regions of others");
+    check(goes(LOAD, 0, 1, 7, 0, 0) && goes(CUT, 0, 1, 0, 0, 512) &&
+              get_word(table, regions_at(0)) == UINT64_C(0x0000820000000000) && is_refused(CUT, 0, 2, 0, 0, 768, 7) &&
+              goes(CUT, 0, 2, 0, 0, 800) && get_word(table, regions_at(0)) == 0,
+          "cut unloads its slot, a refused one does not");
     check(goes(CREATE, 0, 2, 0, 0, 0) && is_refused(MERGE, 0, 1, 2, 0, 0, 5) &&
               is_refused(MERGE, 0, 2, 1, 0, 0, 5),
           "merge of a closed entry: 5");
@@ -634,7 +639,7 @@ static void test_give_take_cut_merge(void)
     /* 13 is withdrawn: two pieces of one grant whose rights differ stand in no sound table. */
     good = goes(CUT, 0, 0, 0, 0, 300);
     set(table, slot_at(1, 2), E_RIGHTS, 4);
-    check(good && second_unsound(table, SECOND_BYTES) == 11 && is_refused(MERGE, 0, 0, 2, 0, 0, 1),
+    check(good && second_unsound(board, table, SECOND_BYTES) == 11 && is_refused(MERGE, 0, 0, 2, 0, 0, 1),
           "merge with different rights: the table is refused 1");
     set(table, slot_at(1, 0), E_RIGHTS, 4);
     check(is_refused(MERGE, 0, 2, 1, 0, 0, 12) && is_done(MERGE, 0, 0, 2, 0, 0, 0, 0) &&
@@ -649,7 +654,7 @@ static bool make_lent(void)
     for (unsigned i = 1; i < 6; i++)
         call_word_on(table, session[i]);
     result a = call_word_on(table, session[6] | WHOLE);
-    return a.clean && a.refusal == 0 && a.first == 0 && a.second == 0 && second_unsound(table, SECOND_BYTES) == 0;
+    return a.clean && a.refusal == 0 && a.first == 0 && a.second == 0 && second_unsound(board, table, SECOND_BYTES) == 0;
 }
 
 static void test_lending_whole(void)
@@ -705,6 +710,115 @@ static void test_lending_whole(void)
         good = good && a.clean && a.refusal == (service == GIVE ? 3 : 2);
     }
     check(good && call_word_on(table, word_of(TAKE, 0, 3, 0, 0, 0) | WHOLE).refusal == 2, "W set for another service than give: 2");
+}
+
+/* ---- the board's regions ---- */
+
+/* The pieces of an entry: so many, these; and with a list one word shorter 17. */
+static bool pieces_are(uint64_t p, uint64_t s, const uint64_t *expected, unsigned n)
+{
+    uint64_t list[SECOND_PIECES + 1];
+    for (unsigned i = 0; i < SECOND_PIECES + 1; i++)
+        list[i] = UNTOUCHED;
+    if (second_pieces(board, table, SECOND_BYTES, p, s, list, n - 1) != 17 || list[0] != UNTOUCHED ||
+        second_pieces(board, table, SECOND_BYTES, p, s, list, SECOND_PIECES + 1) != (uint64_t)n << 32)
+        return false;
+    for (unsigned i = 0; i < SECOND_PIECES + 1; i++)
+        if (list[i] != (i < n ? expected[i] : UNTOUCHED))
+            return false;
+    return second_pieces(board, table, SECOND_BYTES, p, s, list, n) == (uint64_t)n << 32;
+}
+
+static bool pieces_refused(uint64_t p, uint64_t s, uint64_t list_len, unsigned refusal)
+{
+    uint64_t list[SECOND_PIECES];
+    for (unsigned i = 0; i < SECOND_PIECES; i++)
+        list[i] = UNTOUCHED;
+    if (second_pieces(board, table, SECOND_BYTES, p, s, list, list_len) != refusal)
+        return false;
+    for (unsigned i = 0; i < SECOND_PIECES; i++)
+        if (list[i] != UNTOUCHED)
+            return false;
+    return true;
+}
+
+/* No cover by pieces of the board's shape has fewer: tried for every block of this many lines. */
+static bool none_fewer(void)
+{
+    enum { MOST = 160 };
+    static unsigned fewest[MOST + 1];
+    bool good = true;
+    for (unsigned end = 1; end <= MOST; end++) {
+        fewest[end] = 0;
+        for (unsigned start = end; start-- > 0;) {
+            fewest[start] = MOST;
+            for (unsigned lines = 1; start % lines == 0 && start + lines <= end; lines *= 2)
+                if (1 + fewest[start + lines] < fewest[start])
+                    fewest[start] = 1 + fewest[start + lines];
+            good = good && second_piece_count(SECOND_V7, start, end) == fewest[start];
+        }
+    }
+    return good;
+}
+
+static void test_pieces(void)
+{
+    const uint64_t three[] = {UINT64_C(288) << 32 | 32, UINT64_C(320) << 32 | 64, UINT64_C(384) << 32 | 128};
+    const uint64_t two[] = {UINT64_C(256) << 32 | 256, UINT64_C(512) << 32 | 512};
+    const uint64_t one[] = {UINT64_C(288) << 32 | 224};
+    check(none_fewer(), "a block has as many pieces as the fewest that cover it");
+    make_b();
+    check(pieces_are(0, 0, two, 2), "B: two pieces");
+    make_x();
+    check(pieces_are(1, 0, three, 3) && pieces_are(0, 3, three, 3), "288 to 512: three pieces, of 32, 64 and 128 lines");
+    check(pieces_refused(0, 4, 0, 4) && pieces_refused(0, 31, 0, 4) && pieces_refused(0, 32, 52, 4) &&
+              pieces_refused(2, 0, 52, 4) && pieces_refused(16, 0, 52, 4) && pieces_refused(UINT64_MAX, 0, 52, 4) &&
+              pieces_refused((UINT64_C(1) << 32) + 1, 0, 52, 4) && pieces_refused(1, UINT64_C(1) << 32, 52, 4) &&
+              pieces_refused(1, 0, 2, 17) && pieces_refused(1, 0, 0, 17),
+          "pieces of no entry: 4; then 17 for a list shorter than them");
+    set(table, 0, ZERO, 1);
+    check(pieces_refused(0, 0, 52, 1) && pieces_refused(16, 0, 0, 1), "pieces of a table not sound: 1 before 4 and 17");
+    board = SECOND_V8;
+    make_x();
+    check(pieces_are(1, 0, one, 1), "on an ARMv8-M an entry is one piece");
+    board = SECOND_V7;
+
+    check(boot_to(1, 134217727) && pieces_refused(0, 0, 51, 17) && !pieces_refused(0, 0, 52, 17), "1 to 134,217,727: 52 pieces");
+    check(boot_to(0, 134217727) && is_refused(LOAD, 0, 0, 0, 0, 0, 19) && is_refused(LOAD, 0, 0, 8, 0, 0, 16) &&
+              pieces_refused(0, 0, 26, 17) && !pieces_refused(0, 0, 27, 17),
+          "0 to 134,217,727: 27 pieces, load is refused 19, 16 comes first");
+}
+
+/* Slots 0 to 4 of the root: 5, 2, 4, 2 and 1 pieces. */
+static bool make_pieces(void)
+{
+    return boot_to(1, 128) && goes(CUT, 0, 0, 0, 0, 32) && goes(CUT, 0, 1, 0, 0, 42) && goes(CUT, 0, 2, 0, 0, 60) &&
+           goes(CUT, 0, 3, 0, 0, 68) && goes(CUT, 0, 4, 0, 0, 72) &&
+           second_piece_count(board, 1, 32) == 5 && second_piece_count(board, 32, 42) == 2 &&
+           second_piece_count(board, 42, 60) == 4 && second_piece_count(board, 60, 68) == 2 &&
+           second_piece_count(board, 68, 72) == 1;
+}
+
+static void test_limit_of_pieces(void)
+{
+    check(make_pieces() && goes(LOAD, 0, 0, 0, 0, 0) && goes(LOAD, 0, 1, 1, 0, 0) && is_refused(LOAD, 0, 3, 2, 0, 0, 19) &&
+              is_refused(LOAD, 0, 2, 2, 0, 0, 19) && is_done(LOAD, 0, 4, 2, 0, 0, 0, 0),
+          "load up to 8 pieces: done; beyond them: 19");
+    check(is_done(LOAD, 0, 0, 0, 0, 0, 0, 0) && is_done(LOAD, 0, 3, 1, 0, 0, 0, 0) && is_refused(LOAD, 0, 2, 1, 0, 0, 19) &&
+              is_refused(LOAD, 0, 0, 7, 0, 0, 16),
+          "what the region named before is not counted, the same again counts once");
+    check(is_done(LOAD, 0, 2, 0, 0, 0, 0, 0) && is_refused(LOAD, 0, 1, 3, 0, 0, 19) && is_done(LOAD, 0, 0, 1, 1, 0, 0, 0) &&
+              is_done(LOAD, 0, 1, 3, 0, 0, 0, 0) && get_word(table, regions_at(0)) == UINT64_C(0x8200848100000000),
+          "unload makes room");
+    *region_byte(table, 0, 7) = 0x83;
+    check(second_unsound(board, table, SECOND_BYTES) == 10 && is_refused(LOAD, 0, 0, 7, 1, 0, 1), "S10: 9 pieces loaded");
+    *region_byte(table, 0, 2) = 0;
+    check(second_unsound(board, table, SECOND_BYTES) == 0, "8 pieces loaded: sound");
+    board = SECOND_V8;
+    *region_byte(table, 0, 2) = 0x84;
+    check(second_unsound(board, table, SECOND_BYTES) == 0 && is_done(LOAD, 0, 0, 5, 0, 0, 0, 0), "on an ARMv8-M neither is asked");
+    board = SECOND_V7;
+    check(is_refused(LOAD, 0, 0, 5, 1, 0, 1), "that table is not one of an ARMv7-M");
 }
 
 /* Service 9 takes both: R = 0 loads, R = 1 with S = 0 unloads. */
@@ -1025,9 +1139,9 @@ static void make_y(void)
 static void clause(int expected, unsigned i, field f, uint64_t v, const char *name)
 {
     make_y();
-    bool sound = second_unsound(table, SECOND_BYTES) == 0;
+    bool sound = second_unsound(board, table, SECOND_BYTES) == 0;
     set(table, i, f, v);
-    check(sound && second_unsound(table, SECOND_BYTES) == expected &&
+    check(sound && second_unsound(board, table, SECOND_BYTES) == expected &&
               (expected == 0 || is_refused(LOAD, 1, 0, 0, 1, 0, 1)),
           name);
 }
@@ -1038,7 +1152,7 @@ static void clause_word(int expected, unsigned i, uint64_t w, const char *name)
     make_y();
     set(table, i, whole, w >> 1);
     set(table, i, last, w & 1);
-    check(second_unsound(table, SECOND_BYTES) == expected &&
+    check(second_unsound(board, table, SECOND_BYTES) == expected &&
               (expected == 0 || is_refused(LOAD, 1, 0, 0, 1, 0, 1)),
           name);
 }
@@ -1132,9 +1246,9 @@ static void test_clauses(void)
     make_x();
     bool good = goes(SWITCH, 1, 0, 0, 0, 0) && goes(PREPARE, 1, 0, 0, 0, 0);
     set(table, slot_at(1, 0), E_WHOLE, 1);
-    check(good && second_unsound(table, SECOND_BYTES) == 7, "S7: a whole entry is closed");
+    check(good && second_unsound(board, table, SECOND_BYTES) == 7, "S7: a whole entry is closed");
     set(table, slot_at(1, 0), E_OPEN, 1);
-    check(second_unsound(table, SECOND_BYTES) == 9, "S9: a whole entry over an area, with its open bit set");
+    check(second_unsound(board, table, SECOND_BYTES) == 9, "S9: a whole entry over an area, with its open bit set");
     make_y();
     set(table, header_at(2), H_PARENT, 0); /* 2 is the root's, and has nothing */
     set(table, header_at(2), H_START, 512);
@@ -1147,43 +1261,43 @@ static void test_clauses(void)
         set(table, slot_at(1, s), E_OPEN, 1);
     set(table, slot_at(0, 3), E_OPEN, 1);
     set_word(table, regions_at(0), UINT64_C(0x0084000000000000));
-    good = second_unsound(table, SECOND_BYTES) == 0;
+    good = second_unsound(board, table, SECOND_BYTES) == 0;
     check(good, "two children of the root, the one with pieces: sound");
     for (unsigned s = 1; s < 4; s++)
         set_word(table, slot_at(1, s), 0);
     set_word(table, regions_at(1), 0);
     set(table, slot_at(1, 0), E_END, 512);
     set(table, slot_at(1, 0), E_WHOLE, 1);
-    check(second_unsound(table, SECOND_BYTES) == 0, "a whole entry beside a sibling: sound");
+    check(second_unsound(board, table, SECOND_BYTES) == 0, "a whole entry beside a sibling: sound");
     set(table, slot_at(1, 0), E_GIVEN, 2);
-    check(second_unsound(table, SECOND_BYTES) == 7, "S7: a whole entry is given");
+    check(second_unsound(board, table, SECOND_BYTES) == 7, "S7: a whole entry is given");
 
     /* Two grants side by side, one entry of the child over both. */
     make_x();
     good = goes(GIVE, 1, 1, 0, 6, 0);
     set_word(table, slot_at(1, 1), 0);
     set(table, slot_at(1, 0), E_END, 1024);
-    check(good && second_unsound(table, SECOND_BYTES) == 7, "S7: a child's entry over two grants");
+    check(good && second_unsound(board, table, SECOND_BYTES) == 7, "S7: a child's entry over two grants");
     /* The header's area moved onto a given entry, and one area used twice. */
     make_y();
     set(table, header_at(1), H_START, 288);
     set(table, header_at(1), H_END, 512);
-    check(second_unsound(table, SECOND_BYTES) == 8, "S8: header area equals a given entry");
+    check(second_unsound(board, table, SECOND_BYTES) == 8, "S8: header area equals a given entry");
     make_y();
     set(table, header_at(1), H_START, 272);
     set(table, header_at(1), H_END, 288);
-    check(second_unsound(table, SECOND_BYTES) == 8, "S8: two areas share all lines");
+    check(second_unsound(board, table, SECOND_BYTES) == 8, "S8: two areas share all lines");
     make_y();
     set(table, header_at(2), H_START, 256);
     set(table, header_at(2), H_END, 272);
-    check(second_unsound(table, SECOND_BYTES) == 8, "S8: header area equals an entry of the grandparent");
+    check(second_unsound(board, table, SECOND_BYTES) == 8, "S8: header area equals an entry of the grandparent");
     make_y();
     set(table, structure_at(1, 0), T_START, 400);
     set(table, structure_at(1, 0), T_END, 512);
     set(table, slot_at(1, 3), E_OPEN, 0);
     set(table, slot_at(0, 2), E_OPEN, 1);
     set_word(table, regions_at(1), 0);
-    check(second_unsound(table, SECOND_BYTES) == 0, "S8: structure area equals an own entry: sound");
+    check(second_unsound(board, table, SECOND_BYTES) == 0, "S8: structure area equals an own entry: sound");
     check(make_chain() && holders_are(1999, "\0\1\2\3\4\5\6\7\10\11\12\13\14\15\16\17", 16),
           "a chain of 15 steps is sound, with 16 holders");
 }
@@ -1276,6 +1390,33 @@ static unsigned m_around(const uint8_t *t, unsigned p, uint32_t start, uint32_t 
                        end <= m_end(t, q, s)))
         s++;
     return s;
+}
+
+/* How many pieces start to end has among so many lines from a line on: halved, until a half lies inside or outside. */
+static unsigned m_pieces_of(uint32_t start, uint32_t end, uint32_t from, uint32_t lines)
+{
+    if (end <= from || from + lines <= start)
+        return 0;
+    if (start <= from && from + lines <= end)
+        return 1;
+    return m_pieces_of(start, end, from, lines / 2) + m_pieces_of(start, end, from + lines / 2, lines / 2);
+}
+
+static unsigned m_pieces(const uint8_t *t, unsigned p, unsigned s)
+{
+    if (board == SECOND_V8 || !m_entry(t, p, s))
+        return m_entry(t, p, s);
+    return m_pieces_of(m_start(t, p, s), m_end(t, p, s), 0, UINT32_C(1) << 27);
+}
+
+/* The pieces over p's loaded entries, with region r (8: none) naming slot s. */
+static unsigned m_loaded(const uint8_t *t, unsigned p, unsigned r, unsigned s)
+{
+    unsigned n = r < 8 ? m_pieces(t, p, s) : 0;
+    for (unsigned q = 0; q < 8; q++)
+        if (q != r && m_region(t, p, q) != 0)
+            n += m_pieces(t, p, m_region(t, p, q) & 31);
+    return n;
 }
 
 /* The entry has the very lines that p's parent gave it in one entry. */
@@ -1415,6 +1556,9 @@ static int m_unsound(const uint8_t *t)
                 if (g != 0 && m_region(t, p, q) == g)
                     return 10;
         }
+    for (unsigned p = 0; p < 16; p++)
+        if (m_loaded(t, p, 8, 0) > 8)
+            return 10;
 
     for (unsigned p = 0; p < 16; p++)
         for (unsigned s = 0; s < 32; s++) {
@@ -1460,7 +1604,7 @@ static fields called(uint64_t w)
 /* The checks of each, ended by 0. */
 static const unsigned char checks[SERVICES + 1][8] = {
     {0}, {4, 5, 6, 8, 9, 18}, {3, 15}, {3, 4, 5, 6, 8, 9, 18}, {3, 4, 15}, {3, 4, 5, 6, 8, 10, 18}, {4, 6, 14},
-    {4, 5, 6, 7, 8, 18}, {4, 5, 6, 11, 12}, {3, 4, 5, 16}, {3, 16}, {3, 16}, {3, 7}, {3}, {3}, {3}};
+    {4, 5, 6, 7, 8, 18}, {4, 5, 6, 11, 12}, {3, 4, 5, 16, 19}, {3, 16}, {3, 16}, {3, 7}, {3}, {3}, {3}};
 
 static unsigned m_free(const uint8_t *t, unsigned p)
 {
@@ -1548,6 +1692,8 @@ static bool m_applies(const uint8_t *t, fields f, unsigned number)
         return n != 0;
     case 18:
         return m_whole(t, c, f.s);
+    case 19:
+        return m_loaded(t, f.p, f.t, f.s) > 8;
     default:
         return false;
     }
@@ -1591,6 +1737,13 @@ static bool m_move(uint8_t *t, unsigned p, unsigned s)
         if (m_region(t, p, r) == (0x80 | s))
             *region_byte(t, p, r) = (uint8_t)(0x80 | to);
     return true;
+}
+
+static void m_unload(uint8_t *t, unsigned p, unsigned s)
+{
+    for (unsigned r = 0; r < 8; r++)
+        if (m_region(t, p, r) == (0x80 | s))
+            *region_byte(t, p, r) = 0;
 }
 
 /* The effect of an accepted call on the words; the open bits and regions come after. */
@@ -1638,11 +1791,14 @@ static void m_effect(uint8_t *t, fields f, uint32_t *first, uint64_t *second)
         n = m_free(t, c);
         set_word(t, slot_at(c, n), m_entry_word(m_rights(t, c, f.s), f.l, end));
         set(t, slot_at(c, f.s), E_END, f.l);
+        m_unload(t, c, f.s);
         *first = n;
         break;
     case MERGE:
         set(t, slot_at(c, f.s), E_END, m_end(t, c, f.t));
         set_word(t, slot_at(c, f.t), 0);
+        m_unload(t, c, f.s);
+        m_unload(t, c, f.t);
         break;
     case LOAD:
         *region_byte(t, f.p, f.t) = (uint8_t)(0x80 | f.s);
@@ -1720,7 +1876,7 @@ static result m_call(uint8_t *t, uint64_t word)
 
 /* ---- what is generated ---- */
 
-static uint64_t seed = UINT64_C(0x9e3779b97f4a7c16);
+static uint64_t seed = UINT64_C(0x9e3779b97f4a7c1b);
 
 static uint64_t random_word(void)
 {
@@ -1844,6 +2000,8 @@ static uint64_t one_word(const uint8_t *t, const unsigned char weights[SERVICES 
             l = m_start(t, c, s) + 1 + below(40);
         else
             l = m_start(t, c, s) + below(m_end(t, c, s) - m_start(t, c, s) + 2);
+        if (chance(30)) /* few pieces on either side */
+            l -= l % (2u << below(8));
         break;
     case MERGE:
         u = chance(90) ? some_entry(t, c) : below(32);
@@ -1877,7 +2035,26 @@ static uint64_t likely_word(const uint8_t *t, const unsigned char weights[SERVIC
     return word;
 }
 
-static unsigned long met[SERVICES + 1][19], accepted;
+/* Its listing is the model's: so many pieces, rising, each a power of two of lines at a multiple of it, from end to end. */
+static bool pieces_agree(unsigned p, unsigned s)
+{
+    uint64_t list[SECOND_PIECES];
+    unsigned n = m_pieces(table, p, s);
+    uint32_t at = m_start(table, p, s);
+    if (!m_entry(table, p, s))
+        return pieces_refused(p, s, 0, 4);
+    if (!pieces_refused(p, s, n - 1, 17) || second_pieces(board, table, SECOND_BYTES, p, s, list, n) != (uint64_t)n << 32)
+        return false;
+    for (unsigned i = 0; i < n; i++) {
+        uint32_t lines = (uint32_t)list[i];
+        if (list[i] >> 32 != at || (board == SECOND_V7 && ((lines & (lines - 1)) != 0 || at % lines != 0)))
+            return false;
+        at += lines;
+    }
+    return at == m_end(table, p, s);
+}
+
+static unsigned long met[SERVICES + 1][20], accepted;
 static uint32_t most_removed; /* by one clear out */
 static uint32_t most_packed;  /* by one pack */
 
@@ -2016,15 +2193,17 @@ static void test_generated(void)
          good_damaged = true, good_noise = true;
     unsigned deepest = 0;
 
-    for (unsigned round = 0; round < 160; round++) {
+    for (unsigned round = 0; round < 200; round++) {
+        board = round % 5 == 4 ? SECOND_V8 : SECOND_V7;
         uint32_t base = chance(20) ? 0 : below(100);
         boot_to(base, chance(20) ? base + 1 + below(200) : base + 500 + below(LINES - 100 - 500));
         for (unsigned i = 0; i < 400; i++) {
-            good_calls = good_calls && agree(likely_word(table, weights[round % 4]));
-            good_sound = good_sound && second_unsound(table, SECOND_BYTES) == 0;
+            good_calls = good_calls && agree(likely_word(table, weights[round / 5 % 4]));
+            good_sound = good_sound && second_unsound(board, table, SECOND_BYTES) == 0;
             if (i % 10 == 0) {
                 good_sound = good_sound && m_unsound(table) == 0;
-                good_lists = good_lists && holders_agree(below(LINES)) && runs_agree();
+                good_lists = good_lists && holders_agree(below(LINES)) && runs_agree() && pieces_agree(below(16), i % 32) &&
+                             pieces_agree(0, some_entry(table, 0));
                 for (unsigned p = 1; p < 16; p++)
                     if (m_present(table, p) && m_depth(table, p) > deepest)
                         deepest = m_depth(table, p);
@@ -2036,7 +2215,7 @@ static void test_generated(void)
             memcpy(kept, table, SECOND_BYTES);
             for (unsigned k = 1 + below(3); k > 0; k--)
                 damage(table);
-            int found = second_unsound(table, SECOND_BYTES), expected = m_unsound(table);
+            int found = second_unsound(board, table, SECOND_BYTES), expected = m_unsound(table);
             if (expected >= 0) {
                 good_clauses = good_clauses && found == expected;
                 clauses[expected]++;
@@ -2045,19 +2224,20 @@ static void test_generated(void)
                 fields f = fields_of(likely_word(kept, weights[0]));
                 good_damaged = good_damaged && is_refused(f.service, f.p, f.s, f.t, f.r, f.l, 1) &&
                                holders_refused(below(LINES), 16, 1) &&
-                               second_runs(table, SECOND_BYTES, NULL, 0) == 1;
+                               second_runs(board, table, SECOND_BYTES, NULL, 0) == 1;
             } else if (expected == 0) {
                 good_damaged = good_damaged && agree(likely_word(table, weights[0])) &&
-                               second_unsound(table, SECOND_BYTES) == 0 &&
+                               second_unsound(board, table, SECOND_BYTES) == 0 &&
                                holders_agree(below(LINES)) && runs_agree();
             }
             if (found != 0 || expected != 0 || chance(90))
                 memcpy(table, kept, SECOND_BYTES);
         }
     }
+    board = SECOND_V7;
     check(good_calls, "generated calls: answers and tables as in the model, refused calls change nothing");
     check(good_sound, "generated calls: the table is sound after each");
-    check(good_lists, "generated calls: holders and runs as counted line by line");
+    check(good_lists, "generated calls: holders, runs and pieces as counted line by line");
     check(good_clauses, "damaged tables: the lowest clause that fails as in the model");
     check(good_damaged, "damaged tables: 1 and nothing written, or, if still sound, as in the model");
 
@@ -2066,13 +2246,13 @@ static void test_generated(void)
         if (i % 1000 == 0)
             make_x();
         good_noise = good_noise && agree(i % 2 == 0 ? random_word() : random_word() & ~UINT64_C(0xffff));
-        good_noise = good_noise && second_unsound(table, SECOND_BYTES) == 0;
+        good_noise = good_noise && second_unsound(board, table, SECOND_BYTES) == 0;
     }
     for (unsigned i = 0; i < 4000; i++) { /* services 9 and 10 with any R */
         if (i % 100 == 0)
             make_x();
         good_noise = good_noise && agree(word_of(LOAD + below(2), below(3), below(4), below(10), below(chance(50) ? 2 : 8), 0));
-        good_noise = good_noise && second_unsound(table, SECOND_BYTES) == 0;
+        good_noise = good_noise && second_unsound(board, table, SECOND_BYTES) == 0;
     }
     for (unsigned i = 0; i < 2000; i++) {
         unsigned first = below(SECOND_BYTES), count = 1 + below(SECOND_BYTES - first);
@@ -2080,10 +2260,10 @@ static void test_generated(void)
         for (unsigned b = 0; b < count; b++)
             table[first + b] = (uint8_t)(random_word() >> 40);
         int expected = m_unsound(table);
-        good_noise = good_noise && (expected < 0 || expected == second_unsound(table, SECOND_BYTES));
-        if (second_unsound(table, SECOND_BYTES) != 0)
+        good_noise = good_noise && (expected < 0 || expected == second_unsound(board, table, SECOND_BYTES));
+        if (second_unsound(board, table, SECOND_BYTES) != 0)
             good_noise = good_noise && call_word_on(table, session[1]).refusal == 1 &&
-                         holders_refused(300, 16, 1) && second_runs(table, SECOND_BYTES, NULL, 0) == 1;
+                         holders_refused(300, 16, 1) && second_runs(board, table, SECOND_BYTES, NULL, 0) == 1;
         else
             good_noise = good_noise && call_word_on(table, session[1]).clean;
     }
@@ -2163,6 +2343,8 @@ int main(void)
     test_prepare_and_collect();
     test_give_take_cut_merge();
     test_lending_whole();
+    test_pieces();
+    test_limit_of_pieces();
     test_one_service_for_a_region();
     test_regions_find_switch();
     test_clear_out_refusals();

@@ -42,7 +42,7 @@ static void tally(FILE *in, FILE *out)
     while ((got = read_word(in, &word)) == 8) {
         number++;
         second = 0;
-        result = second_call(table, sizeof table, word, &second);
+        result = second_call(SECOND_V7, table, sizeof table, word, &second);
         fprintf(out, "%" PRIu64 " %" PRIu64 " %" PRIu64 " %016" PRIx64 "\n",
                 number, result & 0xff, result >> 32, second);
     }
@@ -52,10 +52,10 @@ static void tally(FILE *in, FILE *out)
         fprintf(out, "rest %zu\n", got);
 
     /* Then a line for each run: start, end, holders root first. */
-    uint64_t count = second_runs(table, sizeof table, runs, SECOND_RUNS) >> 32;
+    uint64_t count = second_runs(SECOND_V7, table, sizeof table, runs, SECOND_RUNS) >> 32;
     for (uint64_t i = 0; i < count; i++) {
         uint8_t holders[SECOND_HOLDERS];
-        uint64_t n = second_holders(table, sizeof table, runs[i].start,
+        uint64_t n = second_holders(SECOND_V7, table, sizeof table, runs[i].start,
                                     holders, sizeof holders, &second) >> 32;
         fprintf(out, "%" PRIu32 " %" PRIu32, runs[i].start, runs[i].end);
         for (uint64_t h = 0; h < n; h++)

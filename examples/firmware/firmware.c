@@ -2,9 +2,9 @@
  * Firmware to start from, for a Cortex-M3: a kernel whose tables are kept by the library, and two tasks.
  *
  * A task makes a kernel call by `svc 0` with a call word in r0 and r1. The handler hands the word to ulavrepit_call as it
- * is: the library refuses what is wrong, so nothing is checked here. Then the MPU gets the regions of the partition that is
- * current, as read region answers them. The store keeps to its block. The uploader writes over the store's mark: the MPU
- * stops it, and the fault handler asks the library who holds that line.
+ * is: the library refuses what is wrong, so nothing is checked here. Then the MPU gets the pieces of what the partition that
+ * is current has loaded, as read region and pieces answer them. The store keeps to its block. The uploader writes over the
+ * store's mark: the MPU stops it, and the fault handler asks the library who holds that line.
  *
  * There are no interrupts and no scheduler: the root, which is the code of main, lets one task run after the other.
  */
@@ -12,7 +12,7 @@
 #include "ulavrepit.h"
 
 extern uint32_t stack_top[], data[], data_end[], data_load[], bss[], bss_end[], tasks[], tasks_end[], tasks_load[];
-extern uint8_t shared_start[], shared_end[], store_code[], store_data[], uploader_code[], uploader_data[];
+extern uint8_t shared_start[], shared_end[], store_code[], store_data[], uploader_code[], uploader_data[], uploader_spare[];
 
 /* ---- the kernel's memory ---- */
 
@@ -47,26 +47,19 @@ enum { ROOT, STORE, UPLOADER };
 #define FAULT_STATUS REGISTER(0xe000ed28)    /* bit 7: the address below is that of the fault */
 #define FAULT_ADDRESS REGISTER(0xe000ed34)
 
-/* Unprivileged access: none, read, or read and write; this MPU has no region that is written and not read. */
-static uint32_t access_of(uint32_t rights)
-{
-    uint32_t access = !(rights & ULAVREPIT_READ) ? 1 : rights & ULAVREPIT_WRITE ? 3 : 2;
-    uint32_t never_execute = !(rights & ULAVREPIT_EXECUTE);
-    return never_execute << 28 | access << 24 | 3 << 17; /* normal memory, shared, cached */
-}
+#define MEMORY_TYPE (3u << 17) /* normal memory, shared, cached */
 
-/* An entry whose shape the MPU doesn't know is left out: its partition faults there, and nobody else gets in. */
-static void set_region(uint32_t number, ulavrepit_entry entry)
+static void clear_region(uint32_t number)
 {
-    uint32_t lines = entry.end - entry.start, size = 4; /* 2^(size + 1) bytes */
     MPU_NUMBER = number;
     MPU_ATTRIBUTES = 0;
-    if (!entry.present || (lines & (lines - 1)) != 0 || (entry.start & (lines - 1)) != 0)
-        return;
-    while (lines >> (size - 4) > 1)
-        size++;
-    MPU_BASE = entry.start * ULAVREPIT_LINE_BYTES;
-    MPU_ATTRIBUTES = access_of(entry.rights) | size << 1 | 1;
+}
+
+static void set_region(uint32_t number, ulavrepit_piece piece, uint32_t rights)
+{
+    clear_region(number);
+    MPU_BASE = ulavrepit_rbar(piece);
+    MPU_ATTRIBUTES = ulavrepit_rasr(piece, rights) | MEMORY_TYPE;
 }
 
 static ulavrepit_answer ask(uint64_t word) { return ulavrepit_call_answer(table, sizeof table, word); }
@@ -92,10 +85,28 @@ static uint32_t current(void)
 /* Word 0 of a partition's record: present 1, parent 4, .. */
 static uint8_t header_of(uint32_t partition) { return table[8 + 320 * partition]; }
 
+/* The pieces of an entry, into regions of the MPU from this number on; answers the number of the next. */
+static uint32_t load_entry(uint32_t partition, ulavrepit_entry entry, uint32_t number)
+{
+    uint64_t pieces[ULAVREPIT_REGIONS];
+    uint32_t slot = ask(ulavrepit_find(partition, entry.start)).first;
+    uint32_t count = ulavrepit_pieces_answer(table, sizeof table, partition, slot, pieces, ULAVREPIT_REGIONS).first;
+    for (uint32_t i = 0; i < count; i++)
+        set_region(number++, ulavrepit_unpack_piece(pieces[i]), entry.rights);
+    return number;
+}
+
+/* Whatever a partition has loaded, it is at most 8 pieces, and the MPU has 8 regions: the library sees to it. */
 static void load_regions(uint32_t partition)
 {
-    for (uint32_t r = 0; r < ULAVREPIT_REGIONS; r++)
-        set_region(r, ulavrepit_unpack_entry(ask(ulavrepit_read_region(partition, r)).second));
+    uint32_t number = 0;
+    for (uint32_t r = 0; r < ULAVREPIT_REGIONS; r++) {
+        ulavrepit_entry entry = ulavrepit_unpack_entry(ask(ulavrepit_read_region(partition, r)).second);
+        if (entry.present)
+            number = load_entry(partition, entry, number);
+    }
+    while (number < ULAVREPIT_REGIONS)
+        clear_region(number++);
     __asm__ volatile("dsb\n isb" ::: "memory");
 }
 
@@ -231,13 +242,16 @@ static uint32_t must(uint64_t word)
     return answer.first;
 }
 
-/* One entry becomes eight, in the root's eight slots: the areas of both tasks, and their blocks. */
+/* One entry becomes ten: the first for eight slots more, then the areas of both tasks, and their blocks. */
 static void cut_memory(void)
 {
-    const uint8_t *starts[] = {shared_start + 0x200, shared_start + 0x400, shared_start + 0x600, store_code,
-                               store_data,           uploader_code,        uploader_data};
-    for (uint32_t slot = 0; slot < sizeof starts / sizeof *starts; slot++)
+    const uint8_t *starts[] = {shared_start + 0x200, shared_start + 0x400, shared_start + 0x600, shared_start + 0x800, store_code,
+                               store_data,           uploader_code,        uploader_data,        uploader_spare};
+    for (uint32_t slot = 0; slot < sizeof starts / sizeof *starts; slot++) {
         must(ulavrepit_cut(slot, line_of(starts[slot])));
+        if (slot == 0)
+            must(ulavrepit_prepare(ROOT, slot));
+    }
 }
 
 /* A child whose header and structure lie in two areas from slot `area` on; its code and data are two entries from `block` on. */
@@ -267,8 +281,9 @@ static void run(void)
         exit(1);
     turn_on();
     cut_memory();
-    start_task(0, 4, store, uploader_code);
-    start_task(2, 6, uploader, shared_end);
+    start_task(1, 5, store, uploader_code);
+    start_task(3, 7, uploader, uploader_spare);
+    must(ulavrepit_give(UPLOADER, 9, ULAVREPIT_READ + ULAVREPIT_WRITE)); /* not loaded: to make something of */
     must(ulavrepit_switch(STORE));
     printf("store: came back, its mark is %04x\n", (unsigned)store_mark);
     must(ulavrepit_switch(UPLOADER));

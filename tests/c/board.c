@@ -8,6 +8,8 @@
 #include "lent.h"
 #include "session.h"
 
+#include <stddef.h>
+
 static lent now;         /* what the library is lent */
 static bool clean = true; /* no call so far broke a rule that holds for every call */
 
@@ -59,6 +61,16 @@ static ulavrepit_answer runs_len(uint64_t len, uint64_t list_len)
     lent before = now;
     ulavrepit_answer answer = judge(ulavrepit_runs(now.table, len, now.runs, list_len), &before);
     if (memcmp(now.table, before.table, sizeof now.table) != 0 || now.second != before.second)
+        clean = false;
+    return answer;
+}
+
+static ulavrepit_answer pieces_len(uint64_t len, uint64_t partition, uint64_t slot, uint64_t list_len)
+{
+    memset(now.pieces, PAINT, sizeof now.pieces);
+    lent before = now;
+    ulavrepit_answer answer = judge(ulavrepit_pieces(now.table, len, partition, slot, now.pieces, list_len), &before);
+    if (memcmp(&now, &before, offsetof(lent, pieces)) != 0)
         clean = false;
     return answer;
 }
@@ -131,6 +143,21 @@ static bool runs_are(uint64_t list_len, const ulavrepit_run *runs, uint32_t coun
            all_painted((const uint8_t *)(now.runs + count), (RUNS - count) * sizeof *runs);
 }
 
+static bool pieces_refused(uint64_t partition, uint64_t slot, uint64_t list_len, unsigned number)
+{
+    ulavrepit_answer answer = pieces_len(sizeof now.table, partition, slot, list_len);
+    return answer.refusal == number && answer.caller == 0;
+}
+
+/* The list begins with these words, and its other words are as they were. */
+static bool pieces_are(uint64_t partition, uint64_t slot, uint64_t list_len, const uint64_t *words, uint32_t count)
+{
+    ulavrepit_answer answer = pieces_len(sizeof now.table, partition, slot, list_len);
+    return answer.refusal == 0 && answer.caller == 0 && answer.first == count &&
+           memcmp(now.pieces, words, count * sizeof *words) == 0 &&
+           all_painted((const uint8_t *)(now.pieces + count), (PIECES - count) * sizeof *words);
+}
+
 /* ---- the two tables of document 01 ---- */
 
 /* B is boot 256 to 1024. */
@@ -195,7 +222,8 @@ static bool length_refused(uint64_t len)
     return boot_len(len, 1, 2).refusal == 1 && boot_len(len, 2, 1).refusal == 1 &&
            call_len(len, ulavrepit_find(0, 300)).refusal == 1 && call_len(len, 0).refusal == 1 &&
            holders_len(len, 300, 16).refusal == 1 && holders_len(len, 0, 0).refusal == 1 &&
-           runs_len(len, RUNS).refusal == 1 && runs_len(len, 0).refusal == 1;
+           runs_len(len, RUNS).refusal == 1 && runs_len(len, 0).refusal == 1 &&
+           pieces_len(len, 0, 0, PIECES).refusal == 1 && pieces_len(len, 16, 32, 0).refusal == 1;
 }
 
 static void test_lengths(void)
@@ -357,6 +385,89 @@ static void test_whole(void)
     check(good && refused(ulavrepit_take(3) | ULAVREPIT_WHOLE, 2), "refused 2: W set for another service than give");
     now.table[8 * slot_at(0, 1) + 7] ^= 1; /* the mark of an entry of the root's */
     check(refused(ulavrepit_find(0, 300), 1), "refused 1: a whole entry that nobody gave");
+}
+
+/* ---- pieces ---- */
+
+static void test_pieces(void)
+{
+    static const uint64_t two[] = {UINT64_C(256) << 32 | 256, UINT64_C(512) << 32 | 512};
+    static const uint64_t three[] = {UINT64_C(288) << 32 | 32, UINT64_C(320) << 32 | 64, UINT64_C(384) << 32 | 128};
+    uint64_t most[ULAVREPIT_PIECES];
+    for (unsigned i = 0; i < 26; i++) { /* 1 to 2^27 - 1: 1, 2, 4, .., up to the middle, and down again */
+        most[i] = (UINT64_C(1) << i) << 32 | UINT64_C(1) << i;
+        most[51 - i] = ((UINT64_C(1) << 27) - (UINT64_C(2) << i)) << 32 | UINT64_C(1) << i;
+    }
+    check(make_b() && pieces_are(0, 0, PIECES, two, 2) && pieces_are(0, 0, 2, two, 2), "B: 256 to 1024 is two pieces");
+    check(make_x() && pieces_are(1, 0, PIECES, three, 3) && pieces_are(0, 3, 3, three, 3),
+          "X: 288 to 512 is three pieces, of 32, 64 and 128 lines, of an open and of a given entry");
+    check(pieces_are(0, 0, 1, (const uint64_t[]){UINT64_C(256) << 32 | 16}, 1), "an entry that serves the kernel has pieces too");
+    check(pieces_refused(1, 0, 2, 17) && pieces_refused(1, 0, 0, 17), "a list shorter than the pieces: 17");
+    check(pieces_refused(0, 4, 0, 4) && pieces_refused(0, 32, PIECES, 4) && pieces_refused(2, 0, PIECES, 4) &&
+              pieces_refused(16, 0, PIECES, 4) && pieces_refused(UINT64_C(1) << 32, 0, PIECES, 4) &&
+              pieces_refused(1, UINT64_C(1) << 32, PIECES, 4) && pieces_refused(UINT64_MAX, UINT64_MAX, 0, 4),
+          "no entry, an absent partition, a number out of range: 4, before 17");
+    now.table[7] ^= 1; /* a zero bit of word 0 */
+    check(pieces_refused(0, 0, PIECES, 1) && pieces_refused(16, 32, 0, 1), "pieces in a table not sound: 1 before 4 and 17");
+    check(boot_is(1, 134217727, 0) && pieces_are(0, 0, ULAVREPIT_PIECES, most, ULAVREPIT_PIECES) && pieces_refused(0, 0, 51, 17),
+          "1 to 134,217,727: 52 pieces, the most");
+    check(boot_is(0, 134217727, 0) && ulavrepit_pieces_answer(now.table, sizeof now.table, 0, 0, now.pieces, PIECES).first == 27 &&
+              refused(ulavrepit_load(0, 0, 0), 19) && refused(ulavrepit_load(0, 0, 8), 16),
+          "0 to 134,217,727: 27 pieces, and load is refused 19, after 16");
+}
+
+/* Slots 0 to 4 of the root have 5, 2, 4, 2 and 1 pieces. */
+static bool make_pieces(void)
+{
+    return boot_is(1, 128, 0) && done(ulavrepit_cut(0, 32), 1, 0) && done(ulavrepit_cut(1, 42), 2, 0) &&
+           done(ulavrepit_cut(2, 60), 3, 0) && done(ulavrepit_cut(3, 68), 4, 0) && done(ulavrepit_cut(4, 72), 5, 0);
+}
+
+static void test_limit_of_pieces(void)
+{
+    const unsigned regions = 1 + 5; /* word 5 of the root's record */
+    check(make_pieces() && done(ulavrepit_load(0, 0, 0), 0, 0) && done(ulavrepit_load(0, 1, 1), 0, 0) &&
+              refused(ulavrepit_load(0, 3, 2), 19) && done(ulavrepit_load(0, 4, 2), 0, 0),
+          "loaded up to 8 pieces; 9 are refused 19");
+    check(done(ulavrepit_load(0, 0, 0), 0, 0) && done(ulavrepit_load(0, 3, 1), 0, 0) && refused(ulavrepit_load(0, 2, 1), 19) &&
+              table_word(now.table, regions) == UINT64_C(0x8083840000000000),
+          "what the region named before is not counted");
+    check(done(ulavrepit_unload(0, 0), 0, 0) && done(ulavrepit_load(0, 2, 7), 0, 0) && refused(ulavrepit_load(0, 1, 0), 19),
+          "unloading makes room, and is never refused 19");
+    now.table[8 * regions] = 0x81;
+    check(refused(ulavrepit_unload(0, 0), 1), "refused 1: a table with 9 pieces loaded");
+    now.table[8 * regions + 2] = 0;
+    check(done(ulavrepit_cut(2, 50), 6, 0) && table_word(now.table, regions) == UINT64_C(0x8183000000000000),
+          "a cut unloads its slot and no other");
+    check(done(ulavrepit_load(0, 2, 2), 0, 0) && done(ulavrepit_merge(1, 2), 0, 0) &&
+              table_word(now.table, regions) == UINT64_C(0x0083000000000000),
+          "a merge unloads both slots and no other");
+}
+
+/*
+ * The manual's tables of MPU_RASR. AP of a region that privileged code reads and writes: 1 without unprivileged access, 2 with
+ * reading, 3 with both; XN 1: no instruction is fetched; SIZE 4 is 32 bytes, each further one twice as many; ENABLE 1.
+ */
+static void test_registers(void)
+{
+    static const uint32_t access_and_never[8] = { /* by rights: execute 1, write 2, read 4 */
+        0x11000000, 0x01000000, 0x11000000, 0x01000000, 0x12000000, 0x02000000, 0x13000000, 0x03000000};
+    bool good = true;
+    for (uint32_t rights = 0; rights < 8; rights++)
+        for (uint32_t bytes_log = 5; bytes_log < 32; bytes_log++) {
+            ulavrepit_piece piece = ulavrepit_unpack_piece(UINT64_C(1) << 58 | UINT64_C(1) << (bytes_log - 5));
+            uint32_t size = bytes_log - 1; /* 2^(size + 1) bytes */
+            good = good && ulavrepit_rasr(piece, rights) == access_and_never[rights] + 2 * size + 1;
+        }
+    check(good, "MPU_RASR for every set of rights and every size");
+    ulavrepit_piece piece = ulavrepit_unpack_piece(UINT64_C(320) << 32 | 64);
+    check(piece.start == 320 && piece.lines == 64 && ulavrepit_rbar(piece) == 0x2800 &&
+              ulavrepit_rasr(piece, ULAVREPIT_READ + ULAVREPIT_WRITE) == 0x13000015 &&
+              ulavrepit_rasr(piece, ULAVREPIT_READ + ULAVREPIT_EXECUTE) == 0x02000015,
+          "320 to 384: the address 2800, 2 KiB");
+    piece = ulavrepit_unpack_piece(UINT64_C(134217726) << 32 | 1);
+    check(ulavrepit_rbar(piece) == 0xffffffc0 && ulavrepit_rasr(piece, ULAVREPIT_ALL_RIGHTS) == 0x03000009,
+          "the last line: 32 bytes");
 }
 
 static void test_caller(void)
@@ -579,6 +690,9 @@ int main(void)
     test_refusals();
     test_rights();
     test_whole();
+    test_pieces();
+    test_limit_of_pieces();
+    test_registers();
     test_caller();
     test_regions();
     test_clear_out();

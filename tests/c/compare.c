@@ -1,8 +1,8 @@
 /*
  * The library against the second program, in one process and on the same bytes: sessions steered by the table,
  * near misses of every refusal, words of garbage, tables that no session makes, and damaged tables. After every
- * call the answers and all the lent memory are compared, guards included, and so are the listings of holders
- * and runs.
+ * call the answers and all the lent memory are compared, guards included, and so are the listings of holders,
+ * runs and pieces.
  *
  *   compare SEED CALLS
  *
@@ -36,6 +36,10 @@ static unsigned long alone[CLAUSES + 1];
 static unsigned long mismarked[MISMARKS];       /* S7 failed alone, by what is wrong with a whole entry */
 static unsigned long unlike[SECOND_PARTITIONS]; /* S11 failed alone, by who has unlike rights inside one grant */
 static unsigned long unsound_sessions, unsound_odd;
+static unsigned long eights, nines;              /* loads up to 8 pieces, and those refused since there would be 9 */
+static unsigned long crowded;                    /* S10 failed alone, by the limit of pieces */
+static unsigned long listed[LAST_REFUSAL + 1];   /* listings of pieces, by refusal number */
+static uint64_t most_pieces;
 static unsigned long lent_whole, taken_whole, kept_whole; /* blocks lent whole, those taken back, and takes refused 14 */
 static unsigned deepest;
 
@@ -73,6 +77,8 @@ static void paint_numbers(void)
     ours.second = theirs.second = PAINTED;
     memset(ours.list, PAINT, LIST);
     memset(theirs.list, PAINT, LIST);
+    memset(ours.pieces, PAINT, sizeof ours.pieces);
+    memset(theirs.pieces, PAINT, sizeof theirs.pieces);
 }
 
 static void boot_both(uint64_t base, uint64_t end)
@@ -121,7 +127,7 @@ static unsigned call_both(uint64_t word)
     paint_numbers();
     lent before = ours;
     uint64_t our = ulavrepit_call(ours.table, sizeof ours.table, word, &ours.second);
-    uint64_t their = second_call(theirs.table, sizeof theirs.table, word, &theirs.second);
+    uint64_t their = second_call(BOARD, theirs.table, sizeof theirs.table, word, &theirs.second);
     compare("call", word, our, their, &before);
     cells[row_of(word)][their & 0xff]++;
     missed[region_missed(word)] += (their & 0xff) == ULAVREPIT_REFUSED_WORD;
@@ -137,7 +143,7 @@ static void list_len_both(uint64_t line, uint64_t list_len)
     paint_numbers();
     lent before = ours;
     uint64_t our = ulavrepit_holders(ours.table, sizeof ours.table, line, ours.list, list_len, &ours.second);
-    uint64_t their = second_holders(theirs.table, sizeof theirs.table, line, theirs.list, list_len, &theirs.second);
+    uint64_t their = second_holders(BOARD, theirs.table, sizeof theirs.table, line, theirs.list, list_len, &theirs.second);
     compare("holders", line, our, their, &before);
     listings++;
     if ((their & 0xff) == 0 && theirs.second > most_looked)
@@ -153,18 +159,54 @@ static void list_both(uint64_t line)
 static void run_both(void)
 {
     static second_run probe[SECOND_RUNS];
-    uint64_t count = second_runs(theirs.table, sizeof theirs.table, probe, SECOND_RUNS) >> 32, list_len = RUNS;
+    uint64_t count = second_runs(BOARD, theirs.table, sizeof theirs.table, probe, SECOND_RUNS) >> 32, list_len = RUNS;
     if (count > 0 && percent(&chance, 20))
         list_len = count - below(&chance, 2);
     memset(ours.runs, PAINT, sizeof ours.runs);
     memset(theirs.runs, PAINT, sizeof theirs.runs);
     lent before = ours;
     uint64_t our = ulavrepit_runs(ours.table, sizeof ours.table, ours.runs, list_len);
-    uint64_t their = second_runs(theirs.table, sizeof theirs.table, (second_run *)theirs.runs, list_len);
+    uint64_t their = second_runs(BOARD, theirs.table, sizeof theirs.table, (second_run *)theirs.runs, list_len);
     compare("runs", list_len, our, their, &before);
     short_lists += (their & 0xff) == ULAVREPIT_REFUSED_LIST;
     if (count > most_runs)
         most_runs = count;
+}
+
+/* Into a list that is long enough, or just so, or one word too short, or of any length. */
+static void pieces_both(uint64_t p, uint64_t s)
+{
+    uint64_t count = 0, list_len = PIECES;
+    if (p < SECOND_PARTITIONS && s < SECOND_SLOTS && is_entry(&state, (uint8_t)p, (uint8_t)s))
+        count = pieces_of(&state, (uint8_t)p, (uint8_t)s);
+    if (percent(&chance, 40))
+        list_len = count > 0 && percent(&chance, 80) ? count - below(&chance, 2) : below(&chance, PIECES + 1);
+    paint_numbers();
+    lent before = ours;
+    uint64_t our = ulavrepit_pieces(ours.table, sizeof ours.table, p, s, ours.pieces, list_len);
+    uint64_t their = second_pieces(BOARD, theirs.table, sizeof theirs.table, p, s, theirs.pieces, list_len);
+    compare("pieces of partition and slot", p << 32 | (s & 0xffffffff), our, their, &before);
+    listed[their & 0xff]++;
+    if (their >> 32 > most_pieces)
+        most_pieces = their >> 32;
+}
+
+/* Of an entry, mostly; or of any slot, or of numbers that are none. */
+static void list_pieces(void)
+{
+    uint8_t p = 0, s = SECOND_SLOTS;
+    for (unsigned tries = 0; tries < SECOND_PARTITIONS && s == SECOND_SLOTS; tries++) {
+        p = (uint8_t)below(&chance, SECOND_PARTITIONS);
+        s = some_slot(&state, p, is_entry, &chance);
+    }
+    if (s < SECOND_SLOTS && percent(&chance, 90)) {
+        pieces_both(p, s);
+        return;
+    }
+    bool near = percent(&chance, 70);
+    uint64_t any_partition = near ? below(&chance, SECOND_PARTITIONS + 1) : roll(&chance) >> 20;
+    uint64_t any_slot = near ? below(&chance, SECOND_SLOTS + 1) : roll(&chance) >> 20;
+    pieces_both(any_partition, any_slot);
 }
 
 /* The first and the last line of an entry and the one past it; at times a line of anywhere. */
@@ -214,17 +256,33 @@ static void note_lending(uint64_t word, unsigned refusal)
     kept_whole += refusal == ULAVREPIT_REFUSED_IN_PIECES;
 }
 
+/* How near to the limit of pieces a load came. The table is the one before the call. */
+static void note_pieces(uint64_t word, unsigned refusal)
+{
+    uint8_t p = (uint8_t)(word >> 56 & 15), s = (uint8_t)(word >> 51 & 31), region = (uint8_t)(word >> 46 & 7);
+    if (row_of(word) != ULAVREPIT_LOAD || (refusal != 0 && refusal != ULAVREPIT_REFUSED_PIECES))
+        return;
+    second_partition after = state.partitions[p];
+    after.regions[region].loaded = true;
+    after.regions[region].slot = s;
+    uint32_t pieces = second_loaded_pieces(BOARD, &after);
+    eights += refusal == 0 && pieces == SECOND_LOADED;
+    nines += refusal != 0 && pieces == SECOND_LOADED + 1;
+}
+
 static void step(mood m)
 {
     uint64_t word = next_word(theirs.table, &state, m, &chance);
     unsigned refusal = call_both(word);
     note_lending(word, refusal);
+    note_pieces(word, refusal);
     calls++;
     accepted += refusal == 0;
     unsound_sessions += refusal == 1;
     read_state();
     list_boundaries();
     run_both();
+    list_pieces();
 }
 
 /* A table handed to both, in the place of the one that they have. */
@@ -241,7 +299,7 @@ static void take_odd_table(mood m)
     memcpy(kept, theirs.table, sizeof kept);
     make_odd(&state, &chance);
     second_write(&state, table);
-    unsound_odd += second_unsound(table, sizeof table) != 0;
+    unsound_odd += second_unsound(BOARD, table, sizeof table) != 0;
     odd++;
     hand_over(table);
     read_state();
@@ -264,6 +322,14 @@ static void change_anything(uint8_t *table)
             table[at + i] = (uint8_t)(roll(&chance) >> 40);
 }
 
+/* S10 fails by the limit of pieces alone: where there is no limit, it holds. */
+static bool is_crowded(const uint8_t *table)
+{
+    static second_table t;
+    second_read(table, &t);
+    return second_s10(SECOND_V8, &t);
+}
+
 /* A call and a listing on a damaged table; then on as before. */
 static void take_damaged_table(mood m)
 {
@@ -274,15 +340,17 @@ static void take_damaged_table(mood m)
         made = damage(&state, table, &chance) != 0;
     if (!made)
         change_anything(table);
-    damaged += second_unsound(table, sizeof table) != 0;
+    damaged += second_unsound(BOARD, table, sizeof table) != 0;
     uint8_t failing = only_failing(table);
     alone[failing]++;
+    crowded += failing == 10 && is_crowded(table);
     mismarked[failing == 7 ? mismarked_in(table) : ALL_ALLOWED]++;
     unlike[failing == 11 ? unlike_in(table) : 0]++;
     hand_over(table);
     call_both(next_word(theirs.table, &state, m, &chance));
     list_both(state.base);
     run_both();
+    list_pieces();
     hand_over(kept);
 }
 
@@ -300,6 +368,7 @@ static void boot_session(void)
         boot_both(r.base, SECOND_LAST_LINE + UINT64_C(1));
     boot_both(r.base, r.end);
     read_state();
+    pieces_both(0, 0);
 }
 
 /* At times a session starts from a table that is all but full, made by hand. */
@@ -369,12 +438,16 @@ static void print_cells(void)
         printf(" S%u %lu%s", clause, alone[clause], clause < CLAUSES ? "," : "\n");
     printf("# .. S7 by a whole entry that is closed %lu, given on %lu, no grant %lu\n", mismarked[WHOLE_CLOSED],
            mismarked[WHOLE_GIVEN], mismarked[WHOLE_NO_GRANT]);
+    printf("# .. S10 by the limit of pieces %lu\n", crowded);
     printf("# .. S11 by unlike rights inside one grant, by partition:");
     for (unsigned p = 1; p < SECOND_PARTITIONS; p++)
         printf(" %u: %lu%s", p, unlike[p], p < SECOND_PARTITIONS - 1 ? "," : "\n");
     printf("# the longest chain: %u levels below the root; the most runs: %lu; lists too short: %lu; slot words looked at by\n"
            "# one listing of holders: up to %" PRIu64 "\n", deepest, most_runs, short_lists, most_looked);
     printf("# %lu blocks were lent whole, %lu taken back\n", lent_whole, taken_whole);
+    printf("# loads up to 8 pieces: %lu, refused for 9: %lu\n", eights, nines);
+    printf("# listings of pieces: %lu, of up to %" PRIu64 "; refused 1 %lu, 4 %lu, 17 %lu\n", listed[0], most_pieces, listed[1],
+           listed[4], listed[17]);
     printf("# %lu boots, %lu calls in sessions, %lu of them accepted, %lu listings, %lu odd tables, %lu damaged tables\n",
            boots, calls, accepted, listings, odd, damaged);
 }
@@ -429,6 +502,17 @@ static bool every_mismark_met(unsigned long least)
     return true;
 }
 
+/* On a board whose entries are one piece each, neither 9 pieces nor more than one of an entry. */
+static bool pieces_met(unsigned long least)
+{
+    bool shapes = BOARD == SECOND_V7;
+    if (most_pieces != (shapes ? ULAVREPIT_PIECES : 1) || eights < least)
+        return false;
+    if (shapes ? nines < least || crowded < least : nines > 0 || crowded > 0)
+        return false;
+    return listed[0] >= least && listed[1] >= least && listed[4] >= least && listed[17] >= least;
+}
+
 /* At the first child, at the last, and at each between. */
 static bool every_child_unlike(void)
 {
@@ -461,6 +545,7 @@ int main(int count, char **words)
     check(every_mismark_met(last / 5000), "S7 failed alone by a whole entry that is closed, that is given on, that is no grant");
     check(lent_whole >= last / 200 && taken_whole >= last / 500 && kept_whole == 0,
           "blocks were lent whole and taken back, and no take of one was refused 14");
+    check(pieces_met(last / 2000), "8 pieces and 9, tables with too many, and listings of pieces, of the most and refused, were met");
     check(every_child_unlike(), "S11 failed alone by unlike rights inside one grant, at each of the partitions 1 to 15");
     check(every_branch_cleared(), "branches of 1 to 15 partitions were cleared out");
     check(packs_of_none > 0 && packs_of_child > 0 && packs_with_region > 0 && packs_with_mark > 0 && packs_over_absent > 0 &&

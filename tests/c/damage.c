@@ -651,6 +651,34 @@ static bool regions_of_one_slot(second_table *t, dice *d)
     return true;
 }
 
+/* Loads open entries of a partition into regions that name nothing, while it has any and the pieces are at most so many. */
+static uint32_t load_more(second_table *t, uint8_t p, uint32_t most, dice *d)
+{
+    second_partition *q = &t->partitions[p];
+    uint32_t pieces = second_loaded_pieces(BOARD, q);
+    for (uint8_t i = 0, first = (uint8_t)below(d, SECOND_SLOTS), r = 0; i < SECOND_SLOTS; i++) {
+        uint8_t s = (first + i) % SECOND_SLOTS;
+        while (r < SECOND_REGIONS && q->regions[r].loaded)
+            r++;
+        if (r == SECOND_REGIONS || !is_open(t, p, s) || is_loaded(t, p, s) || pieces + pieces_of(t, p, s) > most)
+            continue;
+        second_region named = {true, 0, s};
+        q->regions[r] = named;
+        pieces += pieces_of(t, p, s);
+    }
+    return pieces;
+}
+
+/* Rather one more than may be. */
+static bool too_many_pieces(second_table *t, dice *d)
+{
+    uint8_t p = some_partition(t, is_present, d);
+    uint32_t pieces = load_more(t, p, SECOND_LOADED + 1, d);
+    if (pieces <= SECOND_LOADED && percent(d, 30))
+        pieces = load_more(t, p, 2 * SECOND_PIECES, d);
+    return pieces > SECOND_LOADED;
+}
+
 static bool root_lacks_a_right(second_table *t, dice *d)
 {
     uint8_t s = some_slot(t, 0, percent(d, 50) ? is_usable : is_closed, d);
@@ -752,7 +780,7 @@ static const way ways[] = {
     {8, false, area_unlike_its_entry, NULL}, {8, false, area_twice, NULL}, {8, true, header_in_its_own_entry, NULL},
     {8, true, area_in_given_entry, NULL}, {8, true, area_in_strange_entry, NULL},
     {9, false, open_bit_turned, NULL},
-    {10, false, region_of_no_open_entry, NULL}, {10, false, regions_of_one_slot, NULL},
+    {10, false, region_of_no_open_entry, NULL}, {10, false, regions_of_one_slot, NULL}, {10, false, too_many_pieces, NULL},
     {11, false, root_lacks_a_right, NULL}, {11, false, child_exceeds_its_parent, NULL},
     {11, false, unlike_in_one_grant, NULL}};
 
@@ -782,11 +810,16 @@ uint8_t damage(const second_table *sound, uint8_t *table, dice *d)
     return chosen->clause;
 }
 
+static bool board_s10(const second_table *t)
+{
+    return second_s10(BOARD, t);
+}
+
 uint8_t only_failing(const uint8_t *table)
 {
     static bool (*const clauses[CLAUSES])(const second_table *) = {
         second_s1, second_s2, second_s3, second_s4, second_s5, second_s6,
-        second_s7, second_s8, second_s9, second_s10, second_s11};
+        second_s7, second_s8, second_s9, board_s10, second_s11};
     static second_table t;
     uint8_t failing = 0;
     second_read(table, &t);
@@ -868,6 +901,15 @@ static void turn_marks(second_table *t, dice *d)
                 slot_in(t, p, s)->whole = percent(d, 30);
 }
 
+/* Other entries are loaded, and as many as may be. */
+static void reload_regions(second_table *t, dice *d)
+{
+    for (uint8_t p = 0; p < SECOND_PARTITIONS; p++) {
+        memset(t->partitions[p].regions, 0, sizeof t->partitions[p].regions);
+        load_more(t, p, SECOND_LOADED, d);
+    }
+}
+
 /* Two children, or a child and a number that is not used, change their numbers. */
 static void renumber(second_table *t, dice *d)
 {
@@ -888,7 +930,8 @@ static void renumber(second_table *t, dice *d)
 
 void make_odd(second_table *t, dice *d)
 {
-    void (*const oddities[])(second_table *, dice *) = {scatter_entries, clear_first_structure, lessen_rights, turn_marks, renumber};
+    void (*const oddities[])(second_table *, dice *) = {scatter_entries, clear_first_structure, lessen_rights,
+                                                            turn_marks, reload_regions, renumber};
     for (unsigned i = 0; i < sizeof oddities / sizeof *oddities; i++)
         if (percent(d, 60))
             oddities[i](t, d);

@@ -124,15 +124,16 @@ static void one_call(mood m)
 
 static void session(void)
 {
-    mood m = percent(&chance, 40) ? CLEARING : (mood)below(&chance, MOODS);
+    bool deep = percent(&chance, 40); /* a chain needs room and time */
+    mood m = deep ? CLEARING : (mood)below(&chance, MOODS);
     base = below(&chance, 5000);
-    end = base + (percent(&chance, 30) ? 16 + below(&chance, 100) : 200 + below(&chance, 600)); /* a chain needs room */
+    end = base + (deep ? 600 + below(&chance, 200) : percent(&chance, 30) ? 16 + below(&chance, 100) : 100 + below(&chance, 300));
     memset(masks, 0xa5, sizeof masks);
     memset(parent, 0, sizeof parent);
     ulavrepit_boot(table, sizeof table, base, end);
     refused += ulavrepit_engine_start(masks, end - base + EXTRA, base, end) != 0;
     ask_every_line();
-    for (unsigned left = below(&chance, LONGEST_SESSION); left > 0; left--)
+    for (unsigned left = deep ? LONGEST_SESSION : below(&chance, LONGEST_SESSION); left > 0; left--)
         one_call(m);
     sessions++;
 }
@@ -210,7 +211,7 @@ int main(int count, char **words)
     check(written_past == 0, "masks past the lines stay");
     check(same_always, "on any arguments it answers and writes what the second program does, and 21 writes nothing");
     check(done[ULAVREPIT_GIVE] > 20 && done[ULAVREPIT_TAKE] > 5 && done[ULAVREPIT_DELETE] > 5 && done[ULAVREPIT_CLEAR_OUT] > 5 &&
-              most_struck > 2 && tried_done > tried / 8 && tried_done < tried * 7 / 8,
+              most_struck > 5 && tried_done > tried / 8 && tried_done < tried * 7 / 8,
           "gives, takes, deletes and clear outs of several members were driven");
     return 0;
 }

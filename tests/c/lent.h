@@ -10,7 +10,7 @@
 #include <stdbool.h>
 #include <string.h>
 
-enum { GUARD = 64, LIST = 24, RUNS = ULAVREPIT_RUNS + 4, PAINT = 0xa5 };
+enum { GUARD = 64, LIST = 24, RUNS = ULAVREPIT_RUNS + 4, PIECES = ULAVREPIT_PIECES + 4, PAINT = 0xa5 };
 #define PAINTED UINT64_C(0xa5a5a5a5a5a5a5a5)
 
 typedef struct {
@@ -23,10 +23,12 @@ typedef struct {
     uint8_t guard_3[GUARD];
     ulavrepit_run runs[RUNS];
     uint8_t guard_4[GUARD];
+    uint64_t pieces[PIECES];
+    uint8_t guard_5[GUARD];
 } lent;
 
 /* A byte between the fields would be compared without being lent. */
-typedef char lent_has_no_padding[sizeof(lent) == 5 * GUARD + ULAVREPIT_TABLE_BYTES + LIST + 8 + 12 * RUNS ? 1 : -1];
+typedef char lent_has_no_padding[sizeof(lent) == 6 * GUARD + ULAVREPIT_TABLE_BYTES + LIST + 8 + 12 * RUNS + 8 * PIECES ? 1 : -1];
 
 static inline void paint(lent *m)
 {
@@ -44,7 +46,8 @@ static inline bool all_painted(const uint8_t *bytes, size_t count)
 static inline bool guards_kept(const lent *m)
 {
     return all_painted(m->guard_0, GUARD) && all_painted(m->guard_1, GUARD) &&
-           all_painted(m->guard_2, GUARD) && all_painted(m->guard_3, GUARD) && all_painted(m->guard_4, GUARD);
+           all_painted(m->guard_2, GUARD) && all_painted(m->guard_3, GUARD) && all_painted(m->guard_4, GUARD) &&
+           all_painted(m->guard_5, GUARD);
 }
 
 static inline bool same(const lent *a, const lent *b)

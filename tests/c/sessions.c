@@ -38,7 +38,7 @@ static void put_calls(FILE *out, unsigned count)
     for (; count > 0; count--) {
         second_read(table, &state);
         uint64_t word = next_word(table, &state, m, &chance);
-        second_call(table, sizeof table, word, &second);
+        second_call(BOARD, table, sizeof table, word, &second);
         put_word(out, word);
     }
 }
@@ -73,13 +73,13 @@ static uint64_t boot_recorded(uint8_t *t, uint64_t len, uint64_t base, uint64_t 
 static uint64_t call_recorded(uint8_t *t, uint64_t len, uint64_t word, uint64_t *second)
 {
     put_word(record, word);
-    return second_call(t, len, word, second);
+    return second_call(BOARD, t, len, word, second);
 }
 
 /* The densest table is a chain: from its last partition up to the root, which clears out its one child. */
 static bool put_branch(FILE *out)
 {
-    const kernel recorded = {boot_recorded, call_recorded, NULL, NULL};
+    const kernel recorded = {boot_recorded, call_recorded, NULL, NULL, NULL};
     uint64_t second;
     record = out;
     bool good = make_densest(&recorded, table);

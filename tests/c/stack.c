@@ -12,7 +12,7 @@
 
 enum { LIMIT = 16384, KNOWN = 20480, ENTERING = 1024 };
 
-static const kernel library = {ulavrepit_boot, ulavrepit_call, ulavrepit_holders, ulavrepit_runs};
+static const kernel library = {ulavrepit_boot, ulavrepit_call, ulavrepit_holders, ulavrepit_runs, ulavrepit_pieces};
 
 /* Work is done twice, so it begins by putting its memory back. */
 static size_t depth_of(void (*work)(void))
@@ -31,6 +31,7 @@ static bool within_limit(size_t depth)
 static uint8_t start[ULAVREPIT_TABLE_BYTES], table[ULAVREPIT_TABLE_BYTES];
 static uint8_t list[ULAVREPIT_HOLDERS_BYTES];
 static ulavrepit_run runs[ULAVREPIT_RUNS];
+static uint64_t pieces[ULAVREPIT_PIECES];
 static uint64_t argument;
 static bool accepted[ULAVREPIT_PACK + 1]; /* by service; there is no service 10, so unload is noted there */
 
@@ -73,8 +74,15 @@ static void do_runs(void)
     ulavrepit_runs(table, sizeof table, runs, argument);
 }
 
+/* The argument is 32 times the partition's number, and the slot's. */
+static void do_pieces(void)
+{
+    memcpy(table, start, sizeof table);
+    ulavrepit_pieces(table, sizeof table, argument / ULAVREPIT_SLOTS, argument % ULAVREPIT_SLOTS, pieces, ULAVREPIT_PIECES);
+}
+
 static second_table most;
-static size_t deepest[4]; /* of boot, call, holders, runs */
+static size_t deepest[5]; /* of boot, call, holders, runs, pieces */
 
 static void measure(unsigned which, void (*work)(void), uint64_t with)
 {
@@ -89,9 +97,9 @@ static void measure_services(uint32_t p, uint32_t s, uint32_t t, uint32_t line)
 {
     const uint64_t words[] = {
         ulavrepit_create(s), ulavrepit_delete(p), ulavrepit_prepare(p, s), ulavrepit_collect(p, t),
-        ulavrepit_give(p, s, t & 7), ulavrepit_give_whole(p, s, t & 7), ulavrepit_take(s), ulavrepit_cut(s, line), ulavrepit_merge(s, t),
-        ulavrepit_load(p, s, t), ulavrepit_unload(p, t), ulavrepit_read_region(p, t), ulavrepit_find(p, line),
-        ulavrepit_switch(p), ulavrepit_clear_out(p), ulavrepit_pack(p), 0};
+        ulavrepit_give(p, s, t & 7), ulavrepit_give_whole(p, s, t & 7), ulavrepit_take(s), ulavrepit_cut(s, line),
+        ulavrepit_merge(s, t), ulavrepit_load(p, s, t), ulavrepit_unload(p, t), ulavrepit_read_region(p, t),
+        ulavrepit_find(p, line), ulavrepit_switch(p), ulavrepit_clear_out(p), ulavrepit_pack(p), 0};
     for (size_t i = 0; i < sizeof words / sizeof *words; i++)
         measure(1, do_call, words[i]);
 }
@@ -107,8 +115,10 @@ static void measure_table(void)
     for (size_t i = 0; i < sizeof lines / sizeof *lines; i++)
         measure(2, do_holders, lines[i]);
     for (uint32_t p = 0; p < ULAVREPIT_PARTITIONS; p++)
-        for (uint32_t s = 0; s < ULAVREPIT_SLOTS; s += 4)
+        for (uint32_t s = 0; s < ULAVREPIT_SLOTS; s += 4) {
             measure_services(p, s, (s + p) % 9, lines[s % 6]);
+            measure(4, do_pieces, p * ULAVREPIT_SLOTS + s);
+        }
 }
 
 /* The table as it is, and with its last zero bit set. */
@@ -185,5 +195,6 @@ int main(void)
     say_depth(1, "ulavrepit_call");
     say_depth(2, "ulavrepit_holders");
     say_depth(3, "ulavrepit_runs");
+    say_depth(4, "ulavrepit_pieces");
     return 0;
 }

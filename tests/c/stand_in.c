@@ -2,7 +2,7 @@
  * The second program under the library's names. Where no memory checker runs programs for x86-64, the comparison's
  * own code and the second program are checked as programs of the processor at hand, with this in the library's place.
  */
-#include "kernel.h"
+#include "steer.h"
 #include "ulavrepit.h"
 
 uint64_t ulavrepit_boot(uint8_t *table, uint64_t table_len, uint64_t base, uint64_t end)
@@ -12,18 +12,24 @@ uint64_t ulavrepit_boot(uint8_t *table, uint64_t table_len, uint64_t base, uint6
 
 uint64_t ulavrepit_call(uint8_t *table, uint64_t table_len, uint64_t word, uint64_t *second)
 {
-    return second_call(table, table_len, word, second);
+    return second_call(BOARD, table, table_len, word, second);
 }
 
 uint64_t ulavrepit_holders(const uint8_t *table, uint64_t table_len, uint64_t line, uint8_t *list, uint64_t list_len,
                            uint64_t *second)
 {
-    return second_holders(table, table_len, line, list, list_len, second);
+    return second_holders(BOARD, table, table_len, line, list, list_len, second);
 }
 
 uint64_t ulavrepit_runs(const uint8_t *table, uint64_t table_len, ulavrepit_run *list, uint64_t list_len)
 {
-    return second_runs(table, table_len, (second_run *)list, list_len);
+    return second_runs(BOARD, table, table_len, (second_run *)list, list_len);
+}
+
+uint64_t ulavrepit_pieces(const uint8_t *table, uint64_t table_len, uint64_t partition, uint64_t slot, uint64_t *list,
+                          uint64_t list_len)
+{
+    return second_pieces(BOARD, table, table_len, partition, slot, list, list_len);
 }
 
 uint64_t ulavrepit_engine_start(uint16_t *masks, uint64_t n, uint64_t base, uint64_t end)

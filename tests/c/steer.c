@@ -6,7 +6,8 @@
 
 const uint8_t service_checks[LAST_SERVICE + 1][8] = {
     {0}, {4, 5, 6, 8, 9, 18}, {3, 15}, {3, 4, 5, 6, 8, 9, 18}, {3, 4, 15}, {3, 4, 5, 6, 8, 10, 18}, {4, 6, 14},
-    {4, 5, 6, 7, 8, 18}, {4, 5, 6, 11, 12}, {3, 4, 5, 16}, {3, 16}, {3, 16}, {3, 7}, {3}, {3}, {3}};
+    {4, 5, 6, 7, 8, 18}, {4, 5, 6, 11, 12}, {3, 4, 5, 16, BOARD == SECOND_V7 ? 19 : 0}, {3, 16}, {3, 16}, {3, 7},
+    {3}, {3}, {3}};
 
 /* How often each service is tried, by mood. */
 static const uint8_t weights[MOODS][LAST_SERVICE + 1] = {
@@ -117,7 +118,7 @@ static bool is_no_entry(const second_table *t, uint8_t p, uint8_t s)
     return !slot_of(t, p, s)->present;
 }
 
-static bool is_open(const second_table *t, uint8_t p, uint8_t s)
+bool is_open(const second_table *t, uint8_t p, uint8_t s)
 {
     return slot_of(t, p, s)->present && slot_of(t, p, s)->open;
 }
@@ -142,12 +143,35 @@ static bool lacks_rights(const second_table *t, uint8_t p, uint8_t s)
     return is_idle(t, p, s) && slot_of(t, p, s)->rights != 7;
 }
 
-static bool is_loaded(const second_table *t, uint8_t p, uint8_t s)
+bool is_loaded(const second_table *t, uint8_t p, uint8_t s)
 {
     for (unsigned r = 0; r < SECOND_REGIONS; r++)
         if (t->partitions[p].regions[r].loaded && t->partitions[p].regions[r].slot == s)
             return true;
     return false;
+}
+
+uint32_t pieces_of(const second_table *t, uint8_t p, uint8_t s)
+{
+    return second_piece_count(BOARD, slot_of(t, p, s)->start, slot_of(t, p, s)->end);
+}
+
+/* Its pieces and those that are loaded are 8 together, or fewer. */
+static bool is_loadable(const second_table *t, uint8_t p, uint8_t s)
+{
+    return is_open(t, p, s) && !is_loaded(t, p, s) &&
+           second_loaded_pieces(BOARD, &t->partitions[p]) + pieces_of(t, p, s) <= SECOND_LOADED;
+}
+
+static bool is_too_much(const second_table *t, uint8_t p, uint8_t s)
+{
+    return is_open(t, p, s) && !is_loaded(t, p, s) && !is_loadable(t, p, s);
+}
+
+/* .. and are 9 together. */
+static bool is_just_too_much(const second_table *t, uint8_t p, uint8_t s)
+{
+    return is_too_much(t, p, s) && second_loaded_pieces(BOARD, &t->partitions[p]) + pieces_of(t, p, s) == SECOND_LOADED + 1;
 }
 
 /* Given, and the child has it in one piece, open and not given on: so it can be taken. */
@@ -288,7 +312,7 @@ static uint64_t use_area(const second_table *t, uint8_t service, uint8_t p, dice
     if (s == SECOND_SLOTS)
         s = slot_or_any(t, t->current, is_usable, d);
     if (lines_of(t, t->current, s) > 64 && has_free_slot(t, t->current))
-        return ulavrepit_cut(s, slot_of(t, t->current, s)->start + SECOND_AREA_LINES + below(d, 3));
+        return ulavrepit_cut(s, slot_of(t, t->current, s)->start + SECOND_AREA_LINES + (percent(d, 50) ? 0 : below(d, 3)));
     return service == ULAVREPIT_CREATE ? ulavrepit_create(s) : ulavrepit_prepare(p, s);
 }
 
@@ -347,6 +371,9 @@ static uint64_t cut(const second_table *t, uint8_t refusal, dice *d)
     uint32_t line = refusal == 7 ? outside[below(d, 6)] : inside[below(d, 6)];
     if (refusal != 7 && end > start && percent(d, 40))
         line = start + below(d, end - start);
+    uint32_t round = line & ~((2u << below(d, 16)) - 1); /* so that entries have few pieces */
+    if (refusal != 7 && round > start && percent(d, 60))
+        line = round;
     return ulavrepit_cut(s, line & SECOND_LAST_LINE);
 }
 
@@ -383,7 +410,13 @@ static uint64_t load(const second_table *t, uint8_t refusal, dice *d)
     uint8_t p = some_partition(t, ULAVREPIT_LOAD, refusal, d);
     bool elsewhere = refusal == 16 && percent(d, 70);
     slot_test *passes = refusal == 4 ? is_no_entry : refusal == 5 ? is_closed : elsewhere ? is_loaded : is_open;
+    if (refusal == 0 && percent(d, 80))
+        passes = is_loadable;
+    if (refusal == 19)
+        passes = percent(d, 50) ? is_just_too_much : is_too_much;
     uint32_t region = below(d, SECOND_REGIONS);
+    for (unsigned tries = 0; tries < 8 && t->partitions[p].regions[region].loaded && percent(d, 80); tries++)
+        region = below(d, SECOND_REGIONS); /* rather one that names nothing */
     if (refusal == 16 && !elsewhere)
         region = SECOND_REGIONS + below(d, 32 - SECOND_REGIONS);
     return ulavrepit_load(p, slot_or_any(t, p, passes, d), region);
@@ -602,14 +635,14 @@ static uint8_t tried(const uint8_t *table, uint64_t word)
     static uint8_t copy[SECOND_BYTES];
     uint64_t second;
     memcpy(copy, table, sizeof copy);
-    return (uint8_t)second_call(copy, sizeof copy, word, &second);
+    return (uint8_t)second_call(BOARD, copy, sizeof copy, word, &second);
 }
 
 /* Service and refusal that take a table of their kind, which is seldom met: so they are tried often. */
 static const uint8_t seldom[][2] = {
     {ULAVREPIT_CREATE, 8}, {ULAVREPIT_CREATE, 18}, {ULAVREPIT_DELETE, 15}, {ULAVREPIT_PREPARE, 8}, {ULAVREPIT_PREPARE, 18},
     {ULAVREPIT_GIVE, 10}, {ULAVREPIT_GIVE, 18}, {ULAVREPIT_TAKE, 14}, {ULAVREPIT_CUT, 8}, {ULAVREPIT_CUT, 18},
-    {ULAVREPIT_MERGE, 6}, {ULAVREPIT_MERGE, 11}, {ULAVREPIT_MERGE, 12}};
+    {ULAVREPIT_MERGE, 6}, {ULAVREPIT_MERGE, 11}, {ULAVREPIT_MERGE, 12}, {ULAVREPIT_LOAD, 19}};
 
 /* A good word of any service with one bit turned: often in a field that the service doesn't use, or a zero bit. */
 static uint64_t bit_turned(const second_table *t, dice *d)
@@ -663,9 +696,17 @@ range next_boot(dice *d)
     range r;
     r.base = percent(d, 20) ? 0 : below(d, SECOND_LAST_LINE - 100000);
     r.end = r.base + 1000 + below(d, 90000);
+    if (percent(d, 50)) { /* with few pieces */
+        r.base &= ~UINT64_C(0xfff);
+        r.end = r.base + 0x1000 * (1 + below(d, 24));
+    }
     if (percent(d, 15))
         r.end = r.base + 1 + below(d, 100);
     if (percent(d, 10))
         r.end = SECOND_LAST_LINE;
+    if (percent(d, 5)) { /* with the most */
+        r.base = 1;
+        r.end = SECOND_LAST_LINE;
+    }
     return r;
 }

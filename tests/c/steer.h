@@ -9,6 +9,11 @@
 #include "dice.h"
 #include "kernel.h"
 
+/* The board whose library is called: -DBOARD=SECOND_V8 for that of an ARMv8-M. */
+#ifndef BOARD
+#define BOARD SECOND_V7
+#endif
+
 /*
  * What a session is after: everything in turn, a long chain, many children, many entries, grants, regions, or
  * branches that grow until every partition is present and are then cleared out.
@@ -22,7 +27,7 @@ typedef enum { MIXED, DEEP, WIDE, DENSE, LENDING, REGIONS, CLEARING, MOODS } moo
 enum { UNLOAD = 10, LAST_SERVICE = 15 };
 
 /* No call is refused with a higher number. */
-enum { LAST_REFUSAL = 18 };
+enum { LAST_REFUSAL = 19 };
 
 /* The refusal numbers of each, from 01's column Checks and from 02, ended by 0. */
 extern const uint8_t service_checks[LAST_SERVICE + 1][8];
@@ -60,7 +65,12 @@ bool is_grant(const second_table *t, uint8_t p, uint8_t s);  /* an entry of a ch
 bool is_closed(const second_table *t, uint8_t p, uint8_t s); /* an entry that is not open */
 bool is_lent(const second_table *t, uint8_t p, uint8_t s);   /* an entry that is open and given */
 bool is_free(const second_table *t, uint8_t p, uint8_t s);   /* no entry, in a present structure */
+bool is_open(const second_table *t, uint8_t p, uint8_t s);
+bool is_loaded(const second_table *t, uint8_t p, uint8_t s); /* a region of the partition names it */
 bool is_entry(const second_table *t, uint8_t p, uint8_t s);
 bool moves(const second_table *t, uint8_t p, uint8_t s);     /* an entry that a pack moves: a slot below it is free */
+
+/* How many pieces the slot's entry has, on the board that is compared. */
+uint32_t pieces_of(const second_table *t, uint8_t p, uint8_t s);
 
 #endif

@@ -52,14 +52,14 @@ static uint32_t add_child(making *m, block *from, uint32_t lines, uint32_t right
     return child;
 }
 
-/* The child loads its block and, called back, has cut it into so many pieces. */
-static void settle_in(making *m, uint32_t child, uint32_t start, uint32_t pieces)
+/* The child cuts its block into so many parts and loads the first. */
+static void settle_in(making *m, uint32_t child, uint32_t start, uint32_t parts)
 {
     block own = {0, start};
     must(m, ulavrepit_switch(child));
-    must(m, ulavrepit_load(child, 0, 0));
-    for (uint32_t i = 1; i < pieces; i++)
+    for (uint32_t i = 1; i < parts; i++)
         carve(m, &own, 64);
+    must(m, ulavrepit_load(child, 0, 0));
     must(m, ulavrepit_switch(0));
 }
 

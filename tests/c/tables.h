@@ -9,12 +9,13 @@
 
 #include <stdbool.h>
 
-/* A kernel: the library's functions or the second program's, which have the same types but for the name of a run. */
+/* A kernel: the library's functions or the second program's, for a board. */
 typedef struct {
     uint64_t (*boot)(uint8_t *, uint64_t, uint64_t, uint64_t);
     uint64_t (*call)(uint8_t *, uint64_t, uint64_t, uint64_t *);
     uint64_t (*holders)(const uint8_t *, uint64_t, uint64_t, uint8_t *, uint64_t, uint64_t *);
     uint64_t (*runs)(const uint8_t *, uint64_t, ulavrepit_run *, uint64_t);
+    uint64_t (*pieces)(const uint8_t *, uint64_t, uint64_t, uint64_t, uint64_t *, uint64_t);
 } kernel;
 
 /* The last zero bit of a table is the least significant of this byte: word 7 of the last record, before its slots. */

@@ -12,10 +12,11 @@ use Rattle.tables.specs.Write.{putSlot}
 use Rattle.tables.specs.Search.{child}
 use Rattle.sound.specs.Whole.{Right}
 use Rattle.blocks.specs.Pick.{Free}
+use Rattle.blocks.specs.Unloading.{unloadedAt}
 
--- slot s of c ends at k, and slot n of c goes on from there
+-- slot s of c, unloaded, ends at k, and slot n of c goes on from there
 abbrev pub splitAt : Table → ℕ → ℕ → ℕ → ℕ → SlotFields → Table
-splitAt t c s n k f = putSlot (putSlot t c s (some (endingAt (entryOf f) k)) (f .opened)) c n (some (startingAt (entryOf f) k)) (f .opened)
+splitAt t c s n k f = putSlot (putSlot (unloadedAt t c s) c s (some (endingAt (entryOf f) k)) (f .opened)) c n (some (startingAt (entryOf f) k)) (f .opened)
 
 -- ── cut ──
 pub record CanCut (l : List ℕ) (s k : ℕ) (f : SlotFields) : Type 0 where

@@ -3,3 +3,4 @@ pub mod merge_service;
 pub mod pick;
 pub mod slot_services;
 pub mod take_service;
+pub mod unloading;

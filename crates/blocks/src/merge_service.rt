@@ -9,6 +9,7 @@ ghost use Rattle.rules.specs.Rules.{merge};
 ghost use Rattle.rules.specs.Ran.{Ran};
 ghost use Rattle.writing.specs.CanWrite.{CanEntry};
 ghost use Rattle.blocks.specs.MergeExits.{mayJoin, CanMerge, joinedAt};
+use crate::unloading::unload_entry;
 use tables::Outcome;
 use words::Partition;
 use words::Slot;
@@ -68,16 +69,17 @@ fn may_join(t: &[u64; 641], c: Partition, e: SlotFields, f: SlotFields) -> bool
     one_grant(t, h.parent, c, e, f)
 }
 
-// slot s of c, whose entry is e, ends where f ended; slot u is free
+// slot s of c, whose entry is e, ends where f ended; slot u is free; both are unloaded
 fn join(t: &mut [u64; 641], c: Partition, s: Slot, u: Slot, e: SlotFields, f: SlotFields)
     requires { ⌜ CanEntry (now t) (c .0) (s .0) e × (u .0 < 32) × (f .end .0 < 2 ^ 27) ⌝ }
     ensures { λ _. ⌜ Is (now (t .exit)) (joinedAt (view (now (t .entry))) (c .0) (s .0) (u .0) e f) ⌝ }
 {
-    let mut whole = e;
+    unload_entry(t, c, s);
+    let mut longer = e;
     let end = f.end;
-    whole.end = end;
-    writing::put_entry(t, c, s, whole);
-    writing::clear_entry(t, c, u);
+    longer.end = end;
+    writing::put_entry(t, c, s, longer);
+    unload_entry(t, c, u);
 }
 
 // merge from check 5 on, for the caller c and its entries e and f in slots s and u
@@ -111,11 +113,10 @@ fn merge_entries(
         return Outcome::Refused(12);
     }
     join(t, c, s, u, e, f);
-    settling::settle_regions(t, c);
     Outcome::Done(0, 0)
 }
 
-// 8: slot s ends where slot u ended, and slot u is free; both are open, so in a right table nothing is left to settle but the caller's regions
+// 8: slot s ends where slot u ended, and slot u is free; both are unloaded, and both are open, so in a right table nothing is left to settle
 pub fn merge(t: &mut [u64; 641], s: Slot, u: Slot) -> Outcome
     requires { ⌜ Canon (now t) × (s .0 < 32) × (u .0 < 32) × Right (view (now t)) ⌝ }
     ensures { λ r. ⌜ Ran (merge (view (now (t .entry))) (s .0) (u .0)) (now (t .entry)) r (now (t .exit)) ⌝ }

@@ -8,6 +8,7 @@ ghost use Rattle.writing.specs.CanWrite.{CanEntry};
 ghost use Rattle.blocks.specs.SlotExits.{CanCut, CanGive, splitAt, handedTo};
 use crate::pick::Picked;
 use crate::pick::free_entry;
+use crate::unloading::unload_entry;
 use tables::Found;
 use tables::Outcome;
 use words::Line;
@@ -16,11 +17,12 @@ use words::Rights;
 use words::Slot;
 use words::slot_word::SlotFields;
 
-// slot s of c, whose entry is f, ends at l; slot n goes on from there
+// slot s of c, whose entry is f, is unloaded and ends at l; slot n goes on from there
 fn split_entry(t: &mut [u64; 641], c: Partition, s: Slot, n: Slot, l: Line, f: SlotFields)
     requires { ⌜ CanEntry (now t) (c .0) (s .0) f × (n .0 < 32) × (l .0 < 2 ^ 27) ⌝ }
     ensures { λ _. ⌜ Is (now (t .exit)) (splitAt (view (now (t .entry))) (c .0) (s .0) (n .0) (l .0) f) ⌝ }
 {
+    unload_entry(t, c, s);
     let mut low = f;
     low.end = l;
     writing::put_entry(t, c, s, low);
@@ -52,7 +54,7 @@ fn cut_entry(t: &mut [u64; 641], s: Slot, l: Line, f: SlotFields) -> Outcome
     Outcome::Done(n.0 as u64, 0)
 }
 
-// 7: slot s, which is open, ends at l, and a free slot goes on from there: a right table stays settled
+// 7: slot s, which is open, is unloaded and ends at l, and a free slot goes on from there: a right table stays settled
 pub fn cut(t: &mut [u64; 641], s: Slot, l: Line) -> Outcome
     requires { ⌜ Canon (now t) × (s .0 < 32) × (l .0 < 2 ^ 27) × Right (view (now t)) ⌝ }
     ensures { λ r. ⌜ Ran (cut (view (now (t .entry))) (s .0) (l .0)) (now (t .entry)) r (now (t .exit)) ⌝ }

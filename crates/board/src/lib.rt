@@ -1,6 +1,7 @@
 ghost use Rattle.shapes.specs.declared.Board.the-variants.{V7};
 ghost use Rattle.rules.specs.Rules.{bootOn};
 ghost use Rattle.face.specs.Face.{handed, Lent, CallLent, ListLent};
+ghost use Rattle.face.specs.Lists.{PiecesLent};
 
 // The library for ARMv7-M: the functions that its firmware calls, which is C. include/ulavrepit.h declares them; `face` has them for every board.
 pub mod lists;
@@ -32,4 +33,11 @@ pub extern "C" fn ulavrepit_holders(
     ensures { λ r. ⌜ ListLent V7 (now (table .entry)) line (now (list .entry)) (now (second .entry)) r (now (list .exit)) (now (second .exit)) ⌝ }
 {
     face::holders_bytes(Board::V7, table, line, list, second)
+}
+
+#[no_mangle]
+pub extern "C" fn ulavrepit_pieces(table: &[u8], partition: u64, slot: u64, list: &mut [u64]) -> u64
+    ensures { λ r. ⌜ PiecesLent V7 (now (table .entry)) partition slot (now (list .entry)) r (now (list .exit)) ⌝ }
+{
+    face::lists::pieces_bytes(Board::V7, table, partition, slot, list)
 }

@@ -26,6 +26,8 @@ use Rattle.tables.specs.ZeroRecord.{zeroTo, zeroBlanks}
 use Rattle.tables.specs.Outcomes.{answered}
 use Rattle.tables.specs.declared.Outcome.{Outcome}
 use Rattle.sound.specs.Clauses.{when, has, isNowhere, long, s1, s2Root, s2Other, s2, blankRegion, s3Regions, s3First, s3, rooted, s4Area, s4Absent, s4, s5Slot, s5, apartE, s6, held, covered, s7Root, s7Given, grants, s7Inside, s7Cover, lends, undivided, s7Whole, s7, equals, s8Backed, s8Apart, s8, s9, s10Names, s10Once, s10, full, within, s11Within, containsBoth, oneGrant, sameRights, s11Equal, s11, clauseAt, sound}
+use Rattle.shapes.specs.Pieces.{fits, grown, widest, piecesIn, pieces, piecesFor, pieceWords}
+use Rattle.sound.specs.Limit.{entryPieces, regionPieces, loadedPieces}
 use Rattle.sound.specs.Holders.{receiver, givenBy, heir, deepest, trail, holdersOf, sumOver, looksOf, inMemory, holdersOutcome, holdersBytes}
 use Rattle.rules.specs.Ran.{outcomeOf}
 use Rattle.rules.specs.Pack.{usable, rename, moveTo, packSlot, packed}
@@ -292,8 +294,24 @@ packCases E F =
     ∷ refuses E (word 15 1 1 0 0) 2
     ∷ []
 
+-- ── the shapes of regions (request 102) ──
+abbrev pub shapedCases : List ℕ → List Case
+shapedCases B =
+    let cuts = run B (word9 0 0 7 0 ∷ word 7 0 0 0 512 ∷ word 11 0 0 7 0 ∷ []) in
+    let merges = run B (word 7 0 0 0 512 ∷ word9 0 0 2 0 ∷ word9 0 1 3 0 ∷ word 8 0 0 1 0 ∷ word 11 0 0 2 0 ∷ word 11 0 0 3 0 ∷ []) in
+    let limit = run B (word 7 0 0 0 258 ∷ word9 0 1 0 0 ∷ word9 0 0 1 0 ∷ word9 0 0 0 0 ∷ []) in
+    -- 288 to 512 needs three pieces, of 32, 64 and 128 lines; words past them stay
+    (pieceWords (piecesFor V7 288 512) (replicate 5 7), (288 * 2 ^ 32 + 32) ∷ (320 * 2 ^ 32 + 64) ∷ (384 * 2 ^ 32 + 128) ∷ 7 ∷ 7 ∷ [])
+    -- B, cut slot 0 at 258: slot 1 needs eight pieces. Load it in region 0: done; slot 0, of one piece, in region 1: 19; in region 0: done
+    ∷ (limit .0, 0 ∷ 1 ∷ 0 ∷ 0 ∷ 0 ∷ 0 ∷ 19 ∷ 0 ∷ 0 ∷ 0 ∷ 0 ∷ 0 ∷ [])
+    -- B, load slot 0 in region 7, cut slot 0 at 512, read region 7: 0
+    ∷ (cuts .0, 0 ∷ 0 ∷ 0 ∷ 0 ∷ 1 ∷ 0 ∷ 0 ∷ 0 ∷ 0 ∷ [])
+    -- B, cut slot 0 at 512, load slots 0 and 1 in regions 2 and 3, merge them, read both regions: 0
+    ∷ (merges .0, 0 ∷ 1 ∷ 0 ∷ 0 ∷ 0 ∷ 0 ∷ 0 ∷ 0 ∷ 0 ∷ 0 ∷ 0 ∷ 0 ∷ 0 ∷ 0 ∷ 0 ∷ 0 ∷ 0 ∷ 0 ∷ [])
+    ∷ []
+
 abbrev pub cases : List Case
-cases = casesOf B session ++ furtherCases B (session .1) D A ++ lentCases L ++ packCases E F
+cases = casesOf B session ++ furtherCases B (session .1) D A ++ lentCases L ++ packCases E F ++ shapedCases B
 
 -- ── a test that every case is right: the list is then computed once, not once for each side ──
 abbrev equal : List ℕ → List ℕ → Bool
@@ -328,25 +346,32 @@ right-both (c ∷ bs) cs g h =
 
 -- each part is computed by itself: a declaration has so many steps and no more
 base-right : right (casesOf B session) ≡ true
-unfolding B session D A carried rest tabFrom climb first header structure regions slot call firstWord recordWord areaWordAt regionsWordAt blankWordAt slotWordAt view viewK entryIn headerArea structureArea areaIn nth named inside parentAt encode slotWord headerWord structureWord regionFor regionsWord partWord wordFor pick upd upd1 both? ℕ-discrete lowest present absent absentChild child noStructure free holds lookedAt meets apart clear openBit openAt keep settle zeroTo zeroBlanks when has isNowhere long s1 s2Root s2Other s2 blankRegion s3Regions s3First s3 rooted s4Area s4Absent s4 s5Slot s5 apartE s6 held covered s7Root s7Given grants s7Inside s7Cover lends undivided s7Whole s7 equals s8Backed s8Apart s8 s9 s10Names s10Once s10 full within s11Within containsBoth oneGrant sameRights s11Equal s11 clauseAt sound receiver givenBy heir deepest trail holdersOf sumOver looksOf inMemory holdersOutcome holdersBytes check need ownOrChild parentOrChild freeEntry create prepare vacant collect give returned take cut merge elsewhere load switch ungive branch clearOut sum noRights uses unused regionCall known perform serve serveRead callOn bootOn wordsAfter outcomeOf
+unfolding B session D A carried rest tabFrom climb first header structure regions slot call firstWord recordWord areaWordAt regionsWordAt blankWordAt slotWordAt view viewK entryIn headerArea structureArea areaIn nth named inside parentAt encode slotWord headerWord structureWord regionFor regionsWord partWord wordFor pick upd upd1 both? ℕ-discrete lowest present absent absentChild child noStructure free holds lookedAt meets apart clear openBit openAt keep settle zeroTo zeroBlanks when has isNowhere long s1 s2Root s2Other s2 blankRegion s3Regions s3First s3 rooted s4Area s4Absent s4 s5Slot s5 apartE s6 held covered s7Root s7Given grants s7Inside s7Cover lends undivided s7Whole s7 equals s8Backed s8Apart s8 s9 s10Names s10Once fits grown widest piecesIn pieces entryPieces regionPieces loadedPieces s10 full within s11Within containsBoth oneGrant sameRights s11Equal s11 clauseAt sound receiver givenBy heir deepest trail holdersOf sumOver looksOf inMemory holdersOutcome holdersBytes check need ownOrChild parentOrChild freeEntry create prepare vacant collect give returned take cut merge elsewhere load switch ungive branch clearOut sum noRights uses unused regionCall known perform serve serveRead callOn bootOn wordsAfter outcomeOf
 base-right = refl
 
 further-right : right (furtherCases B (session .1) D A) ≡ true
-unfolding B session D A carried rest tabFrom climb first header structure regions slot call firstWord recordWord areaWordAt regionsWordAt blankWordAt slotWordAt view viewK entryIn headerArea structureArea areaIn nth named inside parentAt encode slotWord headerWord structureWord regionFor regionsWord partWord wordFor pick upd upd1 both? ℕ-discrete lowest present absent absentChild child hasChild noStructure free holds lookedAt meets apart clear openBit openAt keep settle zeroTo zeroBlanks when has isNowhere long s1 s2Root s2Other s2 blankRegion s3Regions s3First s3 rooted s4Area s4Absent s4 s5Slot s5 apartE s6 held covered s7Root s7Given grants s7Inside s7Cover lends undivided s7Whole s7 equals s8Backed s8Apart s8 s9 s10Names s10Once s10 full within s11Within containsBoth oneGrant sameRights s11Equal s11 clauseAt sound receiver givenBy heir deepest trail holdersOf sumOver looksOf inMemory holdersOutcome holdersBytes check need ownOrChild parentOrChild freeEntry create delete prepare vacant collect give returned take cut merge elsewhere load unload regionWord readRegion find switch ungive branch clearOut sum noRights uses unused regionCall known perform serve serveRead callOn bootOn wordsAfter outcomeOf
+unfolding B session D A carried rest tabFrom climb first header structure regions slot call firstWord recordWord areaWordAt regionsWordAt blankWordAt slotWordAt view viewK entryIn headerArea structureArea areaIn nth named inside parentAt encode slotWord headerWord structureWord regionFor regionsWord partWord wordFor pick upd upd1 both? ℕ-discrete lowest present absent absentChild child hasChild noStructure free holds lookedAt meets apart clear openBit openAt keep settle zeroTo zeroBlanks when has isNowhere long s1 s2Root s2Other s2 blankRegion s3Regions s3First s3 rooted s4Area s4Absent s4 s5Slot s5 apartE s6 held covered s7Root s7Given grants s7Inside s7Cover lends undivided s7Whole s7 equals s8Backed s8Apart s8 s9 s10Names s10Once fits grown widest piecesIn pieces entryPieces regionPieces loadedPieces s10 full within s11Within containsBoth oneGrant sameRights s11Equal s11 clauseAt sound receiver givenBy heir deepest trail holdersOf sumOver looksOf inMemory holdersOutcome holdersBytes check need ownOrChild parentOrChild freeEntry create delete prepare vacant collect give returned take cut merge elsewhere load unload regionWord readRegion find switch ungive branch clearOut sum noRights uses unused regionCall known perform serve serveRead callOn bootOn wordsAfter outcomeOf
 further-right = refl
 
 lent-right : right (lentCases L) ≡ true
-unfolding B L carried rest tabFrom climb first header structure regions slot call firstWord recordWord areaWordAt regionsWordAt blankWordAt slotWordAt view viewK entryIn headerArea structureArea areaIn nth named inside parentAt encode slotWord headerWord structureWord regionFor regionsWord partWord wordFor pick upd upd1 both? ℕ-discrete lowest present absent absentChild child hasChild noStructure free holds lookedAt meets apart clear openBit openAt keep settle zeroTo zeroBlanks when has isNowhere long s1 s2Root s2Other s2 blankRegion s3Regions s3First s3 rooted s4Area s4Absent s4 s5Slot s5 apartE s6 held covered s7Root s7Given grants s7Inside s7Cover lends undivided s7Whole s7 equals s8Backed s8Apart s8 s9 s10Names s10Once s10 full within s11Within containsBoth oneGrant sameRights s11Equal s11 clauseAt sound receiver givenBy heir deepest trail holdersOf sumOver looksOf inMemory holdersOutcome holdersBytes check need ownOrChild parentOrChild freeEntry create delete prepare vacant collect give returned take cut merge elsewhere load unload regionWord readRegion find switch ungive branch clearOut sum noRights uses unused regionCall known perform serve serveRead callOn bootOn wordsAfter outcomeOf
+unfolding B L carried rest tabFrom climb first header structure regions slot call firstWord recordWord areaWordAt regionsWordAt blankWordAt slotWordAt view viewK entryIn headerArea structureArea areaIn nth named inside parentAt encode slotWord headerWord structureWord regionFor regionsWord partWord wordFor pick upd upd1 both? ℕ-discrete lowest present absent absentChild child hasChild noStructure free holds lookedAt meets apart clear openBit openAt keep settle zeroTo zeroBlanks when has isNowhere long s1 s2Root s2Other s2 blankRegion s3Regions s3First s3 rooted s4Area s4Absent s4 s5Slot s5 apartE s6 held covered s7Root s7Given grants s7Inside s7Cover lends undivided s7Whole s7 equals s8Backed s8Apart s8 s9 s10Names s10Once fits grown widest piecesIn pieces entryPieces regionPieces loadedPieces s10 full within s11Within containsBoth oneGrant sameRights s11Equal s11 clauseAt sound receiver givenBy heir deepest trail holdersOf sumOver looksOf inMemory holdersOutcome holdersBytes check need ownOrChild parentOrChild freeEntry create delete prepare vacant collect give returned take cut merge elsewhere load unload regionWord readRegion find switch ungive branch clearOut sum noRights uses unused regionCall known perform serve serveRead callOn bootOn wordsAfter outcomeOf
 lent-right = refl
 
 pack-right : right (packCases E F) ≡ true
-unfolding E F carried rest tabFrom climb first header structure regions slot call firstWord recordWord areaWordAt regionsWordAt blankWordAt slotWordAt view viewK entryIn headerArea structureArea areaIn nth named inside parentAt encode slotWord headerWord structureWord regionFor regionsWord partWord wordFor pick upd upd1 both? ℕ-discrete lowest present absent absentChild child hasChild noStructure free holds lookedAt meets apart clear openBit openAt keep settle zeroTo zeroBlanks when has isNowhere long s1 s2Root s2Other s2 blankRegion s3Regions s3First s3 rooted s4Area s4Absent s4 s5Slot s5 apartE s6 held covered s7Root s7Given grants s7Inside s7Cover lends undivided s7Whole s7 equals s8Backed s8Apart s8 s9 s10Names s10Once s10 full within s11Within containsBoth oneGrant sameRights s11Equal s11 clauseAt sound receiver givenBy heir deepest trail holdersOf sumOver looksOf inMemory holdersOutcome holdersBytes check need ownOrChild parentOrChild freeEntry create delete prepare vacant collect give returned take cut merge elsewhere load unload regionWord readRegion find switch ungive branch clearOut usable rename moveTo packSlot packed pack sum noRights uses unused regionCall known perform serve serveRead callOn bootOn wordsAfter outcomeOf
+unfolding E F carried rest tabFrom climb first header structure regions slot call firstWord recordWord areaWordAt regionsWordAt blankWordAt slotWordAt view viewK entryIn headerArea structureArea areaIn nth named inside parentAt encode slotWord headerWord structureWord regionFor regionsWord partWord wordFor pick upd upd1 both? ℕ-discrete lowest present absent absentChild child hasChild noStructure free holds lookedAt meets apart clear openBit openAt keep settle zeroTo zeroBlanks when has isNowhere long s1 s2Root s2Other s2 blankRegion s3Regions s3First s3 rooted s4Area s4Absent s4 s5Slot s5 apartE s6 held covered s7Root s7Given grants s7Inside s7Cover lends undivided s7Whole s7 equals s8Backed s8Apart s8 s9 s10Names s10Once s10 full within s11Within containsBoth oneGrant sameRights s11Equal s11 clauseAt sound receiver givenBy heir deepest trail holdersOf sumOver looksOf inMemory holdersOutcome holdersBytes check need ownOrChild parentOrChild freeEntry create delete prepare vacant collect give returned take cut merge elsewhere load unload regionWord readRegion find switch ungive branch clearOut usable rename moveTo packSlot packed pack sum noRights uses unused regionCall known perform serve serveRead callOn bootOn wordsAfter outcomeOf fits grown widest piecesIn pieces entryPieces regionPieces loadedPieces
 pack-right = refl
+
+shaped-right : right (shapedCases B) ≡ true
+unfolding B carried rest tabFrom climb first header structure regions slot call firstWord recordWord areaWordAt regionsWordAt blankWordAt slotWordAt view viewK entryIn headerArea structureArea areaIn nth named inside parentAt encode slotWord headerWord structureWord regionFor regionsWord partWord wordFor pick upd upd1 both? ℕ-discrete lowest present absent absentChild child hasChild noStructure free holds lookedAt meets apart clear openBit openAt keep settle zeroTo zeroBlanks when has isNowhere long s1 s2Root s2Other s2 blankRegion s3Regions s3First s3 rooted s4Area s4Absent s4 s5Slot s5 apartE s6 held covered s7Root s7Given grants s7Inside s7Cover lends undivided s7Whole s7 equals s8Backed s8Apart s8 s9 s10Names s10Once fits grown widest piecesIn pieces entryPieces regionPieces loadedPieces s10 full within s11Within containsBoth oneGrant sameRights s11Equal s11 clauseAt sound receiver givenBy heir deepest trail holdersOf sumOver looksOf inMemory holdersOutcome holdersBytes check need ownOrChild parentOrChild freeEntry create delete prepare vacant collect give returned take cut merge elsewhere load unload regionWord readRegion find switch ungive branch clearOut sum noRights uses unused regionCall known perform serve serveRead callOn bootOn wordsAfter outcomeOf
+shaped-right = refl
 
 -- ── the statement: in every case, what is computed is what 01 and 02 say ──
 pub every-case : computed cases ≡ expected cases
 every-case =
     let further = furtherCases B (session .1) D A in
+    let later = packCases E F ++ shapedCases B in
     right-says cases
-    (right-both (casesOf B session) (further ++ lentCases L ++ packCases E F) base-right
-    (right-both further (lentCases L ++ packCases E F) further-right (right-both (lentCases L) (packCases E F) lent-right pack-right)))
+    (right-both (casesOf B session) (further ++ lentCases L ++ later) base-right
+    (right-both further (lentCases L ++ later) further-right
+    (right-both (lentCases L) later lent-right
+    (right-both (packCases E F) (shapedCases B) pack-right shaped-right))))

@@ -14,6 +14,7 @@ ghost use Rattle.decide.specs.Decide.{CanDecide, Decided};
 pub mod arrange;
 pub mod backing;
 pub mod entries;
+pub mod limit;
 pub mod opening;
 pub mod order;
 pub mod tiles;

@@ -4,6 +4,7 @@ ghost use Rattle.tables.specs.View.{view};
 ghost use Rattle.tables.specs.Seen.{SeenRegions};
 ghost use Rattle.sound.specs.Clauses.{s9, s10};
 ghost use Rattle.decide.specs.Opening.{Skipped, noneBefore, CanOpen, someLoaded, isOpen, other, others, regionRight};
+use crate::limit::loaded_pieces;
 use crate::order::entry_at;
 use shapes::Board;
 use tables::read;
@@ -149,5 +150,5 @@ pub fn regions_right(board: Board, t: &[u64; 641], p: Partition) -> bool
         }
         r += 1;
     }
-    true
+    loaded_pieces(board, t, p, f) <= 8
 }

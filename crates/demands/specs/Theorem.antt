@@ -13,10 +13,10 @@ use Rattle.sound.specs.Properties.{Isolated}
 use Rattle.rules.specs.Rules.{done, bootOn}
 use Rattle.isolation.specs.Boot.{bootLadder}
 use Rattle.isolation.specs.Laws.Boot.{boot-exact, boot-right}
-use Rattle.isolation.specs.Laws.Fits.{Good, right-good}
+use Rattle.isolation.specs.Laws.Fits.{Good}
 use Rattle.isolation.specs.Ladder.{Answers, Ends}
 use Rattle.isolation.specs.Laws.Ladder.{ends}
-use Rattle.isolation.specs.Whole.{afterAll, from-boot-sound, from-boot-isolated}
+use Rattle.isolation.specs.Whole.{boot-good, afterAll, from-boot-sound, from-boot-isolated}
 use Rattle.ledger.specs.Ledger.{Ledger, opening, keptOn}
 use Rattle.ledger.specs.Theorem.{demand-3}
 use Rattle.ledger.specs.Laws.LedgerRuns.{runs-demand}
@@ -56,7 +56,7 @@ module _ (base end : ℕ) {b : List ℕ} {r : ℕ} {c : List ℕ} (h : BootLent 
     -- and any list of calls after it: the words are the rules', and so is a ledger kept beside them
     module _ {board : Board} {g h′ : Ledger} {ws d : List ℕ} (calls : Called board c g ws d h′) where
       both : (handed d ≡ afterAll board (encode (booted .0)) ws) × (h′ ≡ keptOn board (encode (booted .0)) g ws)
-      both = rw start at (called (subst (Good board) (sym start) (right-good board (boot-right (handed b) base end (booted .1)))) calls)
+      both = rw start at (called (subst (Good board) (sym start) (boot-good board (handed b) base end (booted .1))) calls)
 
       calls-isolated : Isolated (view (handed d))
       calls-isolated = subst (λ (l : List ℕ). Isolated (view l)) (sym (both .0)) (from-boot-isolated board (handed b) ws base end (booted .1))

@@ -11,9 +11,8 @@ use Rattle.tables.specs.View.{view}
 use Rattle.sound.specs.Laws.Core.{sound-core}
 use Rattle.sound.specs.Laws.Properties.{holder-present}
 use Rattle.rules.specs.Rules.{callOn, wordsAfter}
-use Rattle.isolation.specs.Laws.Boot.{boot-right}
-use Rattle.isolation.specs.Laws.Fits.{Good, right-good}
-use Rattle.isolation.specs.Whole.{afterAll}
+use Rattle.isolation.specs.Laws.Fits.{Good}
+use Rattle.isolation.specs.Whole.{boot-good, afterAll}
 use Rattle.ledger.specs.Ledger.{Ledger, opening, Event, noted, answerOn, linesNamed, keptOn}
 use Rattle.ledger.specs.Laws.Kept.{Keeps, after-kept, from-boot-kept}
 use Rattle.engine.specs.Engine.{names, startMasks, engineRefusal, Memory, StartLent}
@@ -124,8 +123,8 @@ module _ (board : Board) {base end : ℕ} (first : List ℕ) (fit : Memory (leng
 
 -- ── from boot ──
 module _ (board : Board) (base end : ℕ) {b : List ℕ} {r : ℕ} {c : List ℕ} (h : BootLent b base end r c) (a : Accepted r) where
-  boot-good : Good board (handed c)
-  boot-good = subst (Good board) (sym (start base end h a)) (right-good board (boot-right (handed b) base end (booted base end h a .1)))
+  start-good : Good board (handed c)
+  start-good = subst (Good board) (sym (start base end h a)) (boot-good board (handed b) base end (booted base end h a .1))
 
   boot-keeps : Keeps base end (opening base end) (view (handed c) .k)
   unfolding keptOn afterAll
@@ -134,7 +133,7 @@ module _ (board : Board) (base end : ℕ) {b : List ℕ} {r : ℕ} {c : List ℕ
   module _ (few : end - base ≤ 2048) (first : List ℕ) (room : end - base ≤ length first) where
     memory : Memory (length first) base end
     memory =
-        let s = sound-core _ (boot-good .sound) .s1 in
+        let s = sound-core _ (start-good .sound) .s1 in
         record { some = omega (arith, s, boot-keeps .base-is, boot-keeps .end-is); few = few; room = room }
 
     module _ {q : ℕ} {begun : List ℕ} (s : StartLent base end first q begun) where
@@ -147,7 +146,7 @@ module _ (board : Board) (base end : ℕ) {b : List ℕ} {r : ℕ} {c : List ℕ
 
       begun-come : Come board first memory c (opening base end) begun
       begun-come = record {
-        good = boot-good;
+        good = start-good;
         keeps = boot-keeps;
         mirrors = subst (Mirrors base end (opening base end)) (sym begins) (start-mirrors first room);
         size = ap length begins ∙ between-length 0 (end - base) _ first;

@@ -1,4 +1,4 @@
--- The runs, for the board's firmware: the table comes as bytes, the outcome goes back as one number.
+-- The runs, and the pieces of an entry, for the board's firmware: the table comes as bytes, the outcome goes back as one number.
 use mathlib.Core.Path.{_≡_}
 use mathlib.Core.Bool.{cond}
 use mathlib.Core.List.{List}
@@ -9,6 +9,7 @@ use Rattle.shapes.specs.declared.Board.{Board}
 use Rattle.memory.specs.Bytes.{wordsOf}
 use Rattle.tables.specs.declared.Outcome.{Outcome}
 use Rattle.tables.specs.declared.Outcome.the-variants.{Done, Refused}
+use Rattle.holders.specs.Listing.{piecesOutcome, piecesWords}
 use Rattle.runs.specs.declared.Run.{Run}
 use Rattle.runs.specs.declared.listing.Plan.{Plan}
 use Rattle.runs.specs.Runs.{runsOutcome, runsRecords}
@@ -34,3 +35,8 @@ leftOf b table = cond (eqb (length table) 5128) (marksIn b (wordsOf table)) (rep
 pub record Handed (b : Board) (table : List ℕ) (before : List Run) (r : ℕ) (after : List Run) : Type 0 where
   pub answer : r ≡ resultOf 0 (runsOutcome b (handed table) (length before))
   pub records : after ≡ runsRecords b (handed table) before
+
+-- what the listing of the pieces of slot s of p promises: its answer, and every word of the list
+pub record PiecesLent (b : Board) (table : List ℕ) (p s : ℕ) (before : List ℕ) (r : ℕ) (after : List ℕ) : Type 0 where
+  pub answer : r ≡ resultOf 0 (piecesOutcome b (handed table) p s (length before))
+  pub words : after ≡ piecesWords b (handed table) p s before

@@ -1,7 +1,7 @@
 ghost use mathlib.Core.Path.{_≡_};
-ghost use lib.ListN.{replicate};
+ghost use lib.ListN.{length, replicate};
 ghost use Rattle.face.specs.Face.{resultOf};
-ghost use Rattle.face.specs.Lists.{Small, readyOf, leftOf};
+ghost use Rattle.face.specs.Lists.{Small, readyOf, leftOf, PiecesLent};
 use shapes::Board;
 use tables::Outcome;
 use words::Partition;
@@ -43,4 +43,17 @@ pub fn plan_bytes(board: Board, table: &[u8], size: usize, words: &mut [u64; 641
         number: n,
         answer: answer,
     }
+}
+
+// The pieces of an entry: `holders::pieces` on bytes.
+pub fn pieces_bytes(board: Board, table: &[u8], partition: u64, slot: u64, list: &mut [u64]) -> u64
+    ensures { λ r. ⌜ PiecesLent board (now (table .entry)) partition slot (now (list .entry)) r (now (list .exit)) ⌝ }
+{
+    if table.len() != 5128 {
+        return answer_word(Outcome::Refused(1));
+    }
+    let mut a = [0u64; 641];
+    let top = memory::load(table, &mut a);
+    let outcome = holders::pieces::pieces_table(board, &a, top, partition, slot, list);
+    answer_word(outcome)
 }

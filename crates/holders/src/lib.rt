@@ -7,7 +7,9 @@ ghost use Rattle.tables.specs.Top.{Top};
 ghost use Rattle.sound.specs.Core.{Core};
 ghost use Rattle.sound.specs.Holders.{heir, deepest, looksOf, Listed, Writes};
 
-// Who holds a line: listed from the root down; and how many slot words the searches for it looked at.
+// Who holds a line: listed from the root down; and how many slot words the searches for it looked at. Beside it the pieces of an entry.
+pub mod pieces;
+
 use decide::is_sound;
 use shapes::Board;
 use tables::Found;

@@ -2,9 +2,10 @@
 use mathlib.Core.Path.{_≡_}
 use mathlib.Core.Bool.{false}
 use Prim.Native.Nat.{ℕ, _<_}
+use lib.Dec.{eqb}
 use Rattle.tables.specs.State.{Table}
 use Rattle.tables.specs.Settle.{settle}
-use Rattle.rules.specs.Rules.{cutK}
+use Rattle.rules.specs.Rules.{unloaded, cutK}
 use Rattle.isolation.specs.Ladder.{Ladder, finish, must, least}
 use Rattle.isolation.specs.Checks.{FreeSlot, freeLadder}
 
@@ -15,4 +16,4 @@ cutLadder t s l =
     must 7 ((e .start < l) × (l < e .stop))
     (least 8 32 (FreeSlot (t .k) (t .k .current)) λ n.
     must 18 (e .whole ≡ false)
-    (finish n 0 (settle (cutK (t .k) s n l e) (t .region))))
+    (finish n 0 (settle (cutK (t .k) s n l e) (unloaded (t .region) (t .k .current) (λ i. eqb i s)))))

@@ -25,5 +25,6 @@ pub mod Pack
 pub mod PackNumber
 pub mod Packed
 pub mod Boot
+pub mod Few
 pub mod Exact
 pub mod Lent

@@ -1,11 +1,12 @@
 -- Services 9 and 11: a region of a partition is loaded or emptied, and read.
 use mathlib.Core.Path.{_≡_}
-use Prim.Native.Nat.{ℕ, _<_}
+use Prim.Native.Nat.{ℕ, _≤_, _<_}
 use Rattle.shapes.specs.declared.Board.{Board}
 use Rattle.tables.specs.State.{none, some, Table}
 use Rattle.tables.specs.Update.{upd}
 use Rattle.tables.specs.Lines.{Clear}
 use Rattle.tables.specs.Settle.{settle}
+use Rattle.sound.specs.Limit.{loadedPieces}
 use Rattle.rules.specs.Rules.{regionWord}
 use Rattle.isolation.specs.Ladder.{Ladder, finish, must, there}
 use Rattle.isolation.specs.Checks.{OwnOrChild}
@@ -21,7 +22,8 @@ loadLadder b t p s r =
     (there 4 (t .k .slot p s) λ e.
     must 5 (Clear (t .k .area) e)
     (must 16 ((r < 8) × Nowhere t p s r)
-    (finish 0 0 (settle (t .k) (upd (t .region) p r (some s))))))
+    (must 19 (loadedPieces b (t .k .slot) (upd (t .region) p r (some s)) p ≤ 8)
+    (finish 0 0 (settle (t .k) (upd (t .region) p r (some s)))))))
 
 -- ── unload ──
 abbrev pub unloadLadder : Table → ℕ → ℕ → Ladder

@@ -17,7 +17,8 @@ use Rattle.sound.specs.Laws.Canonical.{sound-canon}
 use Rattle.sound.specs.Properties.{Isolated, EqualRights}
 use Rattle.sound.specs.Laws.Properties.{core-rights, sound-isolated}
 use Rattle.sound.specs.Laws.Core.{sound-core}
-use Rattle.sound.specs.Whole.{Right}
+use Rattle.sound.specs.Laws.Sound.{few-all}
+use Rattle.sound.specs.Whole.{Right, Few}
 use Rattle.sound.specs.Laws.List.{sound-means}
 use Rattle.sound.specs.Laws.Whole.{sound-right}
 use Rattle.rules.specs.Rules.{Result, done, refused, serve, callOn, bootOn, wordsAfter}
@@ -39,6 +40,7 @@ use Rattle.isolation.specs.Laws.Switch.{switch-right}
 use Rattle.isolation.specs.Laws.ClearOut.{clear-right}
 use Rattle.isolation.specs.Laws.Pack.{pack-right}
 use Rattle.isolation.specs.Laws.Boot.{boot-right}
+use Rattle.isolation.specs.Laws.Few.{create-few, delete-few, prepare-few, collect-few, give-few, take-few, cut-few, merge-few, load-few, unload-few, switch-few, clear-few, pack-few, boot-few}
 
 -- ── one call ──
 -- each service keeps a table right
@@ -66,6 +68,31 @@ serve-right b {t} h f z =
       pack = λ _. pack-right h p;
     })
 
+-- .. and the limit of pieces
+pub serve-few : (b : Board) {t : Table} → Right t → Few b t → (f : CallFields) {v w : ℕ} {t′ : Table} → serve b t f ≡ done v w t′ → Few b t′
+serve-few b {t} h few f z =
+    let p = f .partition .0 in
+    let s = f .slot .0 in
+    let u = f .other in
+    let l = f .line .0 in
+    done-each b t f z (record {
+      create = λ _. create-few b h few s;
+      delete = λ _. delete-few b h few p;
+      prepare = λ _. prepare-few b h few p s;
+      collect = λ _. collect-few b h few p u;
+      give = λ _. give-few b h few p s (f .rights) (f .whole);
+      take = λ _. take-few b h few s;
+      cut = λ _. cut-few b h few s l;
+      merge = λ _. merge-few b h few s u;
+      load = λ _ _. load-few b h few p s u;
+      unload = λ _ _. unload-few b h few p u;
+      readRegion = λ _ z. rw (readRegion-same h p u z) few;
+      find = λ _ z. rw (find-same h p l z) few;
+      switch = λ _. switch-few b h few p;
+      clearOut = λ _. clear-few b h few p;
+      pack = λ _. pack-few b h few p;
+    })
+
 -- services 11 and 12, read region and find
 abbrev pub Reads : CallFields → Type 0
 Reads f = (f .service ≡ 11) ⊎ (f .service ≡ 12)
@@ -87,8 +114,14 @@ module _ (b : Board) (l : List ℕ) (w : ℕ) (small : Words l) where
   pub call-right : {v x : ℕ} {t′ : Table} → callOn b l w ≡ done v x t′ → Right t′
   call-right z = let (_, h, y) = served z in serve-right b h (fieldsIn call w) y
 
+  pub call-good : {v x : ℕ} {t′ : Table} → callOn b l w ≡ done v x t′ → Good b (encode t′)
+  call-good z =
+      let (_, h, y) = served z in
+      let s = sound-means b l .0 (check-done 1 (sound b l) (sym (call-as b l w) ∙ z) .0) in
+      right-good b (serve-right b h (fieldsIn call w) y) (serve-few b h (few-all s) (fieldsIn call w) y)
+
   pub call-sound : {v x : ℕ} {t′ : Table} → callOn b l w ≡ done v x t′ → Sound b (encode t′)
-  call-sound z = right-good b (call-right z) .sound
+  call-sound z = call-good z .sound
 
   -- a call that reads changes no word
   pub reads-same : Reads (fieldsIn call w) → {v x : ℕ} {t′ : Table} → callOn b l w ≡ done v x t′ → encode t′ ≡ l
@@ -99,8 +132,11 @@ pub refused-same : (b : Board) (l : List ℕ) (w : ℕ) {n : ℕ} → callOn b l
 unfolding wordsAfter
 refused-same b l w z = rw z refl
 
+pub boot-good : (b : Board) (l : List ℕ) (base end : ℕ) {v x : ℕ} {t′ : Table} → bootOn l base end ≡ done v x t′ → Good b (encode t′)
+boot-good b l base end z = right-good b (boot-right l base end z) (boot-few b l base end z)
+
 pub boot-sound : (b : Board) (l : List ℕ) (base end : ℕ) {v x : ℕ} {t′ : Table} → bootOn l base end ≡ done v x t′ → Sound b (encode t′)
-boot-sound b l base end z = right-good b (boot-right l base end z) .sound
+boot-sound b l base end z = boot-good b l base end z .sound
 
 -- ── any list of calls ──
 -- the words after the calls of these words, in order
@@ -114,7 +150,7 @@ after-good g [] = g
 after-good {b} {l} g (w ∷ ws) = after-good (one (callOn b l w) refl) ws
   where
     one : (r : Result) → callOn b l w ≡ r → Good b (wordsAfter l r)
-    one (done v x t′) z = right-good b (call-right b l w (g .small) z)
+    one (done v x t′) z = call-good b l w (g .small) z
     one (refused n) z = g
 
 module _ {b : Board} (l ws : List ℕ) (small : Words l) (s : Sound b l) where
@@ -126,7 +162,7 @@ module _ {b : Board} (l ws : List ℕ) (small : Words l) (s : Sound b l) where
 
 module _ (b : Board) (l ws : List ℕ) (base end : ℕ) {v x : ℕ} {t′ : Table} (z : bootOn l base end ≡ done v x t′) where
   pub from-boot-sound : Sound b (afterAll b (encode t′) ws)
-  from-boot-sound = after-good (right-good b (boot-right l base end z)) ws .sound
+  from-boot-sound = after-good (boot-good b l base end z) ws .sound
 
   pub from-boot-isolated : Isolated (view (afterAll b (encode t′) ws))
   from-boot-isolated = sound-isolated (afterAll b (encode t′) ws) from-boot-sound

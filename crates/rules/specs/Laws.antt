@@ -4,4 +4,5 @@ pub mod Pack
 pub mod Ran
 pub mod Calls
 pub mod Reads
+pub mod Unloaded
 pub mod Brief

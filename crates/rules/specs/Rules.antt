@@ -20,7 +20,8 @@ use Rattle.tables.specs.View.{view}
 use Rattle.tables.specs.Encode.{encode, slotWord}
 use Rattle.tables.specs.Write.{withSlot, withArea, withCurrent}
 use Rattle.tables.specs.Search.{lowest, isSome, child, hasChild, absentChild, noStructure, free, lookFor}
-use Rattle.tables.specs.Settle.{settle}
+use Rattle.tables.specs.Settle.{keep, settle}
+use Rattle.sound.specs.Limit.{loadedPieces}
 use Rattle.sound.specs.Clauses.{sound, has, long, within, oneGrant}
 use Rattle.rules.specs.Pack.{packed}
 
@@ -159,7 +160,11 @@ take t s =
     (need 14 (lowest 32 (returned t e)) λ i.
     done 0 0 (settle (takeK (t .k) s i e) (t .region)))
 
--- ── 7 cut: S, L; 4 5 6 7 8 18; S ends at L; lowest free slot gets L to old end, same rights; that slot, 0 ──
+-- no region of c names a slot of m: cut and merge unload the slots that they name, since their pieces change
+abbrev pub unloaded : (ℕ → ℕ → Opt ℕ) → ℕ → (ℕ → Bool) → ℕ → ℕ → Opt ℕ
+unloaded region c m = upd1 region c (λ r. keep (λ i. not (m i)) (region c r))
+
+-- ── 7 cut: S, L; 4 5 6 7 8 18; S ends at L; lowest free slot gets L to old end, same rights; S unloaded; that slot, 0 ──
 abbrev pub cutK : K → ℕ → ℕ → ℕ → Entry → K
 cutK k s n l e = setSlot (setSlot k (k .current) s (some (endingAt e l))) (k .current) n (some (startingAt e l))
 
@@ -169,9 +174,9 @@ cut t s l =
     check 7 (ltb (e .start) l && ltb l (e .stop))
     (need 8 (lowest 32 (free (t .k) (t .k .current))) λ n.
     check 18 (not (e .whole))
-    (done n 0 (settle (cutK (t .k) s n l e) (t .region))))
+    (done n 0 (settle (cutK (t .k) s n l e) (unloaded (t .region) (t .k .current) (λ i. eqb i s)))))
 
--- ── 8 merge: S, T; 4 5 6 11 12; S ends where T ended, T zero; 0, 0 ──
+-- ── 8 merge: S, T; 4 5 6 11 12; S ends where T ended, T zero; S and T unloaded; 0, 0 ──
 abbrev pub mergeK : K → ℕ → ℕ → Entry → Entry → K
 mergeK k s u e f = setSlot (setSlot k (k .current) s (some (endingAt e (f .stop)))) (k .current) u none
 
@@ -183,9 +188,9 @@ merge t s u =
     (check 6 (eqb (e .given) 0 && eqb (f .given) 0)
     (check 11 (eqb (e .stop) (f .start))
     (check 12 (eqb (t .k .current) 0 || oneGrant (t .k) (t .k .current) e f)
-    (done 0 0 (settle (mergeK (t .k) s u e f) (t .region))))))
+    (done 0 0 (settle (mergeK (t .k) s u e f) (unloaded (t .region) (t .k .current) (λ i. eqb i s || eqb i u)))))))
 
--- ── 9 with R = 0, load: P own or child, S of P, T region; 3 4 5 16; region T names S; 0, 0 ──
+-- ── 9 with R = 0, load: P own or child, S of P, T region; 3 4 5 16 19; region T names S; 0, 0 ──
 -- S is already in another region
 unfoldable pub elsewhere : Table → ℕ → ℕ → ℕ → Bool
 elsewhere t p s r = any 8 (λ q. not (eqb q r) && has (λ i. eqb i s) (t .region p q))
@@ -196,7 +201,8 @@ load b t p s r =
     (need 4 (t .k .slot p s) λ e.
     check 5 (t .opened p s)
     (check 16 (ltb r 8 && not (elsewhere t p s r))
-    (done 0 0 (settle (t .k) (upd (t .region) p r (some s))))))
+    (check 19 (leb (loadedPieces b (t .k .slot) (upd (t .region) p r (some s)) p) 8)
+    (done 0 0 (settle (t .k) (upd (t .region) p r (some s)))))))
 
 -- ── 9 with R = 1, unload: P own or child, T; 3 16; region T zero; 0, 0 ──
 unfoldable pub unload : Table → ℕ → ℕ → Result

@@ -1,16 +1,22 @@
 ghost use mathlib.Core.Path.{_≡_};
 ghost use Prim.Native.Nat.{_<_};
+ghost use Rattle.tables.specs.State.{some};
+ghost use Rattle.tables.specs.Update.{upd};
 ghost use Rattle.tables.specs.View.{view};
 ghost use Rattle.tables.specs.Encode.{Canon};
+ghost use Rattle.sound.specs.Limit.{loadedPieces};
 ghost use Rattle.sound.specs.Whole.{Right};
 ghost use Rattle.rules.specs.Rules.{elsewhere, load, unload, readRegion};
 ghost use Rattle.rules.specs.Ran.{Ran};
 ghost use Rattle.blocks.specs.RegionExits.{inAnother};
 use crate::who::own_or_child;
+use decide::limit::loaded_pieces;
 use shapes::Board;
 use tables::Outcome;
+use tables::regions::with_region;
 use words::Partition;
 use words::Slot;
+use words::regions_word::Region;
 
 // region q of p is not region r, and names slot s
 fn in_another(t: &[u64; 641], p: Partition, s: Slot, r: u32, q: u32) -> bool
@@ -44,6 +50,22 @@ fn loaded_elsewhere(t: &[u64; 641], p: Partition, s: Slot, r: u32) -> bool
     false
 }
 
+// the pieces of all that p has loaded once region r names slot s
+fn pieces_after(board: Board, t: &[u64; 641], p: Partition, s: Slot, r: u32) -> u32
+    requires { ⌜ (p .0 < 16) × (s .0 < 32) ⌝ }
+    ensures { λ n. ⌜ n ≡ loadedPieces board (view (now (t .entry)) .k .slot) (upd (view (now (t .entry)) .region) (p .0) r (some (s .0))) (p .0) ⌝ }
+{
+    let f = with_region(
+        tables::read::regions(t, p),
+        r,
+        Region {
+            loaded: true,
+            slot: s,
+        },
+    );
+    loaded_pieces(board, t, p, f)
+}
+
 // 9 with R = 0: region r of p names slot s, which is open: a right table stays settled
 pub fn load(board: Board, t: &mut [u64; 641], p: Partition, s: Slot, r: u32) -> Outcome
     requires { ⌜ Canon (now t) × (p .0 < 16) × (s .0 < 32) × Right (view (now t)) ⌝ }
@@ -64,6 +86,9 @@ pub fn load(board: Board, t: &mut [u64; 641], p: Partition, s: Slot, r: u32) -> 
     }
     if loaded_elsewhere(t, p, s, r) {
         return Outcome::Refused(16);
+    }
+    if pieces_after(board, t, p, s, r) > 8 {
+        return Outcome::Refused(19);
     }
     writing::put_region(t, p, r, s);
     Outcome::Done(0, 0)

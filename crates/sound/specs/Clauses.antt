@@ -16,6 +16,7 @@ use Rattle.tables.specs.View.{firstWord, areaWordAt, regionsWordAt, slotWordAt,
 use Rattle.tables.specs.Search.{isSome, present, child, holds}
 use Rattle.tables.specs.Settle.{meets, apart, openAt}
 use Rattle.tables.specs.ZeroRecord.{zeroBlanks, zeroRecord}
+use Rattle.sound.specs.Limit.{loadedPieces}
 
 -- a test of what is there; nothing passes
 unfoldable pub when : {A : Type 0} → (A → Bool) → Opt A → Bool
@@ -162,7 +163,7 @@ unfoldable pub s10Once : Table → ℕ → ℕ → ℕ → Bool
 s10Once t p r q = when (λ i. when (λ j. not (eqb i j)) (t .region p q)) (t .region p r)
 
 unfoldable pub s10 : Board → Table → ℕ → Bool
-s10 b t p = all 8 (s10Names t p) && all 8 (λ r. all r (s10Once t p r))
+s10 b t p = all 8 (s10Names t p) && all 8 (λ r. all r (s10Once t p r)) && leb (loadedPieces b (t .k .slot) (t .region) p) 8
 
 -- ── S11 ──
 unfoldable pub full : Rights → Bool

@@ -12,6 +12,7 @@ pub mod Canonical
 pub mod Core
 pub mod Properties
 pub mod Chain
+pub mod Limit
 pub mod Whole
 pub mod Settled
 pub mod Holders

@@ -1,3 +1,4 @@
+pub mod Limit
 pub mod Sound
 pub mod Clauses
 pub mod Core

@@ -15,6 +15,7 @@ use Rattle.tables.specs.State.{none, some, Entry, allRights, Area, nowhere, K, 
 use Rattle.tables.specs.View.{firstWord, areaWordAt, regionsWordAt, blankWordAt, slotWordAt, nth, regionsAt, view}
 use Rattle.tables.specs.Spelling.{ZeroWords}
 use Rattle.tables.specs.Lines.{In, InA, Holds, Clear}
+use Rattle.sound.specs.Limit.{loadedPieces}
 
 -- ── words used below ──
 abbrev pub Present : K → ℕ → Type 0
@@ -134,9 +135,10 @@ pub record Loaded (t : Table) (p : ℕ) : Type 0 where
   pub names : (r i : ℕ) → t .region p r ≡ some i → ((e : Entry) × (t .k .slot p i ≡ some e)) × (t .opened p i ≡ true)
   pub once : (r q i : ℕ) → t .region p r ≡ some i → t .region p q ≡ some i → r ≡ q
 
--- S10 a loaded region names an open entry of its own partition; no slot twice.
+-- S10 a loaded region names an open entry of its own partition; no slot twice; at most 8 pieces over the loaded entries of each partition.
 pub record S10 (b : Board) (t : Table) (p : ℕ) : Type 0 where
   pub loaded : Loaded t p
+  pub few : loadedPieces b (t .k .slot) (t .region) p ≤ 8
 
 -- S11 the root's entries have all rights; a child's have no right that the parent's entry around it lacks; a child's own entries inside one grant to it
 -- have equal rights.

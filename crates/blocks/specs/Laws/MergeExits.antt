@@ -1,5 +1,5 @@
--- Merge, exit by exit: the number of each refusal, and, done, that the two open entries are one open entry and only the caller's regions are left to settle.
-use mathlib.Core.Path.{_≡_, refl, sym, subst, _∙_}
+-- Merge, exit by exit: the number of each refusal, and, done, that the two open entries are one open entry, and both slots are unloaded.
+use mathlib.Core.Path.{_≡_, refl, ap, ap₂, sym, subst, _∙_}
 use mathlib.Core.Bool.{Bool, true, false, _&&_, _||_}
 use mathlib.Core.List.{List}
 use Prim.Native.Nat.{ℕ}
@@ -7,22 +7,23 @@ use lib.Dec.{eqb}
 use borrow.Author.Tests.{eq-eqb, ne-eqb}
 use Rattle.loops.specs.Every.{any}
 use Rattle.words.specs.declared.slot_word.SlotFields.{SlotFields}
-use Rattle.tables.specs.State.{some, Entry, K, endingAt}
+use Rattle.tables.specs.State.{Opt, none, some, Entry, K, Table, endingAt}
 use Rattle.tables.specs.View.{view, entryOf}
 use Rattle.tables.specs.Encode.{encode, Is}
-use Rattle.tables.specs.Write.{putSlot}
+use Rattle.tables.specs.Update.{upd}
+use Rattle.tables.specs.Write.{withSlot}
 use Rattle.tables.specs.Seen.{Seen}
 use Rattle.tables.specs.Settle.{settle, settled}
-use Rattle.tables.specs.Kept.{keepRegions}
 use Rattle.tables.specs.declared.Outcome.the-variants.{Done}
-use Rattle.sound.specs.Laws.Settled.{Settled, clear-both, entry-clear, put-settled, empty-words, right-settled}
+use Rattle.sound.specs.Laws.Settled.{Settled, clear-both, settled-words, entry-clear, put-settled, emptied-settled, right-settled}
 use Rattle.sound.specs.Clauses.{containsBoth, oneGrant}
-use Rattle.rules.specs.Rules.{Result, done, refused, check, mergeK, merge}
+use Rattle.rules.specs.Rules.{Result, done, refused, check, unloaded, mergeK, merge}
 use Rattle.rules.specs.Ran.{Ran}
 use Rattle.rules.specs.Laws.Ran.{ran-done, pass, fail, there, missing}
 use Rattle.blocks.specs.Laws.Pick.{at-caller}
 use Rattle.blocks.specs.Laws.RegionExits.{entry-none, entry-there}
-use Rattle.blocks.specs.MergeExits.{mayJoin, joinedAt, CanMerge}
+use Rattle.blocks.specs.Laws.Unloading.{upd-twice, unloaded-same, unloaded-both}
+use Rattle.blocks.specs.MergeExits.{mayJoin, longerAt, joinedAt, CanMerge}
 
 pub joins-root : (k : K) (c : ℕ) (e f : Entry) → c ≡ 0 → true ≡ mayJoin k c e f
 unfolding mayJoin
@@ -49,7 +50,7 @@ module _ {l : List ℕ} {c s u : ℕ} {e f : SlotFields} (h : CanMerge l c s u e
   f-now = at-caller (h .now) (h .second)
 
   abbrev after : Result
-  after = done 0 0 (settle (mergeK (view l .k) s u (entryOf e) (entryOf f)) (view l .region))
+  after = done 0 0 (settle (mergeK (view l .k) s u (entryOf e) (entryOf f)) (unloaded (view l .region) (view l .k .current) (λ i. eqb i s || eqb i u)))
 
   from-5 : {x : Result} → check 5 (view l .opened (view l .k .current) s && view l .opened (view l .k .current) u) (check 6 (eqb (e .given .0) 0 && eqb (f .given .0) 0)
       (check 11 (eqb (e .end .0) (f .start .0)) (check 12 (eqb (view l .k .current) 0 || oneGrant (view l .k) (view l .k .current) (entryOf e) (entryOf f)) after))) ≡ x
@@ -98,14 +99,25 @@ module _ {l : List ℕ} {c s u : ℕ} {e f : SlotFields} (h : CanMerge l c s u e
 
         module _ (m : mayJoin (view l .k) c (entryOf e) (entryOf f) ≡ true) where
           -- the longer entry is open, as its two parts are
-          longer-settled : Settled (putSlot (view l) c s (some (endingAt (entryOf e) (f .end .0))) (e .opened))
+          longer-settled : Settled (longerAt (view l) c s e f)
           longer-settled =
               let was = right-settled (h .right) in
               let low = entry-clear was {e = entryOf e} (entry-there (h .first) (h .first-there)) ∙ h .first .opened ∙ a in
               let high = entry-clear was {e = entryOf f} (entry-there (h .second) (h .second-there)) ∙ h .second .opened ∙ b in
-              rw a (put-settled was c s (endingAt (entryOf e) (f .end .0)) true (clear-both (view l .k .area) (e .start .0) (e .end .0) (f .end .0) low (rw n high)) (λ _. refl))
+              rw a (put-settled (emptied-settled was c s) c s (endingAt (entryOf e) (f .end .0)) true (clear-both (view l .k .area) (e .start .0) (e .end .0) (f .end .0) low (rw n high)) (λ _. refl))
 
-          pub merge-done : {v r : List ℕ} → Is v (joinedAt (view l) c s u e f) → Is r (keepRegions (view v) c) → Ran (merge (view l) s u) l (Done 0 0) r
-          merge-done {r = r} put kept =
+          -- the table of the rule
+          abbrev ruled : ℕ → Table
+          ruled c = settle (withSlot (view l .k) (upd (upd (view l .k .slot) c s (some (endingAt (entryOf e) (f .end .0)))) c u none)) (unloaded (view l .region) c (λ i. eqb i s || eqb i u))
+
+          join-ruled : settled (joinedAt (view l) c s u e f) ≡ ruled c
+          join-ruled = ap₂ (λ (g : ℕ → ℕ → Opt Entry) (r : ℕ → ℕ → Opt ℕ). settle (withSlot (view l .k) (upd g c u none)) r)
+              (upd-twice (view l .k .slot) c s none (some (endingAt (entryOf e) (f .end .0))))
+              (unloaded-same longer-settled c u
+              ∙ ap (λ (r : ℕ → ℕ → Opt ℕ). unloaded r c (λ i. eqb i u)) (unloaded-same (right-settled (h .right)) c s)
+              ∙ unloaded-both (view l .region) c (λ i. eqb i s) (λ i. eqb i u))
+
+          pub merge-done : {r : List ℕ} → Is r (joinedAt (view l) c s u e f) → Ran (merge (view l) s u) l (Done 0 0) r
+          merge-done {r} put =
               ran-done (from-12 (pass 12 (join-now m) refl))
-              (subst (λ (c : ℕ). r ≡ encode (settled (joinedAt (view l) c s u e f))) (sym (h .now)) (empty-words longer-settled c u put kept))
+              (subst (λ (c : ℕ). r ≡ encode (ruled c)) (sym (h .now)) (settled-words put (emptied-settled longer-settled c u) ∙ ap encode join-ruled))

@@ -4,8 +4,8 @@ use mathlib.Core.Bool.{true, false, not, _&&_}
 use mathlib.Core.List.{List}
 use Prim.Native.Nat.{ℕ, _≤_, _<_}
 use native.Mathlib.Omega.{arith}
-use lib.Dec.{ltb, eqb}
-use borrow.Author.Tests.{lt-ltb, le-ltb, eq-eqb, ne-eqb}
+use lib.Dec.{leb, ltb, eqb}
+use borrow.Author.Tests.{lt-ltb, le-ltb, le-leb, lt-leb, eq-eqb, ne-eqb}
 use Rattle.words.specs.declared.regions_word.Region.{Region}
 use Rattle.words.specs.declared.regions_word.RegionsFields.{RegionsFields}
 use Rattle.words.specs.declared.slot_word.SlotFields.{SlotFields}
@@ -16,6 +16,7 @@ use Rattle.tables.specs.Update.{upd}
 use Rattle.tables.specs.Encode.{slotWord}
 use Rattle.tables.specs.Seen.{Seen, SeenRegions}
 use Rattle.tables.specs.Settle.{settle}
+use Rattle.sound.specs.Limit.{loadedPieces}
 use Rattle.sound.specs.Clauses.{has}
 use Rattle.rules.specs.Rules.{Result, done, refused, check, ownOrChild, elsewhere, load, regionWord}
 use Rattle.rules.specs.Laws.Ran.{pass, fail, there}
@@ -77,7 +78,9 @@ module _ {l : List ℕ} {p s : ℕ} {f : SlotFields} (v : Seen l p s f) where
 
 -- ── load: the checks before 16 pass ──
 module _ (board : Board) {l : List ℕ} {p s : ℕ} {f : SlotFields} (own : ownOrChild (view l .k) p ≡ true) (v : Seen l p s f) (q : f .present ≡ true) (o : f .opened ≡ true) (r : ℕ) where
-  from-16 : {x : Result} → check 16 (ltb r 8 && not (elsewhere (view l) p s r)) (done 0 0 (settle (view l .k) (upd (view l .region) p r (some s)))) ≡ x → load board (view l) p s r ≡ x
+  from-16 : {x : Result} → check 16 (ltb r 8 && not (elsewhere (view l) p s r))
+      (check 19 (leb (loadedPieces board (view l .k .slot) (upd (view l .region) p r (some s)) p) 8) (done 0 0 (settle (view l .k) (upd (view l .region) p r (some s))))) ≡ x
+      → load board (view l) p s r ≡ x
   unfolding load
   from-16 e = pass 3 own (there 4 _ _ (entry-there v q) (pass 5 (v .opened ∙ o) e))
 
@@ -87,5 +90,12 @@ module _ (board : Board) {l : List ℕ} {p s : ℕ} {f : SlotFields} (own : ownO
   pub load-twice : r ≤ 7 → elsewhere (view l) p s r ≡ true → load board (view l) p s r ≡ refused 16
   load-twice h e = from-16 (fail 16 _ (rw (region-low r h, e) refl))
 
-  pub load-done : r ≤ 7 → elsewhere (view l) p s r ≡ false → load board (view l) p s r ≡ done 0 0 (settle (view l .k) (upd (view l .region) p r (some s)))
-  load-done h e = from-16 (pass 16 (rw (region-low r h, e) refl) refl)
+  module _ (h : r ≤ 7) (e : elsewhere (view l) p s r ≡ false) {n : ℕ} (is : n ≡ loadedPieces board (view l .k .slot) (upd (view l .region) p r (some s)) p) where
+    from-19 : {x : Result} → check 19 (leb n 8) (done 0 0 (settle (view l .k) (upd (view l .region) p r (some s)))) ≡ x → load board (view l) p s r ≡ x
+    from-19 q = from-16 (pass 16 (rw (region-low r h, e) refl) (rw (← is) q))
+
+    pub load-many : 8 < n → load board (view l) p s r ≡ refused 19
+    load-many w = from-19 (fail 19 _ (lt-leb n 8 w))
+
+    pub load-done : n ≤ 8 → load board (view l) p s r ≡ done 0 0 (settle (view l .k) (upd (view l .region) p r (some s)))
+    load-done w = from-19 (pass 19 (le-leb n 8 w) refl)

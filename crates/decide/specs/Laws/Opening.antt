@@ -1,6 +1,6 @@
 -- The walk along entries and areas decides S9, and the regions one by one decide S10: what each exit gives.
 use mathlib.Core.Path.{_≡_, refl, ap, sym, _∙_}
-use mathlib.Core.Bool.{Bool, true, false, cond, not, Bool·beq, or-true, false≢true}
+use mathlib.Core.Bool.{Bool, true, false, cond, not, _&&_, Bool·beq, or-true, false≢true}
 use mathlib.Core.List.{List}
 use Prim.Native.Nat.{ℕ, zero, suc, _+_, _≤_, _<_}
 use native.Mathlib.Decide.{ℕ-discrete, decLt}
@@ -26,13 +26,17 @@ use Rattle.settling.specs.Gather.{eachOf}
 use Rattle.settling.specs.Areas.{AreasOf, off, clearOf, Parted}
 use Rattle.settling.specs.Laws.Areas.{clear-quick, areas-lined}
 use Rattle.sound.specs.Clauses.{when, s9, s10Names, s10Once, s10}
-use Rattle.sound.specs.Laws.Tests.{and-says, not-of, all-and}
+use Rattle.sound.specs.Limit.{loadedPieces}
+use Rattle.sound.specs.Laws.Limit.{none-loaded}
+use Rattle.sound.specs.Laws.Tests.{and-says, and-true, not-of, all-and}
 use Rattle.decide.specs.Order.{linesOf, linesAt, placed}
 use Rattle.decide.specs.Laws.Order.{lines-of}
 use Rattle.shape.specs.Laws.AtOnce.{shaped-record}
 use Rattle.decide.specs.Laws.Used.{empty-closed}
 use Rattle.decide.specs.Laws.Decide.{solid}
 use Rattle.decide.specs.Decide.{CanDecide}
+use Rattle.decide.specs.Limit.{piecesOf}
+use Rattle.decide.specs.Laws.Limit.{pieces-seen}
 use Rattle.decide.specs.Opening.{Skipped, noneBefore, CanOpen, isOpen, other, others, regionRight, someLoaded}
 
 -- ── S9 ──
@@ -220,9 +224,16 @@ module _ {l : List ℕ} {p r : ℕ} {f : RegionsFields} {x : Region} (v : SeenRe
     region-open o is = rw (read, q, o) (is ∙ all-ext r _ _ (λ j b. ap (when (λ i. not (eqb (x .slot .0) i))) (sym (v .region j (omega arith)))))
 
 -- region by region
-pub s10-each : (board : Board) (t : Table) (p : ℕ) → all 8 (regionRight t p) ≡ s10 board t p
+s10-each : (board : Board) (t : Table) (p : ℕ) → all 8 (regionRight t p) && leb (loadedPieces board (t .k .slot) (t .region) p) 8 ≡ s10 board t p
 unfolding s10 regionRight
-s10-each board t p = all-and 8 (s10Names t p) (λ r. all r (s10Once t p r))
+s10-each board t p = ap (λ (x : Bool). x && leb (loadedPieces board (t .k .slot) (t .region) p) 8) (all-and 8 (s10Names t p) (λ r. all r (s10Once t p r)))
+
+pub s10-fails : (board : Board) (t : Table) (p : ℕ) → false ≡ all 8 (regionRight t p) → false ≡ s10 board t p
+s10-fails board t p e = rw (← (s10-each board t p), ← e) refl
+
+-- .. and the pieces of all that is loaded
+pub s10-counted : (board : Board) {l : List ℕ} {p n : ℕ} {f : RegionsFields} → SeenRegions l p f → true ≡ all 8 (regionRight (view l) p) → n ≡ piecesOf board (view l) p f → leb n 8 ≡ s10 board (view l) p
+s10-counted board {l} {p} v e q = rw (← (s10-each board (view l) p), ← e, q, pieces-seen board v) refl
 
 -- ── no region is loaded ──
 loaded-at : (f : RegionsFields) (r : ℕ) → nth f r .loaded ≡ true → someLoaded f ≡ true
@@ -238,7 +249,11 @@ loaded-at f (suc (suc (suc (suc (suc (suc (suc zero))))))) q = rw (q, or-true) r
 loaded-at f (suc (suc (suc (suc (suc (suc (suc (suc r)))))))) q = absurd (false≢true q)
 
 pub s10-none : (board : Board) {l : List ℕ} {p : ℕ} {f : RegionsFields} → SeenRegions l p f → someLoaded f ≡ false → true ≡ s10 board (view l) p
-s10-none board {l} {p} {f} v q = sym (sym (s10-each board (view l) p) ∙ all-of 8 _ (λ r h. sym (region-none v h refl (unloaded r))))
+unfolding named
+s10-none board {l} {p} {f} v q =
+    sym (sym (s10-each board (view l) p) ∙ and-true _ _
+    (all-of 8 _ (λ r h. sym (region-none v h refl (unloaded r))))
+    (le-leb _ 8 (none-loaded board (view l .k .slot) (view l .region) p (λ r h. v .region r h ∙ rw (unloaded r) refl))))
   where
     unloaded : (r : ℕ) → nth f r .loaded ≡ false
     unloaded r = not-true _ (not-of (nth f r .loaded) (λ x. false≢true (sym q ∙ loaded-at f r x)))

@@ -30,11 +30,11 @@ use Rattle.rules.specs.Rules.{Result, done, refused, callOn, wordsAfter}
 use Rattle.rules.specs.Ran.{outcomeOf}
 use Rattle.rules.specs.Calls.{callerOf}
 use Rattle.rules.specs.Laws.Calls.{caller-small}
-use Rattle.isolation.specs.Laws.Fits.{Good, right-fit, right-good}
+use Rattle.isolation.specs.Laws.Fits.{Good, right-fit}
 use Rattle.isolation.specs.Ladder.{Ladder, Answers}
 use Rattle.isolation.specs.Exact.{callLadder}
 use Rattle.isolation.specs.Laws.Exact.{call-exact}
-use Rattle.isolation.specs.Whole.{call-right, afterAll}
+use Rattle.isolation.specs.Whole.{call-right, call-good, afterAll}
 use Rattle.ledger.specs.Ledger.{Ledger, Event, apply, eventOf, noted, answerOn, linesNamed, keptOn}
 use Rattle.face.specs.Face.{handed, resultOf, secondAfter, bytesAfter, CallLent}
 use Rattle.face.specs.Laws.Face.{handed-is}
@@ -139,7 +139,7 @@ module _ {board : Board} {b : List ℕ} {w s r : ℕ} {c : List ℕ} {s′ : ℕ
       go : (x : Result) → callOn board (handed b) w ≡ x → Good board (wordsAfter (handed b) x) × (handed c ≡ wordsAfter (handed b) x)
       go (done v y t) z =
           let k = call-right board (handed b) w (good .small) z in
-          (right-good board k, ap handed (h .table .bytes ∙ ap (bytesAfter b) z) ∙ handed-of k)
+          (call-good board (handed b) w (good .small) z, ap handed (h .table .bytes ∙ ap (bytesAfter b) z) ∙ handed-of k)
       go (refused n) z = (good, ap handed (h .table .bytes ∙ ap (bytesAfter b) z))
 
 -- ── any list of calls ──

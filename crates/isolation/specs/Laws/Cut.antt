@@ -5,6 +5,7 @@ use mathlib.Core.Bool.{false, false≢true}
 use Prim.Native.Nat.{ℕ, _<_}
 use native.Mathlib.Decide.{decLt}
 use native.Mathlib.Omega.{arith}
+use lib.Dec.{eqb}
 use Rattle.tables.specs.State.{Opt, some, Entry, K, Table, endingAt, startingAt}
 use Rattle.tables.specs.Laws.State.{same, some-inj}
 use Rattle.tables.specs.Update.{both?}
@@ -13,8 +14,8 @@ use Rattle.tables.specs.Settle.{settle}
 use Rattle.sound.specs.Laws.Means.{lt-means, and-means}
 use Rattle.sound.specs.Core.{Core}
 use Rattle.sound.specs.Whole.{Right}
-use Rattle.rules.specs.Rules.{done, cutK, cut}
-use Rattle.isolation.specs.Laws.Settled.{right-loads, settle-right}
+use Rattle.rules.specs.Rules.{done, unloaded, cutK, cut}
+use Rattle.isolation.specs.Laws.Settled.{right-loads, loads-unloaded, settle-right}
 use Rattle.isolation.specs.Ladder.{Answers, finished, Ends}
 use Rattle.isolation.specs.Laws.Ladder.{ends, check-answers, lowest-answers}
 use Rattle.isolation.specs.Laws.Two.{From, old, first, second, same-place, two-from, two-second}
@@ -134,7 +135,7 @@ module _ {k : K} {s n m : ℕ} {e : Entry} (h : Core k) (ok : CutOk k s n m e) w
 
 -- ── the service ──
 abbrev pub CutDone : Table → ℕ → ℕ → ℕ → ℕ → Table → Type 0
-CutDone t s l v w t′ = (e : Entry) × CutOk (t .k) s v l e × (t′ ≡ settle (cutK (t .k) s v l e) (t .region))
+CutDone t s l v w t′ = (e : Entry) × CutOk (t .k) s v l e × (t′ ≡ settle (cutK (t .k) s v l e) (unloaded (t .region) (t .k .current) (λ i. eqb i s)))
 
 module _ {t : Table} (h : Right t) (s l : ℕ) where
   pub cut-exact : Answers (cutLadder t s l) (cut t s l)
@@ -152,4 +153,4 @@ module _ {t : Table} (h : Right t) (s l : ℕ) where
       (e, record { entry = record { at = u; clear = o; free = z }; from = b .0; to = b .1; slot = f .here; plain = m }, refl))
 
   pub cut-right : {v w : ℕ} {t′ : Table} → cut t s l ≡ done v w t′ → Right t′
-  cut-right x = let (e, ok, z) = cut-done x in rw z (settle-right (cut-core (h .core) ok) (h .stop) (right-loads h))
+  cut-right x = let (e, ok, z) = cut-done x in rw z (settle-right (cut-core (h .core) ok) (h .stop) (loads-unloaded (right-loads h) (t .k .current) (λ i. eqb i s)))

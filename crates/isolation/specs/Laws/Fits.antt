@@ -14,7 +14,7 @@ use Rattle.tables.specs.Laws.SmallWords.{encode-small}
 use Rattle.sound.specs.Sound.{Rooted, Sound}
 use Rattle.sound.specs.Core.{Core}
 use Rattle.sound.specs.Laws.Properties.{held-range}
-use Rattle.sound.specs.Whole.{Right}
+use Rattle.sound.specs.Whole.{Right, Few}
 use Rattle.sound.specs.Laws.Whole.{right-sound}
 
 module _ {k : K} (h : Core k) (b : k .stop < 2 ^ 27) where
@@ -79,13 +79,13 @@ right-fit {t} h =
           (f .0, h .eight p r i u, f .1);
     }
 
--- ── the words of a right table ──
+-- ── the words of a right table that keeps the limit ──
 -- sound words, of 64 bits each
 pub record Good (board : Board) (l : List ℕ) : Type 0 where
   pub small : Words l
   pub sound : Sound board l
 
-pub right-good : (board : Board) {t : Table} → Right t → Good board (encode t)
-right-good board {t} h =
+pub right-good : (board : Board) {t : Table} → Right t → Few board t → Good board (encode t)
+right-good board {t} h few =
     let f = right-fit h in
-    record { small = encode-small f; sound = right-sound board (fit-canon f) (rw (view-encode t f) h) }
+    record { small = encode-small f; sound = right-sound board (fit-canon f) (rw (view-encode t f) h) (rw (view-encode t f) few) }

@@ -18,12 +18,12 @@ use Rattle.sound.specs.Clauses.{oneGrant}
 use Rattle.sound.specs.Laws.Properties.{core-rights}
 use Rattle.sound.specs.Laws.Means.{eq-means, and-means}
 use Rattle.sound.specs.Laws.MeansEntries.{else-says, else-true, one-grant-means}
-use Rattle.rules.specs.Rules.{mergeK, done, merge}
+use Rattle.rules.specs.Rules.{done, unloaded, mergeK, merge}
 use Rattle.isolation.specs.Laws.Two.{From, old, first, second, same-place, two-from, two-first, two-old, two-other}
 use Rattle.isolation.specs.Laws.Checks.{FreeEntry}
 use Rattle.isolation.specs.Laws.Keep.{same-clear, Has, still, itself, inside-at}
 use Rattle.isolation.specs.Laws.Slots.{Fine, Stays, Came, slots-core, around-stays, old-fine, old-came, came-equal}
-use Rattle.isolation.specs.Laws.Settled.{right-loads, settle-right}
+use Rattle.isolation.specs.Laws.Settled.{right-loads, loads-unloaded, settle-right}
 use Rattle.isolation.specs.Ladder.{Answers, finished, Ends}
 use Rattle.isolation.specs.Laws.Ladder.{ends, check-answers, need-answers}
 use Rattle.isolation.specs.Laws.Fits.{right-fit}
@@ -208,7 +208,7 @@ module _ {k : K} {s t : ℕ} {e f : Entry} (h : Core k) (ok : MergeOk k s t e f)
 
 -- ── the service ──
 abbrev pub MergeDone : Table → ℕ → ℕ → ℕ → ℕ → Table → Type 0
-MergeDone t s u v w t′ = (e f : Entry) × MergeOk (t .k) s u e f × (t′ ≡ settle (mergeK (t .k) s u e f) (t .region))
+MergeDone t s u v w t′ = (e f : Entry) × MergeOk (t .k) s u e f × (t′ ≡ settle (mergeK (t .k) s u e f) (unloaded (t .region) (t .k .current) (λ i. eqb i s || eqb i u)))
 
 module _ {t : Table} (h : Right t) (s u : ℕ) where
   grant-means : (e f : Entry) → (eqb (t .k .current) 0 || oneGrant (t .k) (t .k .current) e f ≡ true) ↔ MayJoin (t .k) e f
@@ -244,4 +244,4 @@ module _ {t : Table} (h : Right t) (s u : ℕ) where
   ))
 
   pub merge-right : {v w : ℕ} {t′ : Table} → merge t s u ≡ done v w t′ → Right t′
-  merge-right x = let (e, f, ok, z) = merge-done x in rw z (settle-right (merge-core (h .core) ok) (h .stop) (right-loads h))
+  merge-right x = let (e, f, ok, z) = merge-done x in rw z (settle-right (merge-core (h .core) ok) (h .stop) (loads-unloaded (right-loads h) (t .k .current) (λ i. eqb i s || eqb i u)))

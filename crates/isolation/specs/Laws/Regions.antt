@@ -2,7 +2,7 @@
 use mathlib.Core.Path.{_≡_, refl}
 use mathlib.Core.Bool.{Bool, true, not, _&&_}
 use mathlib.Core.Logic.{_⊎_, inl, inr, _↔_}
-use Prim.Native.Nat.{ℕ, _<_}
+use Prim.Native.Nat.{ℕ, _≤_, _<_}
 use lib.Dec.{eqb}
 use Rattle.loops.specs.Laws.Every.{any-at, any-of}
 use Rattle.shapes.specs.declared.Board.{Board}
@@ -12,9 +12,10 @@ use Rattle.tables.specs.Update.{upd}
 use Rattle.tables.specs.Laws.Update.{upd-from}
 use Rattle.tables.specs.Lines.{Clear}
 use Rattle.tables.specs.Settle.{settle}
+use Rattle.sound.specs.Limit.{loadedPieces}
 use Rattle.sound.specs.Clauses.{has}
 use Rattle.sound.specs.Laws.Tests.{not-says, not-of}
-use Rattle.sound.specs.Laws.Means.{eq-means, lt-means, and-means, not-means, has-means}
+use Rattle.sound.specs.Laws.Means.{eq-means, lt-means, le-means, and-means, not-means, has-means}
 use Rattle.sound.specs.Whole.{Right}
 use Rattle.rules.specs.Rules.{done, elsewhere, load, unload, readRegion}
 use Rattle.isolation.specs.Laws.Settled.{right-loads, loads-fewer, loads-more, settle-right, settled-same}
@@ -25,16 +26,17 @@ use Rattle.isolation.specs.Laws.Checks.{own-means}
 use Rattle.isolation.specs.Regions.{Nowhere, loadLadder, unloadLadder, readRegionLadder}
 
 -- ── load ──
--- what checks 3 (who), 4, 5 (at, clear) and 16 (region, once) say
-pub record LoadOk (t : Table) (p s r : ℕ) (e : Entry) : Type 0 where
+-- what checks 3 (who), 4, 5 (at, clear), 16 (region, once) and 19 (few) say
+pub record LoadOk (b : Board) (t : Table) (p s r : ℕ) (e : Entry) : Type 0 where
   pub who : OwnOrChild (t .k) p
   pub at : t .k .slot p s ≡ some e
   pub clear : Clear (t .k .area) e
   pub region : r < 8
   pub once : Nowhere t p s r
+  pub few : loadedPieces b (t .k .slot) (upd (t .region) p r (some s)) p ≤ 8
 
-abbrev pub LoadDone : Table → ℕ → ℕ → ℕ → ℕ → ℕ → Table → Type 0
-LoadDone t p s r v w t′ = (e : Entry) × LoadOk t p s r e × (t′ ≡ settle (t .k) (upd (t .region) p r (some s)))
+abbrev pub LoadDone : Board → Table → ℕ → ℕ → ℕ → ℕ → ℕ → Table → Type 0
+LoadDone b t p s r v w t′ = (e : Entry) × LoadOk b t p s r e × (t′ ≡ settle (t .k) (upd (t .region) p r (some s)))
 
 module _ (board : Board) {t : Table} (h : Right t) (p s r : ℕ) where
   nowhere-means : (not (elsewhere t p s r) ≡ true) ↔ Nowhere t p s r
@@ -60,11 +62,12 @@ module _ (board : Board) {t : Table} (h : Right t) (p s r : ℕ) where
       need-answers λ e u.
       check-answers (h .s9 p s e u) λ _.
       check-answers (and-means (lt-means r 8) nowhere-means) λ _.
+      check-answers (le-means (loadedPieces board (t .k .slot) (upd (t .region) p r (some s)) p) 8) λ _.
       finished
 
-  pub load-done : {v w : ℕ} {t′ : Table} → load board t p s r ≡ done v w t′ → LoadDone t p s r v w t′
+  pub load-done : {v w : ℕ} {t′ : Table} → load board t p s r ≡ done v w t′ → LoadDone board t p s r v w t′
   unfolding Ends
-  load-done = ends (LoadDone t p s r) load-exact (λ c e u o b. (e, record { who = c; at = u; clear = o; region = b .0; once = b .1 }, refl))
+  load-done = ends (LoadDone board t p s r) load-exact (λ c e u o b n. (e, record { who = c; at = u; clear = o; region = b .0; once = b .1; few = n }, refl))
 
   pub load-right : {v w : ℕ} {t′ : Table} → load board t p s r ≡ done v w t′ → Right t′
   load-right x = let (e, ok, z) = load-done x in rw z (settle-right (h .core) (h .stop) (loads-more (right-loads h) (ok .region) (ok .once)))

@@ -1,17 +1,18 @@
 -- settle makes a table right: each open bit by S9, and regions only of open entries. A right table is settled.
 use mathlib.Core.Path.{_≡_, refl, sym, _∙_}
-use mathlib.Core.Bool.{Bool, true, false, cond, false≢true}
+use mathlib.Core.Bool.{Bool, true, false, false≢true}
 use mathlib.Core.Logic.{_⊎_, inl, inr}
 use Prim.Native.Nat.{ℕ, _^_, _<_}
 use Rattle.tables.specs.State.{Opt, none, some, Entry, Area, K, Table}
-use Rattle.tables.specs.Laws.State.{some-inj, not-none}
 use Rattle.tables.specs.Update.{upd}
 use Rattle.tables.specs.Laws.Update.{upd-from}
 use Rattle.tables.specs.Settle.{openBit, openAt, keep, settle}
 use Rattle.sound.specs.Laws.Meets.{open-clear}
 use Rattle.sound.specs.Core.{Core}
+use Rattle.rules.specs.Rules.{unloaded}
+use Rattle.rules.specs.Laws.Unloaded.{unloaded-was}
 use Rattle.sound.specs.Whole.{Right}
-use Rattle.sound.specs.Laws.Settled.{settled-same as same, right-settled}
+use Rattle.sound.specs.Laws.Settled.{keep-some, settled-same as same, right-settled}
 
 -- ── regions ──
 -- eight regions, and no slot twice in a partition
@@ -25,6 +26,10 @@ right-loads h = record { eight = h .eight; once = λ p. h .s10 p .once }
 -- regions emptied
 pub loads-fewer : {region new : ℕ → ℕ → Opt ℕ} → Loads region → ((p r i : ℕ) → new p r ≡ some i → region p r ≡ some i) → Loads new
 loads-fewer h f = record { eight = λ p r i u. h .eight p r i (f p r i u); once = λ p r q i u v. h .once p r q i (f p r i u) (f p q i v) }
+
+-- slots unloaded
+pub loads-unloaded : {region : ℕ → ℕ → Opt ℕ} → Loads region → (c : ℕ) (m : ℕ → Bool) → Loads (unloaded region c m)
+loads-unloaded {region} h c m = loads-fewer h (λ p r i u. unloaded-was region c m p r i u .0)
 
 -- region r of p loaded with slot s, which is in no other region
 pub loads-more : {region : ℕ → ℕ → Opt ℕ} {p r s : ℕ} → Loads region → r < 8 → ((q : ℕ) → (q ≡ r → ⊥) → region p q ≡ some s → ⊥) → Loads (upd region p r (some s))
@@ -54,16 +59,6 @@ loads-more {region} {p} {r} {s} h b n = record {
     once q m o i (inr (_, u)) (inr (_, v)) = h .once q m o i u v
 
 -- ── settle ──
--- a region that is kept was loaded, with an open slot
-keep-some : (o : ℕ → Bool) (x : Opt ℕ) (i : ℕ) → keep o x ≡ some i → (x ≡ some i) × (o i ≡ true)
-unfolding keep
-keep-some o none i q = not-none none refl q
-keep-some o (some j) i q = go (o j) refl q
-  where
-    go : (b : Bool) → o j ≡ b → cond b (some j) none ≡ some i → (some j ≡ some i) × (o i ≡ true)
-    go true u v = (v, rw (← (some-inj v)) u)
-    go false u v = not-none none refl v
-
 open-some : (area : ℕ → ℕ → Opt Area) (x : Opt Entry) → openBit area x ≡ true → (e : Entry) × (x ≡ some e)
 unfolding openBit
 open-some area none q = absurd (false≢true q)

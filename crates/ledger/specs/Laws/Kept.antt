@@ -36,7 +36,7 @@ use Rattle.rules.specs.Reads.{standsAfter}
 use Rattle.rules.specs.declared.Answer.{Answer}
 use Rattle.isolation.specs.Ladder.{Ends}
 use Rattle.isolation.specs.Laws.Ladder.{ends}
-use Rattle.isolation.specs.Laws.Fits.{Good, right-fit, right-good}
+use Rattle.isolation.specs.Laws.Fits.{Good, right-fit}
 use Rattle.isolation.specs.Laws.Keep.{given-child}
 use Rattle.isolation.specs.Laws.Create.{create-done, create-holds}
 use Rattle.isolation.specs.Laws.Remove.{Goes, remove-holds}
@@ -53,7 +53,7 @@ use Rattle.isolation.specs.Laws.Switch.{switch-done}
 use Rattle.isolation.specs.Laws.ClearOut.{branch-goes, clear-done}
 use Rattle.isolation.specs.Laws.Pack.{pack-done, pack-holds}
 use Rattle.isolation.specs.Laws.Boot.{boot-exact, boot-holds, boot-right}
-use Rattle.isolation.specs.Whole.{serve-right, served, afterAll}
+use Rattle.isolation.specs.Whole.{serve-right, served, call-good, boot-good, afterAll}
 use Rattle.ledger.specs.Ledger.{Ledger, opening, Lines, among, adopt, enter, strikeAll, apply, childFor, struck, accepted, eventOf, noted, answerOn, linesOf, linesNamed, keptOn}
 
 -- g is the ledger of a table of base to end: its partitions are those that hold the line, its tree is the table's
@@ -192,7 +192,7 @@ module _ {base end : ℕ} where
       one (done v x t′) z =
           let (_, a, y) = served board l w (h .small) z in
           let q = serve-right board a (fieldsIn call w) y in
-          (right-good board q, rw (view-encode t′ (right-fit q), sound-means board l .1 (h .sound)) (serve-kept a s board (fieldsIn call w) y))
+          (call-good board l w (h .small) z, rw (view-encode t′ (right-fit q), sound-means board l .1 (h .sound)) (serve-kept a s board (fieldsIn call w) y))
       one (refused n) z = (h, s)
 
   boot-kept : (l : List ℕ) {v x : ℕ} {t′ : Table} → bootOn l base end ≡ done v x t′ → Keeps base end (opening base end) (t′ .k)
@@ -209,4 +209,4 @@ module _ {base end : ℕ} where
   -- from an accepted boot the ledger is right after any list of calls
   pub from-boot-kept : (board : Board) (l : List ℕ) {v x : ℕ} {t′ : Table} → bootOn l base end ≡ done v x t′ → (ws : List ℕ)
       → Keeps base end (keptOn board (encode t′) (opening base end) ws) (view (afterAll board (encode t′) ws) .k)
-  from-boot-kept board l {t′ = t′} z = let q = boot-right l base end z in after-kept (right-good board q) (rw (view-encode t′ (right-fit q)) (boot-kept l z))
+  from-boot-kept board l {t′ = t′} z = after-kept (boot-good board l base end z) (rw (view-encode t′ (right-fit (boot-right l base end z))) (boot-kept l z))

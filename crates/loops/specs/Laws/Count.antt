@@ -98,11 +98,15 @@ count-apart (suc n) f g h = omega (arith, count-apart n f g h, bits (f n) (g n) 
     bits false true q = refl
     bits false false q = refl
 
+-- of numbers that are each at most the other
+pub sum-fewer : (n : ℕ) (f g : ℕ → ℕ) → ((k : ℕ) → k < n → f k ≤ g k) → sum n f ≤ sum n g
+unfolding sum done
+sum-fewer zero f g h = omega arith
+sum-fewer (suc n) f g h = omega (arith, sum-fewer n f g (λ k b. h k (omega arith)), h n (omega arith))
+
 -- of fewer numbers
 pub count-fewer : (n : ℕ) (f g : ℕ → Bool) → ((k : ℕ) → f k ≡ true → g k ≡ true) → count n f ≤ count n g
-unfolding sum done
-count-fewer zero f g h = omega arith
-count-fewer (suc n) f g h = omega (arith, count-fewer n f g h, bits (f n) (g n) (h n))
+count-fewer n f g h = sum-fewer n _ _ (λ k b. bits (f k) (g k) (h k))
   where
     bits : (a b : Bool) → (a ≡ true → b ≡ true) → bitOf a ≤ bitOf b
     bits true true q = omega arith

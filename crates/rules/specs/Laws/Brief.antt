@@ -84,7 +84,9 @@ module _ (t : Table) where
 
   load-brief : (board : Board) (p s r : ℕ) → Brief (load board t p s r)
   unfolding load
-  load-brief board p s r = checked 3 _ (omega arith) (needed 4 _ (omega arith) λ e q. checked 5 _ (omega arith) (checked 16 _ (omega arith) (brief-done (omega arith))))
+  load-brief board p s r =
+      checked 3 _ (omega arith) (needed 4 _ (omega arith) λ e q.
+      checked 5 _ (omega arith) (checked 16 _ (omega arith) (checked 19 _ (omega arith) (brief-done (omega arith)))))
 
   unload-brief : (p r : ℕ) → Brief (unload t p r)
   unfolding unload

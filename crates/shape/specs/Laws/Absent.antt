@@ -4,7 +4,7 @@ use mathlib.Core.Bool.{Bool, true, or-true, Bool·beq}
 use mathlib.Core.List.{List}
 use Prim.Native.Nat.{ℕ, _+_}
 use native.Mathlib.Omega.{arith}
-use borrow.Author.Tests.{eq-eqb, ne-eqb}
+use borrow.Author.Tests.{eq-eqb, ne-eqb, le-leb}
 use Rattle.loops.specs.Every.{all}
 use Rattle.loops.specs.Laws.Every.{all-of, all-true}
 use Rattle.words.specs.Kind.{zero-zeroed}
@@ -24,6 +24,7 @@ use Rattle.memory.specs.ByteRecords.{HeaderTells}
 use Rattle.sound.specs.Sound.{Sound}
 use Rattle.sound.specs.Laws.Sound.{s2-of}
 use Rattle.sound.specs.Clauses.{when, s3, rooted, s4Area, s4Absent, s4, s5Slot, s5, apartE, s6, s7Given, s7Whole, s7, s8Backed, s9, s10Names, s10Once, s10, s11Within, s11Equal, s11}
+use Rattle.sound.specs.Laws.Limit.{none-loaded}
 use Rattle.sound.specs.Laws.Tests.{and-true}
 use Rattle.sound.specs.Laws.MeansWords.{s3-means}
 
@@ -84,8 +85,10 @@ module _ (l : List ℕ) (p : ℕ) (z : zeroRecord l p ≡ true) where
   unfolding s10 s10Names s10Once when
   absent-s10 board =
       and-true _ _
+      (and-true _ _
       (all-of 8 (s10Names (view l) p) (λ r h. rw (zero-region l p z r) refl))
-      (all-of 8 (λ r. all r (s10Once (view l) p r)) (λ r h. rw (zero-region l p z r) (all-true r)))
+      (all-of 8 (λ r. all r (s10Once (view l) p r)) (λ r h. rw (zero-region l p z r) (all-true r))))
+      (le-leb _ 8 (none-loaded board (view l .k .slot) (view l .region) p (λ r h. zero-region l p z r)))
 
   pub absent-s11 : (p ≡ 0 → ⊥) → s11 (view l .k) p ≡ true
   unfolding s11 s11Within s11Equal

@@ -20,9 +20,10 @@ use Rattle.tables.specs.Laws.ZeroWord.{not-open}
 use Rattle.tables.specs.Lines.{Clear}
 use Rattle.tables.specs.Search.{isSome}
 use Rattle.tables.specs.Settle.{openBit, openAt}
+use Rattle.sound.specs.Limit.{loadedPieces}
 use Rattle.sound.specs.Sound.{Granted, OneGrant, Sub, S5, S9, S10, S11}
 use Rattle.sound.specs.Clauses.{when, grants, full, within, s9, s10Names, s10Once, s10, s11Within, oneGrant, sameRights, s11Equal, s11}
-use Rattle.sound.specs.Laws.Means.{and-means}
+use Rattle.sound.specs.Laws.Means.{and-means, le-means}
 use Rattle.sound.specs.Laws.MeansEntries.{root-or-means, grants-means, Slots32, every-means, one-grant-means, slots32}
 use Rattle.sound.specs.Laws.Tests.{and-says, and-true, then-says, then-true, not-says, not-of, when-says, when-true, every-says, every-true}
 use Rattle.sound.specs.Laws.Meets.{open-clear}
@@ -99,10 +100,11 @@ module _ (l : List ℕ) (p : ℕ) where
 
 pub s10-means : (board : Board) (l : List ℕ) (p : ℕ) → p < 16 → (s10 board (view l) p ≡ true) ↔ S10 board (view l) p
 unfolding s10
-s10-means board l p hp = (
-  λ q. let (a, b) = and-says _ _ q in record { loaded = record { names = names-means l p .0 a; once = once-means l p .0 b } },
-  λ h. and-true _ _ (names-means l p .1 (h .loaded .names)) (once-means l p .1 (h .loaded .once)),
-)
+s10-means board l p hp =
+    let m = and-means (and-means (names-means l p) (once-means l p)) (le-means (loadedPieces board (view l .k .slot) (view l .region) p) 8) in (
+      λ q. let ((a, b), c) = m .0 q in record { loaded = record { names = a; once = b }; few = c },
+      λ h. m .1 ((h .loaded .names, h .loaded .once), h .few),
+    )
 
 -- ── S11 ──
 pub full-means : (r : Rights) → (full r ≡ true) ↔ (r ≡ allRights)

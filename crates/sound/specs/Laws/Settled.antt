@@ -1,6 +1,6 @@
 -- A right table is settled. So is it after a call that changes nothing but which partition is current, a region that then names an open slot or none, or an entry that stays open.
-use mathlib.Core.Path.{_≡_, refl, ap, sym, _∙_}
-use mathlib.Core.Bool.{Bool, true, false}
+use mathlib.Core.Path.{_≡_, refl, ap, sym, subst, _∙_}
+use mathlib.Core.Bool.{Bool, true, false, cond}
 use mathlib.Core.List.{List}
 use mathlib.Core.Logic.{_⊎_, inl, inr}
 use Prim.Native.Nat.{ℕ, _/_, _%_, _≤_, _<_}
@@ -9,7 +9,7 @@ use native.Mathlib.Omega.{arith}
 use lib.Dec.{ltb}
 use borrow.Author.Tests.{ltb-true, ltb-false}
 use Rattle.loops.specs.Laws.Every.{bool-ext}
-use Rattle.tables.specs.State.{Opt, none, some, Entry, Area, Table}
+use Rattle.tables.specs.State.{Opt, none, some, Entry, Area, K, Table}
 use Rattle.tables.specs.Laws.State.{some-inj, not-none}
 use Rattle.tables.specs.Update.{both?, upd, upd1}
 use Rattle.tables.specs.Laws.Update.{upd-same, upd-other, upd-from, row-same, row-other}
@@ -46,9 +46,23 @@ unfolding keep
 keep-same o none f = refl
 keep-same o (some i) f = rw (f i refl) refl
 
+-- a region that is kept was loaded, with an open slot
+pub keep-some : (o : ℕ → Bool) (x : Opt ℕ) (i : ℕ) → keep o x ≡ some i → (x ≡ some i) × (o i ≡ true)
+unfolding keep
+keep-some o none i q = not-none none refl q
+keep-some o (some j) i q = go (o j) refl q
+  where
+    go : (b : Bool) → o j ≡ b → cond b (some j) none ≡ some i → (some j ≡ some i) × (o i ≡ true)
+    go true u v = (v, rw (← (some-inj v)) u)
+    go false u v = not-none none refl v
+
 pub settled-same : {t : Table} → Settled t → settled t ≡ t
 unfolding settle
 settled-same {t} h = λ x. record { k = t .k; opened = λ p i. h .bits p i x; region = λ p r. keep-same (openAt (t .k) p) (t .region p r) (λ i u. h .bits p i ∙ h .names p r i u) x }
+
+pub settle-settled : (k : K) (region : ℕ → ℕ → Opt ℕ) → Settled (settle k region)
+unfolding settle
+settle-settled k region = record { bits = λ p i. refl; names = λ p r i u. keep-some (openAt k p) (region p r) i u .1 }
 
 -- so the words of it are those of the settled one
 pub settled-words : {l : List ℕ} {t : Table} → Is l t → Settled t → l ≡ encode (settled t)
@@ -100,6 +114,10 @@ module _ {t : Table} (h : Settled t) where
       at q r (no z) =
           keep-same (openAt (new .k) q) (t .region q r) (λ j u. bit q j ∙ upd-other (t .opened) p i false q j (λ w. z (w .0)) ∙ h .names q r j u)
           ∙ sym (row-other (t .region) p kept q r z)
+
+  -- and with those dropped nothing is left to settle
+  pub emptied-settled : (p i : ℕ) → Settled (keepRegions (putSlot t p i none false) p)
+  emptied-settled p i = subst Settled (empty-same p i) (settle-settled (putSlot t p i none false .k) (t .region))
 
   -- so the words of it, with those dropped, are those of the settled one
   pub empty-words : {l m : List ℕ} (p i : ℕ) → Is l (putSlot t p i none false) → Is m (keepRegions (view l) p) → m ≡ encode (settled (putSlot t p i none false))

@@ -1,14 +1,19 @@
 -- The clauses of a sound table by their names.
 use mathlib.Core.Path.{refl}
 use mathlib.Core.List.{List}
-use Prim.Native.Nat.{ℕ, _<_}
+use Prim.Native.Nat.{ℕ, _≤_, _<_}
+use native.Mathlib.Decide.{decLt}
 use native.Mathlib.Omega.{arith}
 use Rattle.words.specs.Kind.{Zeroed}
 use Rattle.words.specs.Words.{first}
 use Rattle.shapes.specs.declared.Board.{Board}
+use Rattle.tables.specs.Laws.State.{none-of}
 use Rattle.tables.specs.View.{firstWord, view}
 use Rattle.tables.specs.Laws.View.{slot-bounds, region-bounds}
+use Rattle.sound.specs.Limit.{loadedPieces}
 use Rattle.sound.specs.Sound.{S1, S2, S3, S4, S5, S6, S7, S8, S9, Loaded, S10, S11, Sound}
+use Rattle.sound.specs.Whole.{Few}
+use Rattle.sound.specs.Laws.Limit.{none-loaded}
 
 module _ {board : Board} {l : List ℕ} (h : Sound board l) where
   pub s1-of : S1 (view l .k)
@@ -56,3 +61,10 @@ module _ {board : Board} {l : List ℕ} (h : Sound board l) where
     names = λ r i u. s10-of p (region-bounds l p r i u .0) .loaded .names r i u;
     once = λ r q i u. s10-of p (region-bounds l p r i u .0) .loaded .once r q i u;
   }
+
+  pub few-all : Few board (view l)
+  few-all = record { at = λ p. go p (decLt p 16) }
+    where
+      go : (p : ℕ) → Dec (p < 16) → loadedPieces board (view l .k .slot) (view l .region) p ≤ 8
+      go p (yes b) = s10-of p b .few
+      go p (no b) = none-loaded board (view l .k .slot) (view l .region) p (λ r _. none-of (view l .region p r) (λ i u. b (region-bounds l p r i u .0)))

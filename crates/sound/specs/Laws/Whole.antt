@@ -1,4 +1,4 @@
--- The table of a sound table's words is right; and canonical words of a right table are sound.
+-- The table of a sound table's words is right; and canonical words of a right table that keeps the limit are sound.
 use mathlib.Core.Path.{_≡_}
 use mathlib.Core.Bool.{true}
 use mathlib.Core.List.{List}
@@ -22,7 +22,7 @@ use Rattle.sound.specs.Laws.Canonical.{canon-s3}
 use Rattle.sound.specs.Laws.Core.{core-s7, core-sound, sound-core}
 use Rattle.sound.specs.Properties.{Isolated}
 use Rattle.sound.specs.Laws.Properties.{isolated}
-use Rattle.sound.specs.Whole.{Right}
+use Rattle.sound.specs.Whole.{Right, Few}
 
 -- a sound table is right ..
 pub sound-right : {board : Board} {l : List ℕ} → Canon l → Sound board l → Right (view l)
@@ -54,9 +54,9 @@ nothing {t} h p z =
       region = λ r. none-of (t .region p r) (λ i u. let ((e, v), _) = h .s10 p .names r i u in not-none (t .k .slot p i) (slot i) v);
     }
 
--- .. and canonical words whose table is right are sound
-pub right-sound : (board : Board) {l : List ℕ} → Canon l → Right (view l) → Sound board l
-right-sound board {l} c h =
+-- .. and canonical words whose table is right and keeps the limit are sound
+pub right-sound : (board : Board) {l : List ℕ} → Canon l → Right (view l) → Few board (view l) → Sound board l
+right-sound board {l} c h few =
     let g = core-sound (h .core) in
     record {
       size = canon-length c;
@@ -71,6 +71,6 @@ right-sound board {l} c h =
           (λ p b. core-s7 (h .core) p (h .s9 p))
           (λ p b. g .s8 p)
           (λ p b. h .s9 p)
-          (λ p b. record { loaded = h .s10 p })
+          (λ p b. record { loaded = h .s10 p; few = few .at p })
           (λ p b. g .s11 p);
     }

@@ -1,9 +1,10 @@
 -- Each service, called in the branch of b, leaves what is outside it.
 use mathlib.Core.Path.{_≡_, refl, ap, sym, subst, _∙_}
-use mathlib.Core.Bool.{Bool, true, false, cond, false≢true}
+use mathlib.Core.Bool.{Bool, true, false, cond, _||_, false≢true}
 use mathlib.Core.Logic.{_⊎_, inl, inr}
 use Prim.Native.Nat.{ℕ, _+_}
 use native.Mathlib.Decide.{ℕ-discrete}
+use lib.Dec.{eqb}
 use native.Mathlib.Omega.{arith}
 use Rattle.loops.specs.Climb.{Reaches, at-root, by-step}
 use Rattle.words.specs.declared.call_word.CallFields.{CallFields}
@@ -18,7 +19,7 @@ use Rattle.sound.specs.Sound.{Present}
 use Rattle.sound.specs.Properties.{Child}
 use Rattle.sound.specs.Whole.{Right}
 use Rattle.rules.specs.Branch.{Under, itself as is-top, below}
-use Rattle.rules.specs.Rules.{done, areaOf, createK, removeK, remove, create, delete, prepare, collect, give, take, cut, merge, load, unload, readRegion, find, switch, clearOut, pack, serve}
+use Rattle.rules.specs.Rules.{done, areaOf, createK, removeK, remove, unloaded, create, delete, prepare, collect, give, take, cut, merge, load, unload, readRegion, find, switch, clearOut, pack, serve}
 use Rattle.rules.specs.Laws.Each.{done-each}
 use Rattle.isolation.specs.Laws.Settled.{settled-same}
 use Rattle.isolation.specs.Checks.{OwnOrChild}
@@ -183,6 +184,10 @@ module _ {b : ℕ} {t : Table} (h : Right t) (home : Present (t .k) b) (inside :
   row-step {p} slot region c = settled-step (slots-frame (λ q i o. row-other (k .slot) p slot q i (not-in (own-in c) o)))
       (λ q r o. row-other (t .region) p region q r (not-in (own-in c) o))
 
+  -- what is unloaded is the caller's
+  unloads : (m : ℕ → Bool) (p r : ℕ) → Outside k b p → unloaded (t .region) (k .current) m p r ≡ t .region p r
+  unloads m p r o = row-other (t .region) (k .current) _ p r (λ z. not-in inside o z)
+
   current-frame : (p : ℕ) → Frame b k (withCurrent k p)
   current-frame p = record { alike = λ q o. record { parent = refl; area = λ j. refl; slot = λ i. refl }; stays = home; tree = λ q v. inl (v, refl) }
 
@@ -204,8 +209,8 @@ module _ {b : ℕ} {t : Table} (h : Right t) (home : Present (t .k) b) (inside :
         collect = λ _ x. let (ok, q) = collect-done h p u x in rw q (settled-step (area-frame _ _ (own-in (ok .who))) (λ p r o. refl));
         give = λ _ x. let (e, ok, q) = give-done h p i (f .rights) (f .whole) x in rw q (settled-step (two-frame _ _ _ _ (child-in (ok .child))) (λ p r o. refl));
         take = λ _ x. let (j, e, g, ok, q) = take-done h i x in rw q (settled-step (two-frame _ _ _ _ (child-in (given-child (h .core) (k .current) i e (ok .at) (ok .given)))) (λ p r o. refl));
-        cut = λ _ x. let (e, ok, q) = cut-done h i l x in rw q (settled-step (two-frame _ _ _ _ inside) (λ p r o. refl));
-        merge = λ _ x. let (e, g, ok, q) = merge-done h i u x in rw q (settled-step (two-frame _ _ _ _ inside) (λ p r o. refl));
+        cut = λ _ x. let (e, ok, q) = cut-done h i l x in rw q (settled-step (two-frame _ _ _ _ inside) (unloads (λ j. eqb j i)));
+        merge = λ _ x. let (e, g, ok, q) = merge-done h i u x in rw q (settled-step (two-frame _ _ _ _ inside) (unloads (λ j. eqb j i || eqb j u)));
         load = λ _ _ x. let (e, ok, q) = load-done board h p i u x in rw q (region-step _ _ (ok .who));
         unload = λ _ _ x. let (c, _, q) = unload-done h p u x in rw q (region-step _ _ c);
         readRegion = λ _ x. same-step (readRegion-same h p u x);

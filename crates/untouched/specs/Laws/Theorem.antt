@@ -25,8 +25,8 @@ use Rattle.sound.specs.Whole.{Right}
 use Rattle.sound.specs.Laws.Whole.{sound-right}
 use Rattle.rules.specs.Branch.{Under, itself as is-top, below}
 use Rattle.rules.specs.Rules.{Result, done, refused, callOn, wordsAfter}
-use Rattle.isolation.specs.Laws.Fits.{Good, right-fit, right-good}
-use Rattle.isolation.specs.Whole.{served, afterAll, after-good, call-right}
+use Rattle.isolation.specs.Laws.Fits.{Good, right-fit}
+use Rattle.isolation.specs.Whole.{served, afterAll, after-good, call-right, call-good}
 use Rattle.untouched.specs.Untouched.{Within, Outside, Beside, Higher, Untouched}
 use Rattle.untouched.specs.Laws.Frame.{Alike, above-outside, outside-stays, beside-stays, opened-same}
 use Rattle.untouched.specs.Laws.Served.{Step, serve-step}
@@ -131,7 +131,7 @@ module _ {b : ℕ} where
   after-left {board} {l} g (w ∷ ws) (u, h) = left-on (call-left g w u) (after-left (next (callOn board l w) refl) ws h)
     where
       next : (r : Result) → callOn board l w ≡ r → Good board (wordsAfter l r)
-      next (done v x new) z = right-good board (call-right board l w (g .small) z)
+      next (done v x new) z = call-good board l w (g .small) z
       next (refused n) z = g
 
 -- ── of the words ──

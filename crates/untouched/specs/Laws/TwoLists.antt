@@ -28,6 +28,7 @@ use Rattle.rules.specs.Ran.{outcomeOf}
 use Rattle.rules.specs.Calls.{callerOf}
 use Rattle.rules.specs.Laws.Calls.{call-as}
 use Rattle.rules.specs.Laws.Each.{perform-at}
+use Rattle.sound.specs.Laws.Sound.{few-all}
 use Rattle.isolation.specs.Laws.Fits.{Good, right-fit, right-good}
 use Rattle.isolation.specs.Whole.{Reads, afterAll, after-good}
 use Rattle.untouched.specs.Untouched.{Within, Beside, turnedTo, SameAnswers, BranchWords}
@@ -129,17 +130,20 @@ module _ {board : Board} {l : List ℕ} (p : ℕ) (g : Good board l) (v : Presen
   pub turned : Right (putCurrent (view l) p)
   turned = turned-right (sound-right (sound-canon (g .small) (g .sound)) (g .sound)) v
 
+  -- .. which keeps the limit of pieces: neither slots nor regions change
+  pub turned-good : Good board (turnedTo p l)
+  turned-good = right-good board turned (record { at = few-all (g .sound) .at })
+
   pub turned-caller : callerOf board (turnedTo p l) ≡ p
   unfolding callerOf
-  turned-caller = rw (sound-means board (turnedTo p l) .1 (right-good board turned .sound), view-encode (putCurrent (view l) p) (right-fit turned)) refl
+  turned-caller = rw (sound-means board (turnedTo p l) .1 (turned-good .sound), view-encode (putCurrent (view l) p) (right-fit turned)) refl
 
 -- a call on words with p current is its service on that table
 turned-serves : {board : Board} {l : List ℕ} (p : ℕ) → Good board l → Present (view l .k) p → (w : ℕ)
     → callOn board (turnedTo p l) w ≡ check 2 (zeroed call w) (serve board (putCurrent (view l) p) (fieldsIn call w))
 unfolding check
 turned-serves {board} {l} p g v w =
-    let h = turned p g v in
-    call-as board (turnedTo p l) w ∙ rw (sound-means board (turnedTo p l) .1 (right-good board h .sound), view-encode (putCurrent (view l) p) (right-fit h)) refl
+    call-as board (turnedTo p l) w ∙ rw (sound-means board (turnedTo p l) .1 (turned-good p g v .sound), view-encode (putCurrent (view l) p) (right-fit (turned p g v))) refl
 
 module _ {board : Board} (l ws vs : List ℕ) (b : ℕ) (g : Good board l) (one : Within board b l ws) (two : Within board b l vs) (p : ℕ) (s : Beside (view l .k) b p) where
   sees : Sees (view (afterAll board l ws)) (view (afterAll board l vs)) p

@@ -1,9 +1,9 @@
-use Rattle.tables.specs.State.{Table, none}
-use mathlib.Core.Bool.{false}
+use Rattle.tables.specs.State.{Table, some, endingAt}
+use Rattle.tables.specs.View.{entryOf}
 use Rattle.tables.specs.Laws.Encode.{is-canon}
 use Rattle.tables.specs.Write.{putSlot}
 use Rattle.writing.specs.Laws.Stored.{is-then}
-use borrow.Author.Needs.{needs}
+use Rattle.blocks.specs.Unloading.{unloadedAt}
 use Rattle.blocks.proofs.merge_service.join.Statement.{statement}
 use Rattle.blocks.proofs.merge_service.join.Tie as tie
 
@@ -11,6 +11,9 @@ pub join-spec : {M : Type 1} → statement M
 join-spec =
     tie.close
     (tie.spec
-    (λ c κs. search needs)
-    (λ c κs. record { canon = is-canon (c .before .put-entry .ensures); inP = c .before .before .before .before .pre .0 .inP; inI = c .before .before .before .before .pre .1 })
-    (λ c. is-then (λ (t : Table). putSlot t (c .before .before .before .before .before .args .c .0) (c .before .before .before .before .before .args .u .0) none false) (c .before .before .put-entry .ensures) (c .clear-entry .ensures)))
+    (λ c κs. record { canon = c .before .pre .0 .canon; inP = c .before .pre .0 .inP; inI = c .before .pre .0 .inI })
+    (λ c κs. record { canon = is-canon (c .before .before .unload-entry .ensures); inP = c .before .before .before .before .pre .0 .inP; inI = c .before .before .before .before .pre .0 .inI; present = c .before .before .before .before .pre .0 .present; given-small = c .before .before .before .before .pre .0 .given-small; start-small = c .before .before .before .before .pre .0 .start-small; end-small = c .before .before .before .before .pre .2 })
+    (λ c κs. record { canon = is-canon (c .before .put-entry .ensures); inP = c .before .before .before .before .before .before .pre .0 .inP; inI = c .before .before .before .before .before .before .pre .1 })
+    (λ c. is-then (λ (t : Table). unloadedAt t (c .before .before .before .before .before .before .before .args .c .0) (c .before .before .before .before .before .before .before .args .u .0))
+    (is-then (λ (t : Table). putSlot t (c .before .before .before .before .before .before .before .args .c .0) (c .before .before .before .before .before .before .before .args .s .0) (some (endingAt (entryOf (c .before .before .before .before .before .before .before .args .e)) (c .before .before .before .before .before .before .before .args .f .end .0))) (c .before .before .before .before .before .before .before .args .e .opened)) (c .before .before .before .before .before .unload-entry .ensures) (c .before .before .put-entry .ensures))
+    (c .unload-entry2 .ensures)))

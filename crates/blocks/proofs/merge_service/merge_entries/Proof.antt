@@ -1,7 +1,5 @@
 use mathlib.Core.Path.{sym, _∙_}
-use native.Mathlib.Omega.{arith}
 use borrow.Author.Tests.{not-true, not-false}
-use Rattle.tables.specs.Laws.Encode.{is-canon}
 use Rattle.rules.specs.Laws.Ran.{ran-refused}
 use Rattle.blocks.specs.Laws.MergeExits.{merge-closed, merge-other-closed, merge-given, merge-other-given, merge-apart, merge-two-grants, merge-done}
 use borrow.Author.Needs.{needs}
@@ -20,5 +18,4 @@ merge-entries-spec =
     (λ c κs. search needs)
     (λ c. ran-refused (merge-two-grants (c .before .before .before .before .before .before .before .before .before .before .before .before .before .before .pre) (not-false _ (c .before .before .before .before .before .before .before .before .before .before .before .before .if1 .left)) (not-false _ (c .before .before .before .before .before .before .before .before .before .before .if2 .left)) (c .before .before .before .before .before .before .before .before .if3 .left) (c .before .before .before .before .before .before .if4 .left) (c .before .before .before .if5 .left) (sym (c .before .may-join .ensures) ∙ not-true _ (c .if6 .taken))))
     (λ c κs. search needs)
-    (λ c κs. (is-canon (c .before .join .ensures), omega (arith, c .before .before .before .before .before .before .before .before .before .before .before .before .before .before .before .before .before .pre .caller)))
-    (λ c. merge-done (c .before .before .before .before .before .before .before .before .before .before .before .before .before .before .before .before .before .before .pre) (not-false _ (c .before .before .before .before .before .before .before .before .before .before .before .before .before .before .before .before .if1 .left)) (not-false _ (c .before .before .before .before .before .before .before .before .before .before .before .before .before .before .if2 .left)) (c .before .before .before .before .before .before .before .before .before .before .before .before .if3 .left) (c .before .before .before .before .before .before .before .before .before .before .if4 .left) (c .before .before .before .before .before .before .before .if5 .left) (sym (c .before .before .before .before .before .may-join .ensures) ∙ not-false _ (c .before .before .before .before .if6 .left)) (c .before .before .join .ensures) (c .settle-regions .ensures)))
+    (λ c. merge-done (c .before .before .before .before .before .before .before .before .before .before .before .before .before .before .before .before .pre) (not-false _ (c .before .before .before .before .before .before .before .before .before .before .before .before .before .before .if1 .left)) (not-false _ (c .before .before .before .before .before .before .before .before .before .before .before .before .if2 .left)) (c .before .before .before .before .before .before .before .before .before .before .if3 .left) (c .before .before .before .before .before .before .before .before .if4 .left) (c .before .before .before .before .before .if5 .left) (sym (c .before .before .before .may-join .ensures) ∙ not-false _ (c .before .before .if6 .left)) (c .join .ensures)))

@@ -1,0 +1,3 @@
+-- The pieces of an entry, listed.
+pub mod Listing
+pub mod Laws

@@ -1,0 +1,32 @@
+use Prim.Native.Nat.{_-_}
+use native.Mathlib.Omega.{arith}
+use Rattle.shapes.specs.Laws.Listing.{Listing, list-start, list-size, list-room, list-within, list-some, list-on, list-end}
+use borrow.Author.Needs.{needs}
+use Rattle.shapes.proofs.pieces.write_shaped.Statement.{statement}
+use Rattle.shapes.proofs.pieces.write_shaped.Tie as tie
+
+pub write-shaped-spec : {M : Type 1} → statement M
+write-shaped-spec =
+    tie.close
+    (tie.spec
+    (λ start end list₀ n₀ at₀ list n at. Listing start end list₀ n at list)
+    (λ start end list₀ n₀ at₀ list n at. end - at)
+    (λ c. list-start (c .before .pre .block))
+    (λ c κs. search needs)
+    (λ c κs. search needs)
+    (λ c.
+    let d = c .before .before .before in
+    let size = list-size (d .loop .inv) (d .before .before .pre) in
+    let room = list-room (d .loop .inv) (d .before .before .pre) (omega arith) in
+    search needs)
+    (λ c. let d = c .before .before .before in list-room (d .loop .inv) (d .before .before .pre) (omega arith))
+    (λ c.
+    let d = c .before .before .before in
+    let size = list-size (d .loop .inv) (d .before .before .pre) in
+    let room = list-room (d .loop .inv) (d .before .before .pre) (omega arith) in
+    search needs)
+    (λ c. let d = c .before .before .before in omega (arith, list-within (d .loop .inv) (d .before .before .pre) (omega arith) (c .before .widest .ensures)))
+    (λ c. let d = c .before .before .before in omega (arith, list-some (d .loop .inv) (d .before .before .pre) (omega arith) (c .before .widest .ensures)))
+    (λ c. let d = c .before .before .before in list-on (d .loop .inv) (d .before .before .pre) (omega arith) (c .before .widest .ensures) (c .piece-word .ensures))
+    (λ c. list-size (c .before .loop .inv) (c .before .before .before .pre))
+    (λ c. list-end (c .before .loop .inv) (c .before .before .before .pre) (omega arith)))

@@ -1,0 +1,9 @@
+pub mod Widest
+pub mod Greedy
+pub mod Clean
+pub mod Cover
+pub mod Only
+pub mod Halves
+pub mod Counting
+pub mod Listing
+pub mod Shapes

@@ -1,0 +1,34 @@
+-- The loop that counts the pieces by halving.
+use mathlib.Core.Path.{_≡_, ap}
+use Prim.Native.Nat.{ℕ, _+_, _/_, _%_, _^_, _≤_, _<_}
+use native.Mathlib.Omega.{arith}
+use lib.ListN.{length}
+use Rattle.shapes.specs.declared.Board.{Board}
+use Rattle.shapes.specs.declared.Board.the-variants.{V7}
+use Rattle.shapes.specs.Pieces.{pieces, piecesFor}
+use Rattle.shapes.specs.Laws.Greedy.{pieces-none}
+use Rattle.shapes.specs.Laws.Halves.{pieces-half, pieces-few}
+
+-- n pieces of s to e are counted; those of a to b are not yet
+pub record Counting (s e a b n : ℕ) : Type 0 where
+  pub small : b < 2 ^ 27
+  pub left : length (pieces s e) ≡ n + length (pieces a b)
+  pub few : n ≤ 52
+
+pub count-start : {s e : ℕ} → e < 2 ^ 27 → Counting s e s e 0
+count-start h = record { small = h; left = omega arith; few = omega arith }
+
+module _ {s e a b n : ℕ} (c : Counting s e a b n) (small : e < 2 ^ 27) where
+  pub count-on : a < b → Counting s e ((a + 1) / 2) (b / 2) (n + (a % 2 + b % 2))
+  count-on h = record {
+    small = omega (arith, c .small);
+    left = omega (arith, c .left, pieces-half (c .small) h);
+    few = omega (arith, c .left, pieces-half (c .small) h, pieces-few s e small);
+  }
+
+  pub count-end : b ≤ a → n ≡ length (pieces s e)
+  count-end h = omega (arith, c .left, ap length (pieces-none a b h))
+
+-- so on ARMv7-M
+pub counted : {board : Board} (s e : ℕ) {r : ℕ} → board ≡ V7 → e < 2 ^ 27 → r ≡ length (pieces s e) → (r ≡ length (piecesFor board s e)) × (r ≤ 52)
+counted s e b small q = (rw b q, omega (arith, pieces-few s e small))
