@@ -86,7 +86,7 @@ enum {
 
 /*
  * Each answers  refusal + 2^8 * caller + 2^32 * first;  bits 16 to 31 are zero. Refusal 0: done. The caller's
- * number is the one before the call; it is 0 where refusal is 1, and for boot, holders, runs and pieces. Refused: first
+ * number is the one before the call; it is 0 where refusal is 1, and for boot, holders, runs, pieces and check. Refused: first
  * is 0, and *second, which is lent memory, stays as it was; it is written only when done. Pointers are never null;
  * buffers don't overlap.
  */
@@ -130,6 +130,16 @@ uint64_t ulavrepit_runs(const uint8_t *table, uint64_t table_len, ulavrepit_run 
  */
 uint64_t ulavrepit_pieces(const uint8_t *table, uint64_t table_len, uint64_t partition, uint64_t slot, uint64_t *list,
                           uint64_t list_len);
+
+/* ---- the verdict on an image ---- */
+
+/*
+ * For whoever makes tables without boot and calls: why a table is refused 1. Nothing is written. Refused 1: not 5,128
+ * bytes. Else done, and first is 0 for a sound table; for another it is 16 * clause + partition: the lowest of S1 to S11
+ * that fails (docs/SOUND.md has their words) and the lowest partition where it fails, 0 for word 0. Of a grant that is
+ * badly covered that is the child, of two areas that share a line the lower owner.
+ */
+uint64_t ulavrepit_check(const uint8_t *table, uint64_t table_len);
 
 /* ---- the line engine ---- */
 
@@ -211,6 +221,20 @@ static inline ulavrepit_answer ulavrepit_pieces_answer(const uint8_t *table, uin
                                                        uint64_t slot, uint64_t *list, uint64_t list_len)
 {
     return ulavrepit_unpack_answer(ulavrepit_pieces(table, table_len, partition, slot, list, list_len), 0);
+}
+
+typedef struct {
+    uint32_t refusal;           /* 1: not 5,128 bytes */
+    uint32_t clause, partition; /* 0, 0 where refused, and for a sound table; else 1 to 11, and 0 to 15 */
+} ulavrepit_verdict;
+
+static inline ulavrepit_verdict ulavrepit_unpack_verdict(uint64_t result)
+{
+    ulavrepit_verdict verdict;
+    verdict.refusal = (uint32_t)(result & 0xff);
+    verdict.clause = (uint32_t)(result >> 36);
+    verdict.partition = (uint32_t)(result >> 32 & 15);
+    return verdict;
 }
 
 /* ---- call words: service 4, P 4, S 5, T 5, R 3, L 27, W 1, zero 15 bits, most significant first ---- */

@@ -570,6 +570,20 @@ static bool area_twice(second_table *t, dice *d)
     return to->area.end != 0;
 }
 
+/* A child's structure lies where a sibling's record does: its area is an entry of the parent's, as it should be. */
+static bool area_of_two_owners(second_table *t, dice *d)
+{
+    uint8_t p = some_partition(t, is_child, d), q = some_partition(t, is_child, d);
+    if (p == SECOND_PARTITIONS || p == q || t->partitions[p].parent != t->partitions[q].parent)
+        return false;
+    second_structure *structure = some_structure(t, p, false, d);
+    if (structure == NULL)
+        return false;
+    structure->present = true;
+    structure->area = t->partitions[q].area;
+    return true;
+}
+
 static bool header_in_its_own_entry(second_table *t, dice *d)
 {
     uint8_t p, s;
@@ -777,8 +791,8 @@ static const way ways[] = {
     {7, false, held_without_grant, NULL}, {7, false, grant_forgotten, NULL}, {7, false, more_memory, NULL},
     {7, false, grants_in_one, NULL}, {7, false, piece_is_whole, NULL}, {7, false, whole_is_given, NULL},
     {7, false, whole_is_closed, NULL},
-    {8, false, area_unlike_its_entry, NULL}, {8, false, area_twice, NULL}, {8, true, header_in_its_own_entry, NULL},
-    {8, true, area_in_given_entry, NULL}, {8, true, area_in_strange_entry, NULL},
+    {8, false, area_unlike_its_entry, NULL}, {8, false, area_twice, NULL}, {8, false, area_of_two_owners, NULL},
+    {8, true, header_in_its_own_entry, NULL}, {8, true, area_in_given_entry, NULL}, {8, true, area_in_strange_entry, NULL},
     {9, false, open_bit_turned, NULL},
     {10, false, region_of_no_open_entry, NULL}, {10, false, regions_of_one_slot, NULL}, {10, false, too_many_pieces, NULL},
     {11, false, root_lacks_a_right, NULL}, {11, false, child_exceeds_its_parent, NULL},
@@ -795,10 +809,9 @@ static const way *some_way(dice *d)
     return chosen;
 }
 
-uint8_t damage(const second_table *sound, uint8_t *table, dice *d)
+static uint8_t damage_by(const way *chosen, const second_table *sound, uint8_t *table, dice *d)
 {
     static second_table t;
-    const way *chosen = some_way(d);
     t = *sound;
     if (chosen->in_table != NULL && !chosen->in_table(&t, d))
         return 0;
@@ -808,6 +821,21 @@ uint8_t damage(const second_table *sound, uint8_t *table, dice *d)
     if (chosen->in_bytes != NULL && !chosen->in_bytes(table, &t, d))
         return 0;
     return chosen->clause;
+}
+
+unsigned damage_ways(void)
+{
+    return sizeof ways / sizeof *ways;
+}
+
+uint8_t damage_in(unsigned which, const second_table *sound, uint8_t *table, dice *d)
+{
+    return damage_by(&ways[which], sound, table, d);
+}
+
+uint8_t damage(const second_table *sound, uint8_t *table, dice *d)
+{
+    return damage_by(some_way(d), sound, table, d);
 }
 
 static bool board_s10(const second_table *t)

@@ -16,6 +16,10 @@ enum { CLAUSES = 11 };
  */
 uint8_t damage(const second_table *sound, uint8_t *table, dice *d);
 
+/* There are so many ways; and one of them, by its number from 0 on, likewise. */
+unsigned damage_ways(void);
+uint8_t damage_in(unsigned which, const second_table *sound, uint8_t *table, dice *d);
+
 /*
  * The one clause of the table that fails, by the second program's eleven answers; 0 if none or more than one
  * does. Where S5 fails, its answers for S6 and S7 say nothing, and where S6 fails, that for S7: those are not

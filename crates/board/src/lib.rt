@@ -4,6 +4,7 @@ ghost use Rattle.face.specs.Face.{handed, Lent, CallLent, ListLent};
 ghost use Rattle.face.specs.Lists.{PiecesLent};
 
 // The library for ARMv7-M: the functions that its firmware calls, which is C. include/ulavrepit.h declares them; `face` has them for every board.
+pub mod check;
 pub mod lists;
 pub mod masks;
 

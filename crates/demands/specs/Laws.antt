@@ -5,3 +5,4 @@ pub mod Listings
 pub mod Calls
 pub mod Written
 pub mod BranchProof
+pub mod ChecksProof

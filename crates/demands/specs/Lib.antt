@@ -1,4 +1,5 @@
 pub mod Demands
 pub mod Theorem
 pub mod Branch
+pub mod Checks
 pub mod Laws

@@ -9,6 +9,7 @@ use Rattle.tables.specs.State.{Table}
 use Rattle.tables.specs.View.{view}
 use Rattle.tables.specs.Encode.{encode}
 use Rattle.memory.specs.Bytes.{bytesOf}
+use Rattle.sound.specs.Sound.{Sound}
 use Rattle.sound.specs.Properties.{Isolated}
 use Rattle.rules.specs.Rules.{done, bootOn}
 use Rattle.isolation.specs.Boot.{bootLadder}
@@ -58,6 +59,9 @@ module _ (base end : ℕ) {b : List ℕ} {r : ℕ} {c : List ℕ} (h : BootLent 
       both : (handed d ≡ afterAll board (encode (booted .0)) ws) × (h′ ≡ keptOn board (encode (booted .0)) g ws)
       both = rw start at (called (subst (Good board) (sym start) (boot-good board (handed b) base end (booted .1))) calls)
 
+      pub calls-sound : Sound board (handed d)
+      calls-sound = rw (both .0) (from-boot-sound board (handed b) ws base end (booted .1))
+
       calls-isolated : Isolated (view (handed d))
       calls-isolated = subst (λ (l : List ℕ). Isolated (view l)) (sym (both .0)) (from-boot-isolated board (handed b) ws base end (booted .1))
 
@@ -66,7 +70,7 @@ module _ (base end : ℕ) {b : List ℕ} {r : ℕ} {c : List ℕ} (h : BootLent 
         let (u, v) = both calls in
         let z = booted .1 in
         tells d
-        (rw u (from-boot-sound board (handed b) ws base end z))
+        (calls-sound calls)
         (rw (u, v) (demand-3 board (handed b) base end z ws))
         (rw (u, v) (runs-demand board (handed b) base end z ws))
 

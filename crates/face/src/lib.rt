@@ -4,6 +4,7 @@ ghost use Rattle.rules.specs.Rules.{bootOn};
 ghost use Rattle.face.specs.Face.{handed, packed, Lent, CallLent, ListLent};
 
 // What a board's firmware calls, which is C, for every board: the crate of a board has these under the names that include/ulavrepit.h declares.
+pub mod check;
 pub mod lists;
 
 use shapes::Board;

@@ -85,7 +85,7 @@ fn area_sound(p: Partition, j: u32, a: Line, b: Line) -> bool
 }
 
 // S3 and S4 of the header
-fn header_sound(t: &[u64; 641], p: Partition) -> bool
+pub fn header_sound(t: &[u64; 641], p: Partition) -> bool
     requires { ⌜ p .0 < 16 ⌝ }
     ensures { λ r. ⌜ r ≡ headerTest (now (t .entry)) (view (now (t .entry)) .k) (p .0) ⌝ }
 {
@@ -118,7 +118,7 @@ fn structure_sound(t: &[u64; 641], p: Partition, j: u32) -> bool
 }
 
 // .. of all four
-fn structures_sound(t: &[u64; 641], p: Partition) -> bool
+pub fn structures_sound(t: &[u64; 641], p: Partition) -> bool
     requires { ⌜ p .0 < 16 ⌝ }
     ensures { λ r. ⌜ r ≡ all 4 (structureTest (now (t .entry)) (view (now (t .entry)) .k) (p .0)) ⌝ }
 {
@@ -157,7 +157,7 @@ fn all_blank(f: RegionsFields) -> bool
 }
 
 // S3 of the regions; a zero word has none loaded
-fn regions_sound(t: &[u64; 641], p: Partition) -> bool
+pub fn regions_sound(t: &[u64; 641], p: Partition) -> bool
     requires { ⌜ p .0 < 16 ⌝ }
     ensures { λ r. ⌜ r ≡ s3Regions (now (t .entry)) (p .0) ⌝ }
 {
@@ -213,7 +213,7 @@ fn structure_slots(t: &[u64; 641], p: Partition, j: u32) -> bool
 }
 
 // .. of all 32
-fn slots_sound(t: &[u64; 641], p: Partition) -> bool
+pub fn slots_sound(t: &[u64; 641], p: Partition) -> bool
     requires { ⌜ p .0 < 16 ⌝ }
     ensures { λ r. ⌜ r ≡ all 32 (s5Slot (now (t .entry)) (view (now (t .entry)) .k) (p .0)) ⌝ }
 {

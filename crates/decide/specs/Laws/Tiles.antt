@@ -36,12 +36,17 @@ use Rattle.decide.specs.Tiles.{Piece, Tiling, Fits, follows, Tiled, fitt
 
 -- ── two rows: n entries E, and m entries F, some of them given to p ──
 -- each of E has a line; in both, each ends by the start of those after it
-record TwoRows (E : ℕ → Entry) (n : ℕ) (F : ℕ → Entry) (m : ℕ) : Type 0 where
+pub record TwoRows (E : ℕ → Entry) (n : ℕ) (F : ℕ → Entry) (m : ℕ) : Type 0 where
   pub line : (a : ℕ) → a < n → E a .start < E a .stop
   pub ends : (a b : ℕ) → a < b → b < n → E a .stop ≤ E b .start
   pub grants : (a b : ℕ) → a < b → b < m → F a .stop ≤ F b .start
 
--- each of E lies inside one of F that is given to p, with no right that it lacks and with the rights of all that lie inside it; and they cover those
+-- each of E lies inside one of F that is given to p, and they cover those
+pub record Lies (E : ℕ → Entry) (n : ℕ) (F : ℕ → Entry) (m p : ℕ) : Type 0 where
+  pub inside : (a : ℕ) → a < n → (b : ℕ) × (b < m) × (F b .given ≡ p) × Around (E a) (F b)
+  pub cover : (b : ℕ) → b < m → F b .given ≡ p → (l : ℕ) → In l (F b) → (a : ℕ) × (a < n) × In l (E a)
+
+-- .. with no right that it lacks, and with the rights of all that lie inside it
 pub record Exact (E : ℕ → Entry) (n : ℕ) (F : ℕ → Entry) (m p : ℕ) : Type 0 where
   pub inside : (a : ℕ) → a < n → (b : ℕ) × (b < m) × (F b .given ≡ p) × Around (E a) (F b)
   pub cover : (b : ℕ) → b < m → F b .given ≡ p → (l : ℕ) → In l (F b) → (a : ℕ) × (a < n) × In l (E a)
@@ -134,7 +139,7 @@ module _ {E : ℕ → Entry} {i lo hi : ℕ} {r : Rights} where
     equal = λ a b c. absurd (omega arith);
   }
 
-  tile-on : {n k at : ℕ} → Tiling E i k lo hi at r → E k .start < E k .stop → Fits E n i k hi at r → Tiling E i (k + 1) lo hi (E k .stop) r
+  pub tile-on : {n k at : ℕ} → Tiling E i k lo hi at r → E k .start < E k .stop → Fits E n i k hi at r → Tiling E i (k + 1) lo hi (E k .stop) r
   tile-on {n} {k} {at} inv line f = record {
     up = omega (arith, inv .up);
     on = omega (arith, inv .on, f .start);
@@ -160,7 +165,7 @@ module _ {E : ℕ → Entry} {i lo hi : ℕ} {r : Rights} where
 
 -- ── laws of the walk along the grants ──
 module _ {E F : ℕ → Entry} {p : ℕ} where
-  exact-start : Exact E 0 F 0 p
+  pub exact-start : Exact E 0 F 0 p
   exact-start = record {
     inside = λ a b. absurd (omega arith);
     cover = λ a b. absurd (omega arith);
@@ -169,7 +174,7 @@ module _ {E F : ℕ → Entry} {p : ℕ} where
   }
 
   -- the next is not given to p
-  exact-skip : {i j : ℕ} → Exact E i F j p → (F j .given ≡ p → ⊥) → Exact E i F (j + 1) p
+  pub exact-skip : {i j : ℕ} → Exact E i F j p → (F j .given ≡ p → ⊥) → Exact E i F (j + 1) p
   exact-skip {i} {j} inv no-grant = record {
     inside = λ a b. let (c, h, g, u) = inv .inside a b in (c, omega arith, g, u);
     cover = λ b h g. inv .cover b (below b h g) g;
@@ -192,13 +197,13 @@ module _ {E F : ℕ → Entry} {p : ℕ} where
         omega (arith, v .to, w .ends a k (omega arith) d)
 
     -- not all of them lie inside
-    exact-short : m ≤ j → i < n → Exact E n F m p → ⊥
+    pub exact-short : m ≤ j → i < n → Exact E n F m p → ⊥
     exact-short c d ex =
         let (b, h, g, u) = ex .inside i d in
         later i b (omega arith) d (omega arith) g u
 
     module _ (next : j < m) (given : F j .given ≡ p) {x : ℕ} where
-      exact-on : x ≤ n → Tiled E n i (F j .start) (F j .stop) (F j .rights) x → Exact E x F (j + 1) p
+      pub exact-on : x ≤ n → Tiled E n i (F j .start) (F j .stop) (F j .rights) x → Exact E x F (j + 1) p
       exact-on few′ (stuck k at b z c t no-fit) = absurd (omega arith)
       exact-on few′ (fitted at _ c t) = record {
         inside = λ a b. inside a b (decLt a i);
@@ -240,7 +245,7 @@ module _ {E F : ℕ → Entry} {p : ℕ} where
               inv .equal a d b (early a b c (omega arith) g u (decLt a i)) (early d b e (omega arith) g v (decLt d i)) (omega arith) g u v
 
       -- they do not tile it
-      exact-stuck : n < x → Tiled E n i (F j .start) (F j .stop) (F j .rights) x → Exact E n F m p → ⊥
+      pub exact-stuck : n < x → Tiled E n i (F j .start) (F j .stop) (F j .rights) x → Exact E n F m p → ⊥
       exact-stuck far (fitted at few′ c t) ex = omega arith
       exact-stuck far (stuck k at _ _ c t no-fit) ex =
           let (a, d, u) = ex .cover j next given at (record { from = t .on; to = c }) in
@@ -300,7 +305,7 @@ module _ {l o : List ℕ} {p n : ℕ} (h : InOrder l o p n) where
       rw v refl
 
   -- .. and what was read there
-  row-seen : {a : ℕ} {f : SlotFields} → a < n → Seen l p (placed o p a) f → Same (rowOf l o p a) (entryOf f)
+  pub row-seen : {a : ℕ} {f : SlotFields} → a < n → Seen l p (placed o p a) f → Same (rowOf l o p a) (entryOf f)
   unfolding entryIn
   row-seen {a} {f} b v = go (f .present) (sym (row-at a b) ∙ v .slot)
     where
@@ -315,10 +320,10 @@ module _ {l o : List ℕ} {p n : ℕ} (h : InOrder l o p n) where
       let (a, b, z) = h .rows .ordered .every j _ (slot-bounds l p j e u .1) (lines-of (view l .k) p j e u) in
       (a, b, ap (λ (j : ℕ). entryOr (view l .k .slot p j)) z ∙ ap entryOr u)
 
-  row-line : (a : ℕ) → a < n → rowOf l o p a .start < rowOf l o p a .stop
+  pub row-line : (a : ℕ) → a < n → rowOf l o p a .start < rowOf l o p a .stop
   row-line a b = h .lines (placed o p a) _ (row-at a b)
 
-  row-ends : (a b : ℕ) → a < b → b < n → rowOf l o p a .stop ≤ rowOf l o p b .start
+  pub row-ends : (a b : ℕ) → a < b → b < n → rowOf l o p a .stop ≤ rowOf l o p b .start
   unfolding linesOf lowOf highOf
   row-ends a b c d =
       let x = ap (λ (e : Opt Entry). highOf (linesOf e)) (row-at a (omega arith)) in
@@ -380,10 +385,10 @@ module _ {l o : List ℕ} {p q n m : ℕ} (h : ChildOf l o p q n m) where
   of-q : (j : ℕ) (f : Entry) → view l .k .slot q j ≡ some f → view l .k .slot (view l .k .parent p) j ≡ some f
   of-q j f u = subst (λ (q : ℕ). view l .k .slot q j ≡ some f) (sym (h .up)) u
 
-  child-exact : exactly (view l .k) p && s11 (view l .k) p ≡ true → Exact (rowOf l o p) n (rowOf l o q) m p
+  -- S7 of p but for `given`, by place; and back
+  pub child-lies : exactly (view l .k) p ≡ true → Lies (rowOf l o p) n (rowOf l o q) m p
   unfolding exactly
-  child-exact w =
-      let (x, s) = and-says (exactly (view l .k) p) (s11 (view l .k) p) w in
+  child-lies x =
       let y : s7Inside (view l .k) p && s7Cover (view l .k) p ≡ true = rw (ne-eqb p 0 (h .other)) at x in
       let (lies, covers) = and-says (s7Inside (view l .k) p) (s7Cover (view l .k) p) y in
       record {
@@ -395,6 +400,29 @@ module _ {l o : List ℕ} {p q n m : ℕ} (h : ChildOf l o p q n m) where
             let t = cover-means (view l .k) (slots32 l) p .0 covers _ _ (of-q _ _ (row-at (h .above) b c)) g i v in
             let (a, d, z) = row-every (h .own) (t .i) (t .e) (t .at) in
             (a, d, subst (In i) (sym z) (t .holds));
+      }
+
+  pub lies-child : Lies (rowOf l o p) n (rowOf l o q) m p → exactly (view l .k) p ≡ true
+  unfolding exactly
+  lies-child lies =
+      rw (ne-eqb p 0 (h .other))
+      (and-true _ _
+      (inside-means (view l .k) (slots32 l) p .1 (λ i e u.
+      let (a, c, z) = row-every (h .own) i e u in
+      let (b, d, g, v) = lies .inside a c in
+      (placed o q b, rowOf l o q b, record { at = of-q _ _ (row-at (h .above) b d); given = g; around = subst (λ (e : Entry). Around e (rowOf l o q b)) z v })))
+      (cover-means (view l .k) (slots32 l) p .1 (λ j f u g i v.
+      let (b, d, z) = row-every (h .above) j f (to-q j f u) in
+      let (a, c, t) = lies .cover b d (subst (λ (f : Entry). f .given ≡ p) (sym z) g) i (subst (In i) (sym z) v) in
+      record { i = placed o p a; e = rowOf l o p a; at = row-at (h .own) a c; holds = t })))
+
+  child-exact : exactly (view l .k) p && s11 (view l .k) p ≡ true → Exact (rowOf l o p) n (rowOf l o q) m p
+  child-exact w =
+      let (x, s) = and-says (exactly (view l .k) p) (s11 (view l .k) p) w in
+      let lies = child-lies x in
+      record {
+        inside = lies .inside;
+        cover = lies .cover;
         rights = λ a b c d g v.
             within-means (rowOf l o p a .rights) (rowOf l o q b .rights) .1
             (s11-means l p (h .own .inP) .0 s .child (h .other) _ _ _ _ (row-at (h .own) a c) (record { at = of-q _ _ (row-at (h .above) b d); given = g; around = v }));
@@ -405,19 +433,9 @@ module _ {l o : List ℕ} {p q n m : ℕ} (h : ChildOf l o p q n m) where
       }
 
   exact-child : Exact (rowOf l o p) n (rowOf l o q) m p → exactly (view l .k) p && s11 (view l .k) p ≡ true
-  unfolding exactly
   exact-child ex =
       and-true (exactly (view l .k) p) _
-      (rw (ne-eqb p 0 (h .other))
-      (and-true _ _
-      (inside-means (view l .k) (slots32 l) p .1 (λ i e u.
-      let (a, c, z) = row-every (h .own) i e u in
-      let (b, d, g, v) = ex .inside a c in
-      (placed o q b, rowOf l o q b, record { at = of-q _ _ (row-at (h .above) b d); given = g; around = subst (λ (e : Entry). Around e (rowOf l o q b)) z v })))
-      (cover-means (view l .k) (slots32 l) p .1 (λ j f u g i v.
-      let (b, d, z) = row-every (h .above) j f (to-q j f u) in
-      let (a, c, t) = ex .cover b d (subst (λ (f : Entry). f .given ≡ p) (sym z) g) i (subst (In i) (sym z) v) in
-      record { i = placed o p a; e = rowOf l o p a; at = row-at (h .own) a c; holds = t }))))
+      (lies-child (record { inside = ex .inside; cover = ex .cover }))
       (s11-means l p (h .own .inP) .1 (record {
         root = λ z. absurd (h .other z);
         child = λ _ i j e f u g.
@@ -466,16 +484,14 @@ module _ {l o : List ℕ} {p q n m : ℕ} (h : ChildOf l o p q n m) where
         walk-stuck beyond = never _ (λ w. exact-stuck two-rows (inv .exact) (inv .few) next (read .given ∙ given) beyond tiled (child-exact w))
 
 -- ── the root's entries, and base to end as one that it was given ──
-abbrev whole : List ℕ → ℕ → ℕ → Entry
+abbrev pub whole : List ℕ → ℕ → ℕ → Entry
 whole l p b = entry (view l .k .base) (view l .k .stop) p allRights false
 
 module _ {l o : List ℕ} {p n : ℕ} (h : InOrder l o p n) (root : p ≡ 0) where
-  root-exact : exactly (view l .k) p && s11 (view l .k) p ≡ true → Exact (rowOf l o p) n (whole l p) 1 p
+  pub root-lies : exactly (view l .k) p ≡ true → Lies (rowOf l o p) n (whole l p) 1 p
   unfolding exactly
-  root-exact w =
-      let (y, s) = and-says (exactly (view l .k) p) (s11 (view l .k) p) w in
+  root-lies y =
       let x : s7Root (view l .k) p ≡ true = rw (eq-eqb p 0 root) at y in
-      let full = s11-means l p (h .inP) .0 s .root root in
       let q = root-means (view l .k) (slots32 l) p (h .lines) .0 x in
       record {
         inside = λ a b.
@@ -487,24 +503,37 @@ module _ {l o : List ℕ} {p n : ℕ} (h : InOrder l o p n) (root : p ≡ 0) whe
             let t = q i .1 (v .from, v .to) in
             let (a, d, z) = row-every h (t .i) (t .e) (t .at) in
             (a, d, subst (In i) (sym z) (t .holds));
+      }
+
+  pub lies-root : Lies (rowOf l o p) n (whole l p) 1 p → exactly (view l .k) p ≡ true
+  unfolding exactly
+  lies-root lies =
+      rw (eq-eqb p 0 root)
+      (root-means (view l .k) (slots32 l) p (h .lines) .1 (λ i. (
+        λ t.
+            let (a, c, z) = row-every h (t .i) (t .e) (t .at) in
+            let (b, d, g, v) = lies .inside a c in
+            let x : In i (rowOf l o p a) = subst (In i) (sym z) (t .holds) in
+            (omega (arith, v .from, x .from), omega (arith, v .to, x .to)),
+        λ t.
+            let (a, c, v) = lies .cover 0 (omega arith) refl i (record { from = t .0; to = t .1 }) in
+            record { i = placed o p a; e = rowOf l o p a; at = row-at h a c; holds = v },
+      )))
+
+  root-exact : exactly (view l .k) p && s11 (view l .k) p ≡ true → Exact (rowOf l o p) n (whole l p) 1 p
+  root-exact w =
+      let (y, s) = and-says (exactly (view l .k) p) (s11 (view l .k) p) w in
+      let full = s11-means l p (h .inP) .0 s .root root in
+      let lies = root-lies y in
+      record {
+        inside = lies .inside;
+        cover = lies .cover;
         rights = λ a b c d g v. within-means (rowOf l o p a .rights) allRights .1 (record { read = λ _. refl; write = λ _. refl; execute = λ _. refl });
         equal = λ a c b d e _ _ _ _. full _ _ (row-at h a d) ∙ sym (full _ _ (row-at h c e));
       }
 
   exact-root : Exact (rowOf l o p) n (whole l p) 1 p → exactly (view l .k) p ≡ true
-  unfolding exactly
-  exact-root ex =
-      rw (eq-eqb p 0 root)
-      (root-means (view l .k) (slots32 l) p (h .lines) .1 (λ i. (
-        λ t.
-            let (a, c, z) = row-every h (t .i) (t .e) (t .at) in
-            let (b, d, g, v) = ex .inside a c in
-            let x : In i (rowOf l o p a) = subst (In i) (sym z) (t .holds) in
-            (omega (arith, v .from, x .from), omega (arith, v .to, x .to)),
-        λ t.
-            let (a, c, v) = ex .cover 0 (omega arith) refl i (record { from = t .0; to = t .1 }) in
-            record { i = placed o p a; e = rowOf l o p a; at = row-at h a c; holds = v },
-      )))
+  exact-root ex = lies-root (record { inside = ex .inside; cover = ex .cover })
 
   one-row : TwoRows (rowOf l o p) n (whole l p) 1
   one-row = record { line = row-line h; ends = row-ends h; grants = λ a b c d. absurd (omega arith) }

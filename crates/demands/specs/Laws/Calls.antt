@@ -87,7 +87,7 @@ module _ {board : Board} {b : List ℕ} {w s r : ℕ} {c : List ℕ} {s′ : ℕ
       (λ n z. (h .table .bytes ∙ ap (bytesAfter b) z, h .second ∙ ap (λ (y : Result). secondAfter s (outcomeOf y)) z))
 
   -- refusal 1 is given exactly where the table is not sound
-  one-unsound : (refusalIn r ≡ 1) ↔ (Sound board (handed b) → ⊥)
+  pub one-unsound : (refusalIn r ≡ 1) ↔ (Sound board (handed b) → ⊥)
   one-unsound = (
     λ q s. let (i, _) = applies-range (word-rises board (view (handed b)) w) (past s (call-answered .refuses 1 (omega arith) .0 q .applies)) in omega arith,
     λ n. call-answered .refuses 1 (omega arith) .1 (record { applies = fails n; lowest = λ m x. applies-range (call-rises board (handed b) w) x .0 }),

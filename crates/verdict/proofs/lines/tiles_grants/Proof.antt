@@ -1,0 +1,31 @@
+use mathlib.Core.Logic.{⊎-elim}
+use Prim.Native.Nat.{_-_}
+use native.Mathlib.Omega.{arith}
+use Rattle.verdict.specs.Laws.Exact.{Walked, walk-start, walk-skip, walk-on, walk-stuck, walk-end}
+use borrow.Author.Needs.{needs}
+use Rattle.verdict.proofs.lines.tiles_grants.Statement.{statement}
+use Rattle.verdict.proofs.lines.tiles_grants.Tie as tie
+
+pub tiles-grants-spec : {M : Type 1} → statement M
+tiles-grants-spec =
+    tie.close
+    (tie.spec
+    (λ t p q order n m i₀ j₀ i j. Walked t order (p .0) (q .0) n m i j)
+    (λ t p q order n m i₀ j₀ i j. m - j)
+    (λ c. walk-start (c .pre))
+    (λ c κs. let h = c .before .before .pre .above in (h .inP, omega (arith, h .rows .ordered .few), h .rows .ordered .under _ (omega arith)))
+    (λ c κs. let d = c .before .before .before .before .before in (d .before .pre .own, d .loop .inv .few))
+    (λ c.
+    let e = c .before .before .before .before .before in
+    let d = e .before .before in
+    walk-stuck (d .before .pre) (d .loop .inv) (omega arith) (e .entry-at .ensures) (c .before .before .if1 .taken) (c .before .tile .ensures) (omega arith))
+    (λ c. search needs)
+    (λ c. search needs)
+    (λ c.
+    let e = c .before .before .before in
+    let d = e .before .before in
+    ⊎-elim
+    (λ w. rw (w .3) (walk-on (d .before .pre) (d .loop .inv) (omega arith) (e .entry-at .ensures) (w .0 .taken) (w .1 .ensures) (omega (arith, w .2 .left))))
+    (λ w. rw (w .1) (walk-skip (d .before .pre) (d .loop .inv) (omega arith) (e .entry-at .ensures) (w .0 .left)))
+    (c .if1 .came))
+    (λ c. walk-end (c .before .before .pre) (c .before .loop .inv) (omega arith)))

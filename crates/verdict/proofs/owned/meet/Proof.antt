@@ -1,0 +1,16 @@
+use mathlib.Core.Path.{refl}
+use borrow.Author.Tests.{lt-ltb, le-ltb}
+use Rattle.tables.specs.Settle.{meets}
+use borrow.Author.Needs.{needs}
+use Rattle.verdict.proofs.owned.meet.Statement.{statement}
+use Rattle.verdict.proofs.owned.meet.Tie as tie
+
+pub meet-spec : {M : Type 1} → statement M
+unfolding meets
+meet-spec =
+    tie.close
+    (tie.spec
+    (λ c. rw (le-ltb _ _ (c .if1 .taken)) refl)
+    (λ c. rw (lt-ltb _ _ (c .before .before .before .if1 .left), le-ltb _ _ (c .if2 .taken)) refl)
+    (λ c. rw (lt-ltb _ _ (c .before .before .before .before .before .before .if1 .left), lt-ltb _ _ (c .before .before .before .if2 .left), le-ltb _ _ (c .if3 .taken)) refl)
+    (λ c. rw (lt-ltb _ _ (c .before .before .before .before .before .before .before .before .if1 .left), lt-ltb _ _ (c .before .before .before .before .before .if2 .left), lt-ltb _ _ (c .before .before .if3 .left)) refl))

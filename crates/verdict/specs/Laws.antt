@@ -1,0 +1,4 @@
+pub mod Names
+pub mod Stages
+pub mod Records
+pub mod Exact

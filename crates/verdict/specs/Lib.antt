@@ -1,0 +1,4 @@
+pub mod Verdict
+pub mod Stages
+pub mod Laws
+pub mod Theorem
