@@ -223,18 +223,29 @@ static bool s9_at(const second_table *t, uint8_t p)
 
 /* ---- S10 and S11 ---- */
 
-static bool s10_at(const second_table *t, uint8_t p)
+/* The largest power of two of lines at a multiple of it, as often as one fits. */
+static unsigned pieces_of(const second_slot *e)
+{
+    unsigned n = 0;
+    for (uint32_t at = e->start, lines; at < e->end; at += lines, n++)
+        for (lines = 1; at % (2 * lines) == 0 && at + 2 * lines <= e->end;)
+            lines *= 2;
+    return n;
+}
+
+static bool s10_at(second_board board, const second_table *t, uint8_t p)
 {
     const second_partition *q = &t->partitions[p];
-    unsigned named[SECOND_SLOTS] = {0};
+    unsigned named[SECOND_SLOTS] = {0}, pieces = 0;
     for (unsigned r = 0; r < SECOND_REGIONS; r++) {
         if (!q->regions[r].loaded)
             continue;
         const second_slot *e = &q->slots[q->regions[r].slot];
         if (!e->present || !e->open || named[q->regions[r].slot]++ != 0)
             return false;
+        pieces += pieces_of(e);
     }
-    return true;
+    return board == SECOND_V8 || pieces <= 8;
 }
 
 static bool s11_at(const second_table *t, uint8_t p)
@@ -259,14 +270,14 @@ static bool s11_at(const second_table *t, uint8_t p)
 
 /* ---- all of them ---- */
 
-bool second_holds_at(const second_table *t, unsigned clause, uint8_t p)
+bool second_holds_at(second_board board, const second_table *t, unsigned clause, uint8_t p)
 {
-    static bool (*const at[SECOND_CLAUSES])(const second_table *, uint8_t) = {s1_at, s2_at, s3_at, s4_at,  s5_at, s6_at,
-                                                                             s7_at, s8_at, s9_at, s10_at, s11_at};
-    return at[clause - 1](t, p);
+    static bool (*const at[SECOND_CLAUSES])(const second_table *, uint8_t) = {s1_at, s2_at, s3_at, s4_at, s5_at, s6_at,
+                                                                             s7_at, s8_at, s9_at, NULL,  s11_at};
+    return clause == 10 ? s10_at(board, t, p) : at[clause - 1](t, p);
 }
 
-uint64_t second_check(const uint8_t *table, uint64_t table_len)
+uint64_t second_check(second_board board, const uint8_t *table, uint64_t table_len)
 {
     second_table t;
     if (table_len != SECOND_BYTES)
@@ -274,7 +285,7 @@ uint64_t second_check(const uint8_t *table, uint64_t table_len)
     second_read(table, &t);
     for (unsigned clause = 1; clause <= SECOND_CLAUSES; clause++)
         for (uint8_t p = 0; p < SECOND_PARTITIONS; p++)
-            if (!second_holds_at(&t, clause, p))
+            if (!second_holds_at(board, &t, clause, p))
                 return (uint64_t)(16 * clause + p) << 32;
     return 0;
 }

@@ -34,11 +34,11 @@ static uint64_t check_both(const uint8_t *table)
     paint(&lending);
     memcpy(lending.table, table, sizeof lending.table);
     before = lending;
-    uint64_t ours = ulavrepit_check(lending.table, sizeof lending.table), theirs = second_check(table, SECOND_BYTES);
+    uint64_t ours = ulavrepit_check(lending.table, sizeof lending.table), theirs = second_check(BOARD, table, SECOND_BYTES);
     if ((ours != theirs || !same(&lending, &before)) && unlike++ == 0)
         printf("# image %lu: library %016" PRIx64 ", second program %016" PRIx64 "\n", images, ours, theirs);
     ulavrepit_verdict said = ulavrepit_unpack_verdict(theirs);
-    other_clause += said.clause != (unsigned)second_unsound(table, SECOND_BYTES);
+    other_clause += said.clause != (unsigned)second_unsound(BOARD, table, SECOND_BYTES);
     images++;
     sound_ones += theirs == 0;
     cells[said.clause][said.partition]++;
@@ -51,7 +51,7 @@ static void next_table(uint8_t *table, mood m)
 {
     uint64_t second;
     for (unsigned i = 1 + below(&chance, 30); i > 0; i--) {
-        second_call(table, SECOND_BYTES, next_word(table, &state, m, &chance), &second);
+        second_call(BOARD, table, SECOND_BYTES, next_word(table, &state, m, &chance), &second);
         second_read(table, &state);
     }
 }
@@ -130,7 +130,7 @@ static bool refuses_lengths(void)
 static bool write_image(const char *folder, unsigned number)
 {
     char name[4096];
-    ulavrepit_verdict said = ulavrepit_unpack_verdict(second_check(image, SECOND_BYTES));
+    ulavrepit_verdict said = ulavrepit_unpack_verdict(second_check(BOARD, image, SECOND_BYTES));
     snprintf(name, sizeof name, "%s/%02u.image", folder, number);
     FILE *out = fopen(name, "wb");
     bool good = out != NULL && fwrite(image, 1, SECOND_BYTES, out) == SECOND_BYTES && fclose(out) == 0;
@@ -157,7 +157,7 @@ static bool write_images(const char *folder)
         second_read(table, &state);
         next_table(table, turn % 600 < 300 ? MIXED : DENSE);
         for (unsigned which = 0; turn >= 10 && which < damage_ways(); which++) {
-            if (written[which] || damage_in(which, &state, image, &chance) == 0 || second_check(image, SECOND_BYTES) == 0)
+            if (written[which] || damage_in(which, &state, image, &chance) == 0 || second_check(BOARD, image, SECOND_BYTES) == 0)
                 continue;
             good = good && write_image(folder, 1 + which);
             written[which] = true;
