@@ -7,6 +7,7 @@
  * bench count FILE  does each row's work once with either, between calls of mark: for who traces it and counts the
  *                   instructions. The tables are read from FILE, since to make them takes far more than the rows do.
  * bench save FILE   writes those tables.
+ * bench sheet       times calls with a sheet against calls without one, of the library.
  */
 #define _POSIX_C_SOURCE 200809L
 #include "kernel.h"
@@ -44,6 +45,24 @@ static uint64_t pieces_v7(const uint8_t *t, uint64_t len, uint64_t partition, ui
 
 static const kernel library = {ulavrepit_boot, ulavrepit_call, ulavrepit_holders, ulavrepit_runs, ulavrepit_pieces};
 static const kernel second = {second_boot, call_v7, holders_v7, runs_v7, pieces_v7};
+
+/* The library with a sheet beside the table. */
+static uint8_t sheet[ULAVREPIT_SHEET_BYTES];
+
+static uint64_t boot_beside(uint8_t *t, uint64_t len, uint64_t base, uint64_t end)
+{
+    return ulavrepit_boot_sheet(t, len, sheet, sizeof sheet, base, end);
+}
+
+static uint64_t call_beside(uint8_t *t, uint64_t len, uint64_t word, uint64_t *value)
+{
+    return ulavrepit_call_sheet(t, len, sheet, sizeof sheet, word, value);
+}
+
+static const kernel beside = {boot_beside, call_beside, ulavrepit_holders, ulavrepit_runs, ulavrepit_pieces};
+
+/* The two that are compared. */
+static const kernel *one = &library, *other = &second;
 
 static void must(bool good, const char *what)
 {
@@ -138,14 +157,14 @@ static void measure(work *w, const job *j, unsigned operations)
 {
     static double ours[ROUNDS], theirs[ROUNDS], quotients[ROUNDS];
     unsigned turns = 1;
-    while (time_batch(w, &library, j, turns) < BATCH_NANOSECONDS)
+    while (time_batch(w, one, j, turns) < BATCH_NANOSECONDS)
         turns *= 2;
     for (unsigned i = 0; i < ROUNDS; i++) {
         if (i % 2 == 0)
-            ours[i] = time_batch(w, &library, j, turns);
-        theirs[i] = time_batch(w, &second, j, turns);
+            ours[i] = time_batch(w, one, j, turns);
+        theirs[i] = time_batch(w, other, j, turns);
         if (i % 2 != 0)
-            ours[i] = time_batch(w, &library, j, turns);
+            ours[i] = time_batch(w, one, j, turns);
         quotients[i] = ours[i] / theirs[i];
     }
     qsort(ours, ROUNDS, sizeof *ours, by_size);
@@ -168,11 +187,11 @@ __attribute__((noinline)) void mark(void)
 /* Names the row; the work is done once before, so that nothing is done for the first time where it counts. */
 static void work_between_marks(work *w, const job *j, unsigned operations)
 {
-    bool good = w(&library, j) && w(&second, j);
+    bool good = w(one, j) && w(other, j);
     mark();
-    good = w(&library, j) && good;
+    good = w(one, j) && good;
     mark();
-    good = w(&second, j) && good;
+    good = w(other, j) && good;
     mark();
     must(good, j->name);
     printf("%s|%u\n", j->name, operations);
@@ -270,8 +289,37 @@ static void rows(void)
     report(do_runs, &most_runs, 1);
 }
 
+/* Calls with a sheet against the same calls without it: each row leaves the table as it was, and so the sheet its own. */
+static void sheet_rows(void)
+{
+    static uint64_t values;
+    one = &beside, other = &library;
+    puts("| What | With a sheet, ns | Without, ns | With / without, median | 5 % to 95 % of rounds |\n|---|---|---|---|---|");
+    must(make_fresh(one, table), "the fresh table");
+    job finding = {"find, fresh", {ulavrepit_find(0, 300), ulavrepit_find(0, 300)}, 0, ULAVREPIT_DONE};
+    report(do_calls, &finding, WORDS);
+    undone_row("cut and merge, fresh", ulavrepit_cut(0, 512), ulavrepit_merge(0, 1));
+
+    must(make_typical(one, table), "the typical table");
+    uint32_t slot = (uint32_t)(one->call(table, sizeof table, ulavrepit_find(0, 8000), &values) >> 32);
+    job found = {"find, typical", {ulavrepit_find(0, 8000), ulavrepit_find(0, 8000)}, 0, ULAVREPIT_DONE};
+    report(do_calls, &found, WORDS);
+    undone_row("load and unload, typical", ulavrepit_load(0, slot, 7), ulavrepit_unload(0, 7));
+    undone_row("switch to a child and back, typical", ulavrepit_switch(1), ulavrepit_switch(0));
+    undone_row("cut and merge, typical", ulavrepit_cut(10, 8000), ulavrepit_merge(10, 11));
+    undone_row("give and take, typical", ulavrepit_give(1, 10, ULAVREPIT_READ), ulavrepit_take(10));
+
+    must(make_densest(one, table), "the densest table");
+    job deep = {"find, densest", {ulavrepit_find(15, 65535), ulavrepit_find(15, 65535)}, 0, ULAVREPIT_DONE};
+    report(do_calls, &deep, WORDS);
+}
+
 int main(int argc, char **argv)
 {
+    if (argc == 2 && strcmp(argv[1], "sheet") == 0) {
+        sheet_rows();
+        return 0;
+    }
     if (argc == 1)
         puts("| What | Library, ns | Second program, ns | Library / second, median | 5 % to 95 % of rounds |\n|---|---|---|---|---|");
     else {

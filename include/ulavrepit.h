@@ -20,6 +20,7 @@ extern "C" {
 
 enum {
     ULAVREPIT_TABLE_BYTES = 5128,
+    ULAVREPIT_SHEET_BYTES = 256,
     ULAVREPIT_PARTITIONS = 16,
     ULAVREPIT_STRUCTURES = 4,
     ULAVREPIT_SLOTS = 32,
@@ -55,7 +56,7 @@ enum {
     ULAVREPIT_PACK = 15
 };
 
-/* Refusal numbers. Where several apply, the lowest is given. */
+/* Refusal numbers. Where several apply, the lowest is given, but for 20, which comes next after 1. */
 enum {
     ULAVREPIT_DONE = 0,
     ULAVREPIT_REFUSED_TABLE = 1,          /* not 5,128 bytes, or not sound (boot: length only) */
@@ -79,6 +80,7 @@ enum {
     ULAVREPIT_REFUSED_LIST = 17,          /* the list is too short */
     ULAVREPIT_REFUSED_WHOLE = 18,         /* create, prepare, give, cut: the entry is lent whole */
     ULAVREPIT_REFUSED_PIECES = 19,        /* load: the partition's loaded entries would have more than 8 pieces */
+    ULAVREPIT_REFUSED_SHEET = 20,         /* not 256 bytes or, except at boot, not the table's; next after 1 */
     ULAVREPIT_REFUSED_ENGINE = 21         /* the line engine alone gives it, and no other number */
 };
 
@@ -140,6 +142,21 @@ uint64_t ulavrepit_pieces(const uint8_t *table, uint64_t table_len, uint64_t par
  * badly covered that is the child, of two areas that share a line the lower owner.
  */
 uint64_t ulavrepit_check(const uint8_t *table, uint64_t table_len);
+/* ---- a sheet beside the table ---- */
+
+/*
+ * Diagnostics need not scan the table: keep 256 bytes beside it, two words a partition, and call these two in place of
+ * boot and call. Both answer as those do, and leave in the sheet what each partition has, by the table that they leave;
+ * ulavrepit_sheet_of, below, reads it. A call is refused 20 where the sheet is not that of the table, which never comes up
+ * as long as no one else writes into either. A refusal changes neither.
+ */
+
+/* Writes both, whatever they hold. */
+uint64_t ulavrepit_boot_sheet(uint8_t *table, uint64_t table_len, uint8_t *sheet, uint64_t sheet_len, uint64_t base,
+                              uint64_t end);
+
+uint64_t ulavrepit_call_sheet(uint8_t *table, uint64_t table_len, uint8_t *sheet, uint64_t sheet_len, uint64_t word,
+                              uint64_t *second);
 
 /* ---- the line engine ---- */
 
@@ -200,6 +217,20 @@ static inline ulavrepit_answer ulavrepit_call_answer(uint8_t *table, uint64_t ta
 {
     uint64_t second = 0;
     uint64_t result = ulavrepit_call(table, table_len, word, &second);
+    return ulavrepit_unpack_answer(result, second);
+}
+
+static inline ulavrepit_answer ulavrepit_boot_sheet_answer(uint8_t *table, uint64_t table_len, uint8_t *sheet,
+                                                           uint64_t sheet_len, uint64_t base, uint64_t end)
+{
+    return ulavrepit_unpack_answer(ulavrepit_boot_sheet(table, table_len, sheet, sheet_len, base, end), 0);
+}
+
+static inline ulavrepit_answer ulavrepit_call_sheet_answer(uint8_t *table, uint64_t table_len, uint8_t *sheet,
+                                                           uint64_t sheet_len, uint64_t word)
+{
+    uint64_t second = 0;
+    uint64_t result = ulavrepit_call_sheet(table, table_len, sheet, sheet_len, word, &second);
     return ulavrepit_unpack_answer(result, second);
 }
 
@@ -418,6 +449,41 @@ static inline uint32_t ulavrepit_rasr(ulavrepit_piece piece, uint32_t rights)
     while (piece.lines >> (size - 4) > 1)
         size++;
     return never_execute << 28 | access << 24 | size << 1 | 1;
+}
+
+/* ---- what a sheet says of a partition: two words, each most significant byte first ---- */
+
+typedef struct {
+    uint32_t children;   /* bit p: partition p is a child of it */
+    uint32_t slots;      /* bit i: slot i has an entry */
+    uint32_t structures; /* bit j: structure j is present */
+    uint32_t held, open; /* lines in its entries; of these, lines in its open entries */
+} ulavrepit_sheet_pair;
+
+/* The first word: children 16, slots 32, structures 4, zero 12; the second: held 27, open 27, zero 10. */
+static inline ulavrepit_sheet_pair ulavrepit_unpack_pair(uint64_t masks, uint64_t lines)
+{
+    ulavrepit_sheet_pair pair;
+    pair.children = (uint32_t)(masks >> 48);
+    pair.slots = (uint32_t)(masks >> 16 & 0xffffffff);
+    pair.structures = (uint32_t)(masks >> 12 & 15);
+    pair.held = (uint32_t)(lines >> 37);
+    pair.open = (uint32_t)(lines >> 10 & ULAVREPIT_LAST_LINE);
+    return pair;
+}
+
+static inline uint64_t ulavrepit_sheet_word(const uint8_t *sheet, uint32_t n)
+{
+    uint64_t word = 0;
+    for (uint32_t i = 0; i < 8; i++)
+        word = word << 8 | sheet[8 * n + i];
+    return word;
+}
+
+/* Partition p, 0 to 15: all zero where it is absent, or has nothing yet; that it is present its parent's children tell. */
+static inline ulavrepit_sheet_pair ulavrepit_sheet_of(const uint8_t *sheet, uint32_t p)
+{
+    return ulavrepit_unpack_pair(ulavrepit_sheet_word(sheet, 2 * p), ulavrepit_sheet_word(sheet, 2 * p + 1));
 }
 
 #ifdef __cplusplus

@@ -27,6 +27,7 @@ enum {
     SECOND_REGIONS = 8,
     SECOND_WORDS = 641,
     SECOND_BYTES = 5128,
+    SECOND_SHEET_BYTES = 256,
     SECOND_LAST_LINE = 134217727,
     SECOND_AREA_LINES = 16, /* an area has so many lines or more */
     SECOND_HOLDERS = 16,    /* a buffer for holders has so many bytes or more */
@@ -52,6 +53,9 @@ uint64_t second_runs(second_board board, const uint8_t *table, uint64_t table_le
 /* The pieces of an entry, in rising order, each as start * 2^32 + lines. First: their number. */
 uint64_t second_pieces(second_board board, const uint8_t *table, uint64_t table_len, uint64_t partition,
                        uint64_t slot, uint64_t *list, uint64_t list_len);
+/* Boot and call with a sheet beside the table: refused 20, next after 1, if it has another length or, except at boot, isn't the table's. */
+uint64_t second_boot_sheet(uint8_t *table, uint64_t table_len, uint8_t *sheet, uint64_t sheet_len, uint64_t base, uint64_t end);
+uint64_t second_call_sheet(second_board board, uint8_t *table, uint64_t table_len, uint8_t *sheet, uint64_t sheet_len, uint64_t word, uint64_t *second);
 
 /* The ledger by masks, bit p for partition p, one a line: 0, or refused 21 and nothing is written. */
 uint64_t second_engine_start(uint16_t *masks, uint64_t n, uint64_t base, uint64_t end);

@@ -2287,6 +2287,48 @@ static void test_generated(void)
     check(most_packed >= 5, "five entries were packed at once");
 }
 
+/* ---- A sheet beside the table, request 108. ---- */
+
+static uint64_t sheet_word(const uint8_t *sheet, unsigned n)
+{
+    uint64_t word = 0;
+    for (unsigned i = 0; i < 8; i++)
+        word = word << 8 | sheet[8 * n + i];
+    return word;
+}
+
+/* Worked by hand from the session that 01 prints: the root has slots 0 to 3, child 1 and structure 0, and holds 256 to 1024, of which
+ * 256 to 288 serve the kernel; child 1 has one entry of 224 lines in structure 0. */
+static void test_sheet(void)
+{
+    uint8_t t[SECOND_BYTES], sheet[SECOND_SHEET_BYTES], was[SECOND_SHEET_BYTES];
+    uint64_t second = 7;
+    memset(t, 0xa5, sizeof t);
+    memset(sheet, 0xa5, sizeof sheet);
+    check(second_boot_sheet(t, sizeof t - 1, sheet, 255, 256, 1024) == 1 && second_boot_sheet(t, sizeof t, sheet, 255, 1024, 256) == 20 &&
+              second_boot_sheet(t, sizeof t, sheet, sizeof sheet, 1024, 256) == 7 && t[0] == 0xa5 && sheet[0] == 0xa5,
+          "sheet: boot gives 1, then 20, then 7, nothing written");
+    check(second_boot_sheet(t, sizeof t, sheet, sizeof sheet, 256, 1024) == 0 && sheet_word(sheet, 0) == UINT64_C(0x0000000000011000) &&
+              sheet_word(sheet, 1) == UINT64_C(0x00006000000c0000) && sheet_word(sheet, 2) == 0 && sheet_word(sheet, 31) == 0,
+          "sheet: boot writes it from any content");
+    bool done = true;
+    for (unsigned i = 1; i < 7; i++)
+        done = (second_call_sheet(SECOND_V7, t, sizeof t, sheet, sizeof sheet, session[i], &second) & 0xff) == 0 && done;
+    check(done && sheet_word(sheet, 0) == UINT64_C(0x00020000000f1000) && sheet_word(sheet, 1) == UINT64_C(0x00006000000b8000) &&
+              sheet_word(sheet, 2) == UINT64_C(0x0000000000011000) && sheet_word(sheet, 3) == UINT64_C(0x00001c0000038000) &&
+              sheet_word(sheet, 4) == 0,
+          "sheet: the words after the printed session");
+    memcpy(was, sheet, sizeof was);
+    check(second_call_sheet(SECOND_V7, t, sizeof t, sheet, 255, session[7], &second) == 20 &&
+              second_call_sheet(SECOND_V7, t, sizeof t, sheet, 257, 0, &second) == 20 && memcmp(was, sheet, sizeof was) == 0,
+          "sheet: 20 for another length, before 2");
+    sheet[255] ^= 1;
+    check(second_call_sheet(SECOND_V7, t, sizeof t, sheet, sizeof sheet, 0, &second) == 20 && sheet[255] == 1, "sheet: 20 for one bit");
+    sheet[255] ^= 1;
+    t[8] ^= 0x80;
+    check(second_call_sheet(SECOND_V7, t, sizeof t, sheet, 3, 0, &second) == 1, "sheet: 1 before 20");
+}
+
 /* ---- The line engine, request 110. ---- */
 
 static uint16_t masks[SECOND_ENGINE_LINES + 8];
@@ -2355,6 +2397,7 @@ int main(void)
     test_how_far();
     test_clauses();
     test_generated();
+    test_sheet();
     test_engine();
     printf("%u passed, %u failed\n", passed, failed);
     return failed == 0 ? 0 : 1;

@@ -32,6 +32,16 @@ uint64_t ulavrepit_pieces(const uint8_t *table, uint64_t table_len, uint64_t par
     return second_pieces(BOARD, table, table_len, partition, slot, list, list_len);
 }
 
+uint64_t ulavrepit_boot_sheet(uint8_t *table, uint64_t table_len, uint8_t *sheet, uint64_t sheet_len, uint64_t base, uint64_t end)
+{
+    return second_boot_sheet(table, table_len, sheet, sheet_len, base, end);
+}
+
+uint64_t ulavrepit_call_sheet(uint8_t *table, uint64_t table_len, uint8_t *sheet, uint64_t sheet_len, uint64_t word, uint64_t *second)
+{
+    return second_call_sheet(BOARD, table, table_len, sheet, sheet_len, word, second);
+}
+
 uint64_t ulavrepit_engine_start(uint16_t *masks, uint64_t n, uint64_t base, uint64_t end)
 {
     return second_engine_start(masks, n, base, end);

@@ -7,6 +7,7 @@ ghost use Rattle.face.specs.Lists.{PiecesLent};
 pub mod check;
 pub mod lists;
 pub mod masks;
+pub mod sheets;
 
 use shapes::Board;
 

@@ -6,3 +6,4 @@ pub mod Calls
 pub mod Written
 pub mod BranchProof
 pub mod ChecksProof
+pub mod SheetProof

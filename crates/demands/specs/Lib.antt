@@ -2,4 +2,5 @@ pub mod Demands
 pub mod Theorem
 pub mod Branch
 pub mod Checks
+pub mod Sheet
 pub mod Laws

@@ -30,7 +30,7 @@ use Rattle.demands.specs.Laws.Written.{holders-answered, holders-written
 
 -- ── boot ──
 module _ (base end : ℕ) {b : List ℕ} {r : ℕ} {c : List ℕ} (h : BootLent b base end r c) where
-  boot-answered : Answered (bootLadder (handed b) base end) r (c ≡ b)
+  pub boot-answered : Answered (bootLadder (handed b) base end) r (c ≡ b)
   unfolding bytesAfter
   boot-answered =
       answered (boot-rises (handed b) base end) (omega arith) (bootOn (handed b) base end) (boot-exact (handed b) base end) (h .result)

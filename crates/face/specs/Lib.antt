@@ -1,4 +1,5 @@
 pub mod Face
 pub mod Lists
 pub mod Check
+pub mod Sheets
 pub mod Laws

@@ -6,6 +6,7 @@ ghost use Rattle.face.specs.Face.{handed, packed, Lent, CallLent, ListLe
 // What a board's firmware calls, which is C, for every board: the crate of a board has these under the names that include/ulavrepit.h declares.
 pub mod check;
 pub mod lists;
+pub mod sheets;
 
 use shapes::Board;
 use tables::Outcome;

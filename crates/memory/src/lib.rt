@@ -33,7 +33,7 @@ fn turned(x: u32) -> u32
 }
 
 // The word from byte i on.
-fn word(b: &[u8], i: usize) -> u64
+pub fn word(b: &[u8], i: usize) -> u64
     requires { ⌜ i + 8 ≤ length (now b) ⌝ }
     ensures { λ r. ⌜ r ≡ wordFrom (now (b .entry)) i ⌝ }
 {
@@ -110,7 +110,7 @@ fn put_quad(b: &mut [u8], i: usize, x: u32)
 }
 
 // Puts the word w from byte i on.
-fn put(b: &mut [u8], i: usize, w: u64)
+pub fn put(b: &mut [u8], i: usize, w: u64)
     requires { ⌜ i + 8 ≤ length (now b) ⌝ }
     ensures { λ _. ⌜ now (b .exit) ≡ putWord (now (b .entry)) i w ⌝ }
 {

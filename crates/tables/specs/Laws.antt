@@ -3,6 +3,7 @@ pub mod Update
 pub mod View
 pub mod Encode
 pub mod Spelling
+pub mod Stays
 pub mod Back
 pub mod ZeroWord
 pub mod FitView

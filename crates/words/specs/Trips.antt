@@ -1,8 +1,8 @@
 -- Packed words round-trip both ways: each kind, by the one law of Kind.
 use Rattle.words.specs.Kind.{RoundTrips}
 use Rattle.words.specs.Laws.Kind.{round-trips}
-use Rattle.words.specs.Words.{first, header, structure, regions, slot, call, boot, mark}
-use Rattle.words.specs.Laws.Kinds.{first-lawful, header-lawful, structure-lawful, regions-lawful, slot-lawful, call-lawful, boot-lawful, mark-lawful}
+use Rattle.words.specs.Words.{first, header, structure, regions, slot, call, boot, masks, lines, mark}
+use Rattle.words.specs.Laws.Kinds.{first-lawful, header-lawful, structure-lawful, regions-lawful, slot-lawful, call-lawful, boot-lawful, masks-lawful, lines-lawful, mark-lawful}
 
 pub first-trips : RoundTrips first
 first-trips = round-trips first-lawful
@@ -24,6 +24,12 @@ call-trips = round-trips call-lawful
 
 pub boot-trips : RoundTrips boot
 boot-trips = round-trips boot-lawful
+
+pub masks-trips : RoundTrips masks
+masks-trips = round-trips masks-lawful
+
+pub lines-trips : RoundTrips lines
+lines-trips = round-trips lines-lawful
 
 pub mark-trips : RoundTrips mark
 mark-trips = round-trips mark-lawful

@@ -1,4 +1,4 @@
--- 01's packed words, column by column, and one of the library's own: the parts of each kind, most significant first, and the struct that has its fields.
+-- 01's packed words, column by column, the two of 02's sheet, and one of the library's own: the parts of each kind, most significant first, and the struct that has its fields.
 use mathlib.Core.List.{List, [], _∷_, _++_}
 use mathlib.Core.Logic.{_⊎_, inl, inr}
 use Prim.Native.Nat.{ℕ, _+_, _*_}
@@ -19,7 +19,13 @@ use Rattle.words.specs.declared.first_word.FirstRead.the-variants.{Field
 use Rattle.words.specs.declared.header_word.HeaderFields.{HeaderFields}
 use Rattle.words.specs.declared.header_word.HeaderRead.{HeaderRead}
 use Rattle.words.specs.declared.header_word.HeaderRead.the-variants.{Fields as HeaderIs, Refused as HeaderRefused}
+use Rattle.words.specs.declared.lines_word.LinesFields.{LinesFields}
+use Rattle.words.specs.declared.lines_word.LinesRead.{LinesRead}
+use Rattle.words.specs.declared.lines_word.LinesRead.the-variants.{Fields as LinesAre, Refused as LinesRefused}
 use Rattle.words.specs.declared.mark_word.MarkFields.{MarkFields}
+use Rattle.words.specs.declared.masks_word.MasksFields.{MasksFields}
+use Rattle.words.specs.declared.masks_word.MasksRead.{MasksRead}
+use Rattle.words.specs.declared.masks_word.MasksRead.the-variants.{Fields as MasksAre, Refused as MasksRefused}
 use Rattle.words.specs.declared.regions_word.RegionsFields.{RegionsFields}
 use Rattle.words.specs.declared.regions_word.RegionsRead.{RegionsRead}
 use Rattle.words.specs.declared.regions_word.RegionsRead.the-variants.{Fields as RegionsIs, Refused as RegionsRefused}
@@ -115,6 +121,26 @@ boot = record {
   list = λ f. f .base .0 ∷ f .end .0 ∷ [];
   fields = BootIs;
   refused = BootRefused;
+}
+
+-- the first word of a partition in the sheet: children mask 16, occupied slots 32, present structures 4, zero 12
+unfoldable pub masks : Kind MasksFields MasksRead
+masks = record {
+  parts = bits 16 ∷ bits 32 ∷ bits 4 ∷ zeros 12 ∷ [];
+  of = λ l. record { children = getD l 0 0; slots = getD l 1 0; structures = getD l 2 0 };
+  list = λ f. f .children ∷ f .slots ∷ f .structures ∷ [];
+  fields = MasksAre;
+  refused = MasksRefused;
+}
+
+-- .. and its second: lines held 27, lines open 27, zero 10
+unfoldable pub lines : Kind LinesFields LinesRead
+lines = record {
+  parts = bits 27 ∷ bits 27 ∷ zeros 10 ∷ [];
+  of = λ l. record { held = getD l 0 0; opened = getD l 1 0 };
+  list = λ f. f .held ∷ f .opened ∷ [];
+  fields = LinesAre;
+  refused = LinesRefused;
 }
 
 -- a mark: zero 33, line 27, holder 4. Not one of 01's: a list of runs and a way down are kept as marks, 32 bits each

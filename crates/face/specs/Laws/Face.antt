@@ -55,7 +55,7 @@ unfolding handed
 handed-is b h = rw (eq-eqb (length b) 5128 h) refl
 
 module _ (b : List ℕ) (h : length b ≡ 5128 → ⊥) where
-  handed-none : handed b ≡ []
+  pub handed-none : handed b ≡ []
   unfolding handed
   handed-none = rw (ne-eqb (length b) 5128 h) refl
 

@@ -3,14 +3,18 @@ use mathlib.Core.Path.{_≡_, refl, ap}
 use Prim.Native.Nat.{ℕ, _+_, _/_, _^_, _<_}
 use native.Mathlib.Omega.{arith}
 use Rattle.loops.specs.Laws.Bit.{flag-bit, bit-mod, bit-lt}
-use Rattle.words.specs.Kind.{fieldsIn, wordOf, InRange, Lawful}
-use Rattle.words.specs.Laws.Kind.{fields-back}
-use Rattle.words.specs.Words.{first, header, structure, regions, slot, call, boot, mark}
+use Rattle.words.specs.Kind.{fieldsIn, wordOf, reading, InRange, Lawful}
+use Rattle.words.specs.Laws.Kind.{fields-back, round-trips}
+use Rattle.words.specs.Words.{first, header, structure, regions, slot, call, boot, masks, lines, mark}
 use Rattle.words.specs.declared.boot_word.BootFields.{BootFields}
 use Rattle.words.specs.declared.call_word.CallFields.{CallFields}
 use Rattle.words.specs.declared.first_word.FirstFields.{FirstFields}
 use Rattle.words.specs.declared.header_word.HeaderFields.{HeaderFields}
+use Rattle.words.specs.declared.lines_word.LinesFields.{LinesFields}
+use Rattle.words.specs.declared.lines_word.LinesRead.the-variants.{Fields as LinesAre}
 use Rattle.words.specs.declared.mark_word.MarkFields.{MarkFields}
+use Rattle.words.specs.declared.masks_word.MasksFields.{MasksFields}
+use Rattle.words.specs.declared.masks_word.MasksRead.the-variants.{Fields as MasksAre}
 use Rattle.words.specs.declared.regions_word.RegionsFields.{RegionsFields}
 use Rattle.words.specs.declared.slot_word.SlotFields.{SlotFields}
 use Rattle.words.specs.declared.structure_word.StructureFields.{StructureFields}
@@ -53,6 +57,14 @@ pub boot-range : (f : BootFields) → f .base .0 < 2 ^ 27 → f .end .0 < 2 ^ 27
 unfolding boot
 boot-range f a b = (a, (b, tt))
 
+pub masks-range : (f : MasksFields) → f .children < 2 ^ 16 → f .slots < 2 ^ 32 → f .structures < 16 → InRange masks f
+unfolding masks
+masks-range f a b c = (a, (b, (c, tt)))
+
+pub lines-range : (f : LinesFields) → f .held < 2 ^ 27 → f .opened < 2 ^ 27 → InRange lines f
+unfolding lines
+lines-range f a b = (a, (b, tt))
+
 pub mark-range : (f : MarkFields) → f .line .0 < 2 ^ 27 → f .holder .0 < 16 → InRange mark f
 unfolding mark
 mark-range f a b = (a, (b, tt))
@@ -86,9 +98,27 @@ pub boot-lawful : Lawful boot
 unfolding boot
 boot-lawful = record { whole = refl; of-list = λ f. refl; list-of = λ w. refl }
 
+pub masks-lawful : Lawful masks
+unfolding masks
+masks-lawful = record { whole = refl; of-list = λ f. refl; list-of = λ w. refl }
+
+pub lines-lawful : Lawful lines
+unfolding lines
+lines-lawful = record { whole = refl; of-list = λ f. refl; list-of = λ w. refl }
+
 pub mark-lawful : Lawful mark
 unfolding mark
 mark-lawful = record { whole = refl; of-list = λ f. refl; list-of = λ w. refl }
+
+-- ── the words of a sheet ──
+-- fields that were written are read
+pub masks-read : (f : MasksFields) → InRange masks f → reading masks (wordOf masks f) ≡ MasksAre f
+unfolding masks
+masks-read f h = round-trips masks-lawful .values f h .1
+
+pub lines-read : (f : LinesFields) → InRange lines f → reading lines (wordOf lines f) ≡ LinesAre f
+unfolding lines
+lines-read f h = round-trips lines-lawful .values f h .1
 
 -- ── marks ──
 -- a mark fits 32 bits

@@ -1,0 +1,30 @@
+use mathlib.Core.Path.{sym, _∙_}
+use lib.ListN.{length-replicate}
+use Prim.Native.Nat.{ℕ}
+use Rattle.rules.specs.Laws.Brief.{boot-brief, first-small, number-small}
+use Rattle.face.specs.Laws.Face.{boot-root}
+use Rattle.face.specs.Laws.Sheets.{booted-right, boot-short, boot-no-sheet, boot-both, boot-neither}
+use native.Mathlib.Omega.{arith}
+use borrow.Author.Needs.{needs}
+use Rattle.face.proofs.sheets.boot_sheet_bytes.Statement.{statement}
+use Rattle.face.proofs.sheets.boot_sheet_bytes.Tie as tie
+
+pub boot-sheet-bytes-spec : {M : Type 1} → statement M
+boot-sheet-bytes-spec =
+    tie.close
+    (tie.spec
+    (λ c κs. (omega arith, omega arith, omega arith))
+    (λ c. boot-short _ _ _ _ (c .before .if1 .taken) (c .packed .ensures))
+    (λ c κs. (omega arith, omega arith, omega arith))
+    (λ c. boot-no-sheet _ _ _ _ (c .before .before .if1 .left) (c .before .if2 .taken) (c .packed2 .ensures))
+    (λ c κs. search needs)
+    (λ c. search needs)
+    (λ c κs. (c .before .before .before .before .before .before .before .before .if1 .left, boot-root _ _ (c .before .before .before .before .before .boot-table .ensures) (c .before .before .before .outcome .given .1)))
+    (λ c κs. (c .before .before .before .before .before .before .before .before .before .before .before .before .if2 .left, booted-right _ _ (c .before .before .before .before .before .before .before .before .before .before .boot-table .ensures) (c .before .before .before .before .before .before .before .before .outcome .given .1)))
+    (λ c κs. (omega arith, omega arith, omega (arith, first-small (boot-brief _ _ _) (sym (c .before .before .before .before .before .before .before .before .before .before .before .before .before .boot-table .ensures .outcome) ∙ c .before .before .before .before .before .before .before .before .before .before .before .outcome .given .1))))
+    (λ c. search needs)
+    (λ c κs. (omega (arith, number-small (boot-brief _ _ _) (sym (c .before .before .before .boot-table .ensures .outcome) ∙ c .before .outcome2 .given .1)), omega arith, omega arith))
+    (λ c. search needs)
+    (λ c. search needs)
+    (λ c. boot-both _ _ _ _ (c .before .before .before .before .before .before .before .before .before .before .before .before .before .before .before .before .before .if1 .left) (c .before .before .before .before .before .before .before .before .before .before .before .before .before .before .before .before .if2 .left) (length-replicate {A = ℕ} 641 0) (c .before .before .before .before .before .before .before .before .before .before .before .before .before .before .boot-table .ensures) (c .before .before .before .before .before .before .before .before .before .before .before .before .outcome .given .1) (c .packed3 .ensures) (c .before .before .before .before .before .before .before .before .store-root .ensures) (c .before .before .before .write-sheet .ensures))
+    (λ c. boot-neither _ _ _ _ (c .before .before .before .before .before .before .before .if1 .left) (c .before .before .before .before .before .before .if2 .left) (length-replicate {A = ℕ} 641 0) (c .before .before .before .before .boot-table .ensures) (c .before .before .outcome2 .given .1) (c .packed4 .ensures)))

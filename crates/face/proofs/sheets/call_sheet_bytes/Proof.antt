@@ -1,0 +1,67 @@
+use mathlib.Core.Path.{refl, sym, _∙_}
+use borrow.Author.Tests.{not-true, not-false}
+use Rattle.tables.specs.Laws.Top.{top-at}
+use Rattle.rules.specs.Laws.Brief.{call-brief, first-small, number-small}
+use Rattle.sheet.specs.Laws.Bytes.{matches-length}
+use Rattle.face.specs.Laws.Face.{call-tells, call-told, call-caller}
+use Rattle.face.specs.Laws.Sheets.{loaded-right, called-right, call-short, call-unsound, call-mismatch, call-neither, call-both}
+use native.Mathlib.Omega.{arith}
+use borrow.Author.Needs.{needs}
+use Rattle.face.proofs.sheets.call_sheet_bytes.Statement.{statement}
+use Rattle.face.proofs.sheets.call_sheet_bytes.Tie as tie
+
+pub call-sheet-bytes-spec : {M : Type 1} → statement M
+call-sheet-bytes-spec =
+    tie.close
+    (tie.spec
+    (λ c κs. (omega arith, omega arith, omega arith))
+    (λ c. call-short _ _ _ _ (c .before .if1 .taken) (c .packed .ensures))
+    (λ c κs. (c .before .before .if1 .left, refl))
+    (λ c κs. top-at (c .before .load .ensures .0) (c .before .load .ensures .1))
+    (λ c κs. (omega arith, omega arith, omega arith))
+    (λ c. search needs)
+    (λ c. call-unsound _ _ _ _ (c .before .before .before .before .before .before .before .if1 .left) (c .before .before .before .before .load .ensures .0) (sym (c .before .before .is-sound .ensures) ∙ not-true _ (c .before .if2 .taken)) (c .packed2 .ensures))
+    (λ c κs.
+    let small = c .before .before .before .before .before .before .before .before .before .before .slice-known .given in
+    loaded-right _ _ (c .before .before .before .before .before .load .ensures .0) (λ i. small i .fits) (sym (c .before .before .before .is-sound .ensures) ∙ not-false _ (c .before .before .if2 .left)))
+    (λ c κs. search needs)
+    (λ c κs. (omega arith, omega (arith, c .first .ensures .current-small), omega arith))
+    (λ c. search needs)
+    (λ c. search needs)
+    (λ c.
+    let size = c .before .before .before .before .before .before .before .before .before .before .before .before .before .if1 .left in
+    let load = c .before .before .before .before .before .before .before .before .before .before .load .ensures .0 in
+    let right = sym (c .before .before .before .before .before .before .before .before .is-sound .ensures) ∙ not-false _ (c .before .before .before .before .before .before .before .if2 .left) in
+    call-mismatch _ _ _ _ size load right (sym (c .before .before .before .before .is-sheet .ensures) ∙ not-true _ (c .before .before .before .if3 .taken)) (c .before .first .ensures .current) (c .packed3 .ensures))
+    (λ c κs. sym (c .before .before .before .before .before .before .is-sound .ensures) ∙ not-false _ (c .before .before .before .before .before .if2 .left))
+    (λ c κs. search needs)
+    (λ c. search needs)
+    (λ c κs.
+    let size = c .before .before .before .before .before .before .before .before .before .before .before .before .before .before .before .before .before .before .before .before .if1 .left in
+    let load = c .before .before .before .before .before .before .before .before .before .before .before .before .before .before .before .before .before .load .ensures .0 in
+    let small = c .before .before .before .before .before .before .before .before .before .before .before .before .before .before .before .before .before .before .before .before .before .before .slice-known .given in
+    let same = sym (c .before .before .before .before .before .before .before .before .before .before .before .is-sheet .ensures) ∙ not-false _ (c .before .before .before .before .before .before .before .before .before .before .if3 .left) in
+    let answer = c .before .before .before .before .before .before .before .before .serve-word .ensures in
+    let done = c .before .before .before .before .outcome .given .1 in
+    (size, matches-length _ _ same, call-tells _ size load answer (λ i. small i .fits) done, call-told _ size load answer (λ i. small i .fits) done, called-right _ _ load (λ i. small i .fits) answer done))
+    (λ c κs. (omega arith, omega (arith, call-caller _ (c .before .before .before .before .before .before .before .before .before .before .before .before .before .before .before .before .before .before .before .before .before .before .before .before .before .if1 .left) (c .before .before .before .before .before .before .before .before .before .before .before .before .before .before .before .before .before .before .before .before .before .before .load .ensures .0) (c .before .before .before .before .before .before .before .before .before .before .before .before .before .serve-word .ensures)), omega (arith, first-small (call-brief _ _ _) (sym (c .before .before .before .before .before .before .before .before .before .before .before .before .before .serve-word .ensures .ran .outcome) ∙ c .before .before .before .before .before .before .before .before .before .outcome .given .1))))
+    (λ c. search needs)
+    (λ c κs. (omega (arith, number-small (call-brief _ _ _) (sym (c .before .before .before .before .before .serve-word .ensures .ran .outcome) ∙ c .before .outcome2 .given .1)), omega (arith, call-caller _ (c .before .before .before .before .before .before .before .before .before .before .before .before .before .before .before .before .before .if1 .left) (c .before .before .before .before .before .before .before .before .before .before .before .before .before .before .load .ensures .0) (c .before .before .before .before .before .serve-word .ensures)), omega arith))
+    (λ c. search needs)
+    (λ c. search needs)
+    (λ c.
+    let size = c .before .before .before .before .before .before .before .before .before .before .before .before .before .before .before .before .before .before .before .before .before .before .before .before .before .before .if1 .left in
+    let load = c .before .before .before .before .before .before .before .before .before .before .before .before .before .before .before .before .before .before .before .before .before .before .before .load .ensures .0 in
+    let small = c .before .before .before .before .before .before .before .before .before .before .before .before .before .before .before .before .before .before .before .before .before .before .before .before .before .before .before .before .slice-known .given in
+    let right = sym (c .before .before .before .before .before .before .before .before .before .before .before .before .before .before .before .before .before .before .before .before .before .is-sound .ensures) ∙ not-false _ (c .before .before .before .before .before .before .before .before .before .before .before .before .before .before .before .before .before .before .before .before .if2 .left) in
+    let same = sym (c .before .before .before .before .before .before .before .before .before .before .before .before .before .before .before .before .before .is-sheet .ensures) ∙ not-false _ (c .before .before .before .before .before .before .before .before .before .before .before .before .before .before .before .before .if3 .left) in
+    let bytes = c .before .before .before .before .before .before .before .before .before .before .before .before .before .before .before .before .before .before .before .before .before .before .before .before .before .before .before .slice-known2 .given in
+    call-both _ _ _ _ size load right same (c .before .before .before .before .before .before .before .before .before .before .before .before .before .before .serve-word .ensures) (λ i. small i .fits) (c .before .before .before .before .before .before .before .before .before .before .outcome .given .1) (λ i. bytes i .fits) (c .packed4 .ensures) (c .before .before .before .before .before .store-both .ensures .0) (c .before .before .before .before .before .before .before .before .before .before .before .before .leaves-sheet .ensures) (c .before .before .before .before .before .store-both .ensures .1) refl)
+    (λ c. search needs)
+    (λ c. search needs)
+    (λ c.
+    let size = c .before .before .before .before .before .before .before .before .before .before .before .before .before .before .before .before .before .before .if1 .left in
+    let load = c .before .before .before .before .before .before .before .before .before .before .before .before .before .before .before .load .ensures .0 in
+    let right = sym (c .before .before .before .before .before .before .before .before .before .before .before .before .before .is-sound .ensures) ∙ not-false _ (c .before .before .before .before .before .before .before .before .before .before .before .before .if2 .left) in
+    let same = sym (c .before .before .before .before .before .before .before .before .before .is-sheet .ensures) ∙ not-false _ (c .before .before .before .before .before .before .before .before .if3 .left) in
+    call-neither _ _ _ _ size load right same (c .before .before .before .before .before .before .serve-word .ensures) (c .before .before .outcome2 .given .1) (c .packed5 .ensures)))

@@ -1,0 +1,90 @@
+ghost use mathlib.Core.Path.{_≡_};
+ghost use mathlib.Core.Bool.{cond, _||_};
+ghost use lib.ListN.{length};
+ghost use Rattle.tables.specs.View.{view};
+ghost use Rattle.memory.specs.Bytes.{bytesOf};
+ghost use Rattle.memory.specs.ByteRecords.{HeaderTells, BytesTell};
+ghost use Rattle.sound.specs.Whole.{Right};
+ghost use Rattle.sheet.specs.Sheet.{sheetOf};
+ghost use Rattle.sheet.specs.Bytes.{sheetBytes};
+ghost use Rattle.face.specs.Sheets.{BootSheetLent, CallSheetLent};
+use crate::packed;
+use shapes::Board;
+use tables::Outcome;
+use words::Partition;
+
+// Boot and call with a sheet beside the table. The functions without one do the same with the table.
+
+// Boot: both are written, whatever they held.
+pub fn boot_sheet_bytes(table: &mut [u8], sheet: &mut [u8], base: u64, end: u64) -> u64
+    ensures { λ r. ⌜ BootSheetLent (now (table .entry)) (now (sheet .entry)) base end r (now (table .exit)) (now (sheet .exit)) ⌝ }
+{
+    if table.len() != 5128 {
+        return packed(1, Partition(0), 0);
+    }
+    if sheet.len() != 256 {
+        return packed(20, Partition(0), 0);
+    }
+    let mut a = [0u64; 641];
+    let outcome = services::boot_service::boot_table(&mut a, base, end);
+    match outcome {
+        Outcome::Done(first, _) => {
+            memory::store_root(&a, table);
+            sheet::write_sheet(&a, sheet);
+            packed(0, Partition(0), first)
+        }
+        Outcome::Refused(n) => packed(n, Partition(0), 0),
+    }
+}
+
+// Table and sheet are written back, but for a call after which every word is as it was; the sheet is left where the call leaves it.
+fn store_both(t: &[u64; 641], stands: bool, leaves: bool, table: &mut [u8], sheet: &mut [u8])
+    requires { ⌜ (length (now table) ≡ 5128) × (length (now sheet) ≡ 256) × HeaderTells (now t) × BytesTell (now table) × Right (view (now t)) ⌝ }
+    ensures { λ _. ⌜ (now (table .exit) ≡ cond stands (now (table .entry)) (bytesOf (now (t .entry)))) × (now (sheet .exit) ≡ cond (stands || leaves) (now (sheet .entry)) (sheetBytes (sheetOf (view (now (t .entry)))))) ⌝ }
+{
+    if stands {
+        return;
+    }
+    memory::store(t, table);
+    if leaves {
+        return;
+    }
+    sheet::write_sheet(t, sheet);
+}
+
+// A call: 1 first, then 20 where the sheet is not the table's, then as `call_bytes`.
+pub fn call_sheet_bytes(
+    board: Board,
+    table: &mut [u8],
+    sheet: &mut [u8],
+    word: u64,
+    second: &mut u64,
+) -> u64
+    ensures { λ r. ⌜ CallSheetLent board (now (table .entry)) (now (sheet .entry)) word (now (second .entry)) r (now (table .exit)) (now (sheet .exit)) (now (second .exit)) ⌝ }
+{
+    if table.len() != 5128 {
+        return packed(1, Partition(0), 0);
+    }
+    let mut a = [0u64; 641];
+    let top = memory::load(table, &mut a);
+    if !decide::is_sound(board, &a, top) {
+        return packed(1, Partition(0), 0);
+    }
+    if !sheet::is_sheet(&a, sheet) {
+        let first = tables::read::first(&a);
+        return packed(20, first.current, 0);
+    }
+    let answer = services::calls::serve_word(board, &mut a, word);
+    let caller = answer.caller;
+    let stands = answer.stands;
+    let leaves = sheet::leaves_sheet(word);
+    let outcome = answer.outcome;
+    match outcome {
+        Outcome::Done(first, value) => {
+            store_both(&a, stands, leaves, table, sheet);
+            *second = value;
+            packed(0, caller, first)
+        }
+        Outcome::Refused(n) => packed(n, caller, 0),
+    }
+}

@@ -1,0 +1,18 @@
+use Rattle.sheet.specs.Laws.Bytes.{pair-differs, pair-second}
+use native.Mathlib.Omega.{arith}
+use borrow.Author.Needs.{needs}
+use Rattle.sheet.proofs.pair_matches.Statement.{statement}
+use Rattle.sheet.proofs.pair_matches.Tie as tie
+
+pub pair-matches-spec : {M : Type 1} → statement M
+pair-matches-spec =
+    tie.close
+    (tie.spec
+    (λ c κs. (c .before .pre .0, c .before .pre .1, c .before .pre .3))
+    (λ c. search needs)
+    (λ c. search needs)
+    (λ c κs. omega (arith, c .before .before .before .pre .0, c .before .before .before .pre .2))
+    (λ c. pair-differs _ _ _ (omega arith) (c .before .before .word .ensures) (c .before .before .before .before .words-of .ensures .0) (c .if1 .taken))
+    (λ c. search needs)
+    (λ c κs. omega (arith, c .before .before .before .before .before .before .pre .0, c .before .before .before .before .before .before .pre .2))
+    (λ c. pair-second _ _ _ (omega arith) (c .before .before .before .before .word .ensures) (c .before .before .before .before .before .before .words-of .ensures .0) (omega arith) (c .before .before .if1 .left) (c .before .word2 .ensures) (c .before .before .before .before .before .before .words-of .ensures .1)))

@@ -1,0 +1,33 @@
+-- A sheet as C lends it: 256 bytes, each of its 32 words most significant byte first.
+use mathlib.Core.Path.{_≡_}
+use mathlib.Core.Bool.{Bool, cond, _&&_}
+use mathlib.Core.List.{List, []}
+use Prim.Native.Nat.{ℕ, _+_, _*_}
+use lib.Dec.{eqb}
+use lib.ListN.{length, getD}
+use Rattle.loops.specs.Rewrite.{tab}
+use Rattle.memory.specs.Bytes.{wordAt, byteOf, putWord}
+use Rattle.tables.specs.State.{Table}
+use Rattle.rules.specs.Rules.{Result, done, refused}
+use Rattle.sheet.specs.Sheet.{masksWord, linesWord, sheetOf}
+
+-- the words that are handed over as bytes; another number of bytes is no sheet
+unfoldable pub handedSheet : List ℕ → List ℕ
+handedSheet b = cond (eqb (length b) 256) (tab 32 (wordAt b)) []
+
+-- the bytes that the words of a sheet are
+unfoldable pub sheetBytes : List ℕ → List ℕ
+sheetBytes s = tab 256 (byteOf s)
+
+-- the bytes after a boot or a call: those of the sheet after it, or, refused, as they were
+unfoldable pub sheetBytesAfter : List ℕ → Result → List ℕ
+sheetBytesAfter b (done v w t) = sheetBytes (sheetOf t)
+sheetBytesAfter b (refused n) = b
+
+-- the words of p are those of the sheet
+unfoldable pub pairMatches : List ℕ → Table → ℕ → Bool
+pairMatches b t p = eqb (wordAt b (2 * p)) (masksWord t p) && eqb (wordAt b (2 * p + 1)) (linesWord t p)
+
+-- the bytes s are b with the two words of p put from byte 16 p on
+pub record PutPair (sheet : List ℕ) (p : ℕ) (b s : List ℕ) : Type 0 where
+  pub words : s ≡ putWord (putWord b (16 * p) (getD sheet (2 * p) 0)) (16 * p + 8) (getD sheet (2 * p + 1) 0)

@@ -1,0 +1,10 @@
+pub mod Rules
+pub mod Held
+pub mod Children
+pub mod Sums
+pub mod Walk
+pub mod Words
+pub mod Bytes
+pub mod Reading
+pub mod Kept
+pub mod Leaves

@@ -1,0 +1,53 @@
+-- The two words of a partition whose record an accepted call leaves as it was are as they were.
+use mathlib.Core.Path.{_≡_, refl, ap, ap₂, sym, subst, _∙_}
+use mathlib.Core.Bool.{cond}
+use mathlib.Core.List.{List}
+use Prim.Native.Nat.{ℕ, _+_, _<_}
+use Rattle.loops.specs.Count.{sum}
+use Rattle.loops.specs.Map.{mapOf}
+use Rattle.words.specs.Kind.{fieldsIn, wordOf}
+use Rattle.words.specs.declared.call_word.CallFields.{CallFields}
+use Rattle.words.specs.Words.{call, masks, lines}
+use Rattle.shapes.specs.declared.Board.{Board}
+use Rattle.tables.specs.State.{Table}
+use Rattle.tables.specs.View.{recordWord, view}
+use Rattle.tables.specs.Encode.{encode}
+use Rattle.tables.specs.Fitting.{Words}
+use Rattle.tables.specs.Laws.Back.{view-encode}
+use Rattle.tables.specs.Search.{isSome, present}
+use Rattle.sound.specs.Whole.{Right}
+use Rattle.rules.specs.Rules.{done, serve, callOn}
+use Rattle.isolation.specs.Laws.Fits.{right-fit}
+use Rattle.isolation.specs.Whole.{served, call-right}
+use Rattle.sheet.specs.Sheet.{linesOf, masksOf, linesFor, masksWord, linesWord}
+use Rattle.tables.specs.Laws.Stays.{Stays, stays}
+use Rattle.sheet.specs.Laws.Children.{SameChildren, same-mask, serve-children}
+
+module _ {t new : Table} {p : ℕ} (s : Stays t new p) where
+  here : present (new .k) p ≡ present (t .k) p
+  unfolding present
+  here = ap isSome (s .area 0)
+
+  pub masks-same : SameChildren (t .k) (new .k) p → masksWord new p ≡ masksWord t p
+  unfolding masksWord
+  masks-same c = λ x. cond (here x) (wordOf masks (record {
+    children = mapOf 16 (λ d. same-mask c d x);
+    slots = mapOf 32 (λ i. isSome (s .slot i x));
+    structures = mapOf 4 (λ j. isSome (s .area (1 + j) x));
+  })) 0
+
+  pub lines-same : linesWord new p ≡ linesWord t p
+  unfolding linesWord
+  lines-same = λ x. cond (here x) (wordOf lines (record {
+    held = sum 32 (λ i. linesOf (s .slot i x));
+    opened = sum 32 (λ i. cond (s .opened i x) (linesOf (s .slot i x)) 0);
+  })) 0
+
+-- THE THEOREM, over words: of a call that is done
+pub call-kept : (b : Board) (l : List ℕ) (w : ℕ) → Words l → {v y : ℕ} {new : Table} → callOn b l w ≡ done v y new → (p : ℕ) → ((o : ℕ) → o < 40 → recordWord (encode new) p o ≡ recordWord l p o)
+    → (masksWord new p ≡ masksWord (view l) p) × (linesWord new p ≡ linesWord (view l) p)
+call-kept b l w small {new = new} z p same =
+    let (_, h, y) = served b l w small z in
+    let back = view-encode new (right-fit (call-right b l w small z)) in
+    let k = subst (λ (t : Table). Stays (view l) t p) back (stays l (encode new) p same) in
+    (masks-same k (serve-children b h (fieldsIn call w) y k), lines-same k)

@@ -1,0 +1,11 @@
+use native.Mathlib.Nat.{add-zero, div-one}
+use Rattle.words.specs.Words.{masks}
+use Rattle.words.proofs.masks_word.zero_bits.Statement.{statement}
+use Rattle.words.proofs.masks_word.zero_bits.Tie as tie
+
+pub zero-bits-spec : {M : Type 1} → statement M
+unfolding masks
+zero-bits-spec =
+    tie.close
+    (tie.spec
+    (λ c. simp (add-zero, div-one)))
