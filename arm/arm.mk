@@ -53,7 +53,7 @@ $(arm_module): build/libulavrepit.a arm/as_text arm/gives_archive arm/known.awk
 # all that decides the table, which has ended when they are made. The others are for text: without them it is 1,000 bytes more on a
 # Cortex-M0 and 500 on an M3.
 arm_apart := runs::walk::leave_marks tables::search::holding_slot decide::backing::has_equal \
-    settling::areas::zero_record settling::areas::clear_of
+    decide::limit::entry_pieces settling::areas::zero_record settling::areas::clear_of
 arm_keep_apart = sed $(arm_apart:%=-e '/^define.*@"%"(/s/ #0 {/ #0 noinline {/')
 
 # The library passes no floating-point number to anybody. The attribute tells linkers: they would refuse it in firmware that

@@ -2,6 +2,7 @@ pub mod Order
 pub mod Used
 pub mod Limit
 pub mod Opening
+pub mod Regions
 pub mod Backing
 pub mod Entries
 pub mod Decide

@@ -2,17 +2,18 @@
 use mathlib.Core.Path.{_≡_}
 use mathlib.Core.Bool.{Bool, true, cond, not, _&&_, _||_}
 use mathlib.Core.List.{List}
-use Prim.Native.Nat.{ℕ, _≤_, _<_}
+use Prim.Native.Nat.{ℕ, _/_, _%_, _^_, _≤_, _<_}
 use lib.ListN.{length, getD}
 use lib.Dec.{leb, ltb, eqb}
-use Rattle.loops.specs.Every.{all}
+use lib.Bits.{bitOr}
 use Rattle.words.specs.declared.regions_word.Region.{Region}
 use Rattle.words.specs.declared.regions_word.RegionsFields.{RegionsFields}
+use Rattle.shapes.specs.declared.Board.{Board}
 use Rattle.tables.specs.State.{Table}
-use Rattle.tables.specs.View.{nth, named, view}
+use Rattle.tables.specs.View.{view}
 use Rattle.tables.specs.Search.{isSome}
 use Rattle.settling.specs.Areas.{AreasOf, Parted}
-use Rattle.sound.specs.Clauses.{when, s10Names, s10Once}
+use Rattle.sound.specs.Limit.{entryPieces}
 use Rattle.decide.specs.Order.{Rows}
 use Rattle.shape.specs.AtOnce.{Shaped}
 
@@ -42,16 +43,16 @@ pub record CanOpen (l : List ℕ) (p : ℕ) (o : List ℕ) (c n : ℕ) (s e : Li
 unfoldable pub isOpen : Table → ℕ → ℕ → Bool
 isOpen t p i = isSome (t .k .slot p i) && t .opened p i
 
--- a region that is loaded names another slot than i; so do those before region r
-unfoldable pub other : ℕ → Region → Bool
-other i x = when (λ j. not (eqb i j)) (named x)
+-- slot i is in a mask; the mask with the slot that a region names
+unfoldable pub marked : ℕ → ℕ → Bool
+marked m i = eqb (m / 2 ^ i % 2) 1
 
-unfoldable pub others : RegionsFields → ℕ → ℕ → Bool
-others f r i = all r (λ q. other i (nth f q))
+unfoldable pub noted : ℕ → Region → ℕ
+noted m x = cond (x .loaded) (bitOr m (2 ^ x .slot .0)) m
 
--- what S10 says of region r and those before it
-unfoldable pub regionRight : Table → ℕ → ℕ → Bool
-regionRight t p r = s10Names t p r && all r (s10Once t p r)
+-- what a region weighs, where those before it name the slots of the mask: the pieces of what it names, or 9, which is too much, where S10 says something else of it
+unfoldable pub weight : Board → Table → ℕ → ℕ → Region → ℕ
+weight b t p m x = cond (x .loaded) (cond (isOpen t p (x .slot .0) && not (marked m (x .slot .0))) (entryPieces b (t .k .slot p (x .slot .0))) 9) 0
 
 abbrev pub someLoaded : RegionsFields → Bool
 someLoaded f =

@@ -13,7 +13,7 @@ use words::regions_word::Region;
 use words::regions_word::RegionsFields;
 
 // the pieces of slot i of p; an empty slot needs none
-fn entry_pieces(board: Board, t: &[u64; 641], p: Partition, i: Slot) -> u32
+pub fn entry_pieces(board: Board, t: &[u64; 641], p: Partition, i: Slot) -> u32
     requires { ⌜ (p .0 < 16) × (i .0 < 32) ⌝ }
     ensures { λ r. ⌜ (r ≡ entryPieces board (view (now (t .entry)) .k .slot (p .0) (i .0))) × (r ≤ 52) ⌝ }
 {

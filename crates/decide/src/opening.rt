@@ -1,10 +1,9 @@
 ghost use mathlib.Core.Path.{_≡_};
 ghost use Prim.Native.Nat.{_≤_, _<_};
 ghost use Rattle.tables.specs.View.{view};
-ghost use Rattle.tables.specs.Seen.{SeenRegions};
 ghost use Rattle.sound.specs.Clauses.{s9, s10};
-ghost use Rattle.decide.specs.Opening.{Skipped, noneBefore, CanOpen, someLoaded, isOpen, other, others, regionRight};
-use crate::limit::loaded_pieces;
+ghost use Rattle.decide.specs.Opening.{Skipped, noneBefore, CanOpen, someLoaded, isOpen, marked, noted, weight};
+use crate::limit::entry_pieces;
 use crate::order::entry_at;
 use shapes::Board;
 use tables::read;
@@ -93,48 +92,43 @@ fn is_open(t: &[u64; 641], p: Partition, i: Slot) -> bool
     false
 }
 
-// a region that is loaded names another slot than i
-fn names_other(x: Region, i: Slot) -> bool
-    ensures { λ r. ⌜ r ≡ other (i .0) x ⌝ }
+// slot i is in the mask
+fn is_marked(mask: u32, i: Slot) -> bool
+    requires { ⌜ i .0 < 32 ⌝ }
+    ensures { λ r. ⌜ r ≡ marked mask (i .0) ⌝ }
 {
-    if x.loaded {
-        return i.0 != x.slot.0;
-    }
-    true
+    (mask >> i.0) % 2 == 1
 }
 
-// so do the regions before r
-fn others_apart(f: RegionsFields, r: u32, i: Slot) -> bool
-    requires { ⌜ r < 8 ⌝ }
-    ensures { λ b. ⌜ b ≡ others f r (i .0) ⌝ }
+// the mask with the slot that a region names
+fn noted(mask: u32, x: Region) -> u32
+    requires { ⌜ x .slot .0 < 32 ⌝ }
+    ensures { λ r. ⌜ r ≡ noted mask x ⌝ }
 {
-    let mut q = 0u32;
-    while q < r {
-        let x = regions::nth(f, q);
-        if !names_other(x, i) {
-            return false;
-        }
-        q += 1;
-    }
-    true
-}
-
-// region r of p, if it is loaded, names an open entry, and no region before it names the same
-fn region_right(t: &[u64; 641], p: Partition, f: RegionsFields, r: u32) -> bool
-    requires { ⌜ (p .0 < 16) × (r < 8) × SeenRegions (now t) (p .0) f ⌝ }
-    ensures { λ b. ⌜ b ≡ regionRight (view (now (t .entry))) (p .0) r ⌝ }
-{
-    let x = regions::nth(f, r);
     if !x.loaded {
-        return true;
+        return mask;
+    }
+    mask | (1u32 << x.slot.0)
+}
+
+// The pieces of what a region names. 9, more than a partition may have, where that is not open, or one of the mask: a region before it names the same.
+fn region_weight(board: Board, t: &[u64; 641], p: Partition, mask: u32, x: Region) -> u32
+    requires { ⌜ (p .0 < 16) × (x .slot .0 < 32) ⌝ }
+    ensures { λ r. ⌜ (r ≡ weight board (view (now (t .entry))) (p .0) mask x) × (r ≤ 52) ⌝ }
+{
+    if !x.loaded {
+        return 0;
     }
     if !is_open(t, p, x.slot) {
-        return false;
+        return 9;
     }
-    others_apart(f, r, x.slot)
+    if is_marked(mask, x.slot) {
+        return 9;
+    }
+    entry_pieces(board, t, p, x.slot)
 }
 
-// S10 of p
+// S10 of p: one walk over its regions
 pub fn regions_right(board: Board, t: &[u64; 641], p: Partition) -> bool
     requires { ⌜ p .0 < 16 ⌝ }
     ensures { λ r. ⌜ r ≡ s10 board (view (now (t .entry))) (p .0) ⌝ }
@@ -143,12 +137,14 @@ pub fn regions_right(board: Board, t: &[u64; 641], p: Partition) -> bool
     if !some_loaded(f) {
         return true;
     }
+    let mut mask = 0u32;
+    let mut n = 0u32;
     let mut r = 0u32;
     while r < 8 {
-        if !region_right(t, p, f, r) {
-            return false;
-        }
+        let x = regions::nth(f, r);
+        n += region_weight(board, t, p, mask, x);
+        mask = noted(mask, x);
         r += 1;
     }
-    loaded_pieces(board, t, p, f) <= 8
+    n <= 8
 }

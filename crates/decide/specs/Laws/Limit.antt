@@ -1,4 +1,4 @@
--- The pieces that the code counts are those of the table: of an entry, of a region, of all that is loaded, and of what would be after a load.
+-- The pieces that the code counts are those of the table: of an entry, of a region, and of all that would be loaded after a load.
 use mathlib.Core.Path.{_≡_, refl, ap, sym, _∙_}
 use mathlib.Core.Bool.{Bool, true, false, cond}
 use mathlib.Core.List.{List}
@@ -44,14 +44,6 @@ module _ (b : Board) (slot : ℕ → Opt Entry) (x : Region) where
   region-counted q e = rw q e
 
 -- ── all that is loaded ──
-module _ (b : Board) {l : List ℕ} {p : ℕ} {f : RegionsFields} (v : SeenRegions l p f) where
-  pub pieces-seen : piecesOf b (view l) p f ≡ loadedPieces b (view l .k .slot) (view l .region) p
-  unfolding piecesOf loadedPieces
-  pieces-seen = sum-ext 8 _ _ (λ r h. ap (regionPieces b (view l .k .slot p)) (sym (v .region r h)))
-
-pub can-count : {l : List ℕ} {p : ℕ} {f : RegionsFields} → SeenRegions l p f → p < 16 → CanCount p f
-can-count v h = record { inP = h; slots = v .small }
-
 pub counted-small : {p : ℕ} {f : RegionsFields} {x : Region} → CanCount p f → (r : ℕ) → x ≡ nth f r → x .slot .0 < 32
 counted-small h r is = rw is (h .slots r)
 

@@ -1,23 +1,19 @@
--- The walk along entries and areas decides S9, and the regions one by one decide S10: what each exit gives.
+-- The walk along entries and areas decides S9: what each exit gives.
 use mathlib.Core.Path.{_≡_, refl, ap, sym, _∙_}
-use mathlib.Core.Bool.{Bool, true, false, cond, not, _&&_, Bool·beq, or-true, false≢true}
+use mathlib.Core.Bool.{Bool, true, false, cond, not, Bool·beq, false≢true}
 use mathlib.Core.List.{List}
-use Prim.Native.Nat.{ℕ, zero, suc, _+_, _≤_, _<_}
+use Prim.Native.Nat.{ℕ, _+_, _≤_, _<_}
 use native.Mathlib.Decide.{ℕ-discrete, decLt}
 use native.Mathlib.Omega.{arith}
 use lib.ListN.{getD}
-use lib.Dec.{leb, ltb, eqb}
+use lib.Dec.{leb, ltb}
 use borrow.Author.Tests.{not-true, not-false, leb-true, ltb-true, le-leb, lt-ltb}
-use Rattle.loops.specs.Every.{all}
-use Rattle.loops.specs.Laws.Every.{all-at, all-of, fail-of, all-ext, all-true, bool-ext}
+use Rattle.loops.specs.Laws.Every.{all-at, all-of, fail-of, bool-ext}
 use Rattle.words.specs.declared.slot_word.SlotFields.{SlotFields}
-use Rattle.words.specs.declared.regions_word.Region.{Region}
-use Rattle.words.specs.declared.regions_word.RegionsFields.{RegionsFields}
-use Rattle.shapes.specs.declared.Board.{Board}
 use Rattle.tables.specs.State.{Opt, none, some, Entry, K, Table}
 use Rattle.tables.specs.Laws.State.{not-none}
-use Rattle.tables.specs.View.{entryOf, entryIn, nth, named, view}
-use Rattle.tables.specs.Seen.{Seen, SeenRegions}
+use Rattle.tables.specs.View.{entryOf, entryIn, view}
+use Rattle.tables.specs.Seen.{Seen}
 use Rattle.tables.specs.Search.{present}
 use Rattle.tables.specs.Settle.{openBit, openAt}
 use Rattle.settling.specs.Rising.{lowOf}
@@ -25,19 +21,15 @@ use Rattle.settling.specs.Laws.Rising.{lined-at}
 use Rattle.settling.specs.Gather.{eachOf}
 use Rattle.settling.specs.Areas.{AreasOf, off, clearOf, Parted}
 use Rattle.settling.specs.Laws.Areas.{clear-quick, areas-lined}
-use Rattle.sound.specs.Clauses.{when, s9, s10Names, s10Once, s10}
-use Rattle.sound.specs.Limit.{loadedPieces}
-use Rattle.sound.specs.Laws.Limit.{none-loaded}
-use Rattle.sound.specs.Laws.Tests.{and-says, and-true, not-of, all-and}
+use Rattle.sound.specs.Clauses.{s9}
+use Rattle.sound.specs.Laws.Tests.{and-says, not-of}
 use Rattle.decide.specs.Order.{linesOf, linesAt, placed}
 use Rattle.decide.specs.Laws.Order.{lines-of}
 use Rattle.shape.specs.Laws.AtOnce.{shaped-record}
 use Rattle.decide.specs.Laws.Used.{empty-closed}
 use Rattle.decide.specs.Laws.Decide.{solid}
 use Rattle.decide.specs.Decide.{CanDecide}
-use Rattle.decide.specs.Limit.{piecesOf}
-use Rattle.decide.specs.Laws.Limit.{pieces-seen}
-use Rattle.decide.specs.Opening.{Skipped, noneBefore, CanOpen, isOpen, other, others, regionRight, someLoaded}
+use Rattle.decide.specs.Opening.{Skipped, noneBefore, CanOpen}
 
 -- ── S9 ──
 -- the open bit of slot i of p is the one that S9 derives
@@ -203,57 +195,3 @@ module _ {l : List ℕ} {p : ℕ} {o : List ℕ} {c n : ℕ} {s e : List ℕ} (c
       go i b (some y) u =
           let (x, d, z) = can .rows .ordered .every i _ b (lines-of (view l .k) p i y u) in
           rw (← z) (inv .passed x (omega arith))
-
--- ── S10 ──
--- region r, which the code read as x
-module _ {l : List ℕ} {p r : ℕ} {f : RegionsFields} {x : Region} (v : SeenRegions l p f) (h : r < 8) (e : x ≡ nth f r) where
-  read : view l .region p r ≡ named x
-  read = v .region r h ∙ ap named (sym e)
-
-  pub region-none : x .loaded ≡ false → true ≡ regionRight (view l) p r
-  unfolding regionRight s10Names s10Once when named
-  region-none q = rw (read, q) (sym (all-true r))
-
-  module _ (q : x .loaded ≡ true) where
-    pub region-closed : isOpen (view l) p (x .slot .0) ≡ false → false ≡ regionRight (view l) p r
-    unfolding regionRight s10Names when named isOpen
-    region-closed o = rw (read, q, o) refl
-
-    pub region-open : {b : Bool} → isOpen (view l) p (x .slot .0) ≡ true → b ≡ others f r (x .slot .0) → b ≡ regionRight (view l) p r
-    unfolding regionRight s10Names s10Once when named isOpen other others
-    region-open o is = rw (read, q, o) (is ∙ all-ext r _ _ (λ j b. ap (when (λ i. not (eqb (x .slot .0) i))) (sym (v .region j (omega arith)))))
-
--- region by region
-s10-each : (board : Board) (t : Table) (p : ℕ) → all 8 (regionRight t p) && leb (loadedPieces board (t .k .slot) (t .region) p) 8 ≡ s10 board t p
-unfolding s10 regionRight
-s10-each board t p = ap (λ (x : Bool). x && leb (loadedPieces board (t .k .slot) (t .region) p) 8) (all-and 8 (s10Names t p) (λ r. all r (s10Once t p r)))
-
-pub s10-fails : (board : Board) (t : Table) (p : ℕ) → false ≡ all 8 (regionRight t p) → false ≡ s10 board t p
-s10-fails board t p e = rw (← (s10-each board t p), ← e) refl
-
--- .. and the pieces of all that is loaded
-pub s10-counted : (board : Board) {l : List ℕ} {p n : ℕ} {f : RegionsFields} → SeenRegions l p f → true ≡ all 8 (regionRight (view l) p) → n ≡ piecesOf board (view l) p f → leb n 8 ≡ s10 board (view l) p
-s10-counted board {l} {p} v e q = rw (← (s10-each board (view l) p), ← e, q, pieces-seen board v) refl
-
--- ── no region is loaded ──
-loaded-at : (f : RegionsFields) (r : ℕ) → nth f r .loaded ≡ true → someLoaded f ≡ true
-unfolding nth
-loaded-at f zero q = rw q refl
-loaded-at f (suc zero) q = rw (q, or-true) refl
-loaded-at f (suc (suc zero)) q = rw (q, or-true) refl
-loaded-at f (suc (suc (suc zero))) q = rw (q, or-true) refl
-loaded-at f (suc (suc (suc (suc zero)))) q = rw (q, or-true) refl
-loaded-at f (suc (suc (suc (suc (suc zero))))) q = rw (q, or-true) refl
-loaded-at f (suc (suc (suc (suc (suc (suc zero)))))) q = rw (q, or-true) refl
-loaded-at f (suc (suc (suc (suc (suc (suc (suc zero))))))) q = rw (q, or-true) refl
-loaded-at f (suc (suc (suc (suc (suc (suc (suc (suc r)))))))) q = absurd (false≢true q)
-
-pub s10-none : (board : Board) {l : List ℕ} {p : ℕ} {f : RegionsFields} → SeenRegions l p f → someLoaded f ≡ false → true ≡ s10 board (view l) p
-unfolding named
-s10-none board {l} {p} {f} v q =
-    sym (sym (s10-each board (view l) p) ∙ and-true _ _
-    (all-of 8 _ (λ r h. sym (region-none v h refl (unloaded r))))
-    (le-leb _ 8 (none-loaded board (view l .k .slot) (view l .region) p (λ r h. v .region r h ∙ rw (unloaded r) refl))))
-  where
-    unloaded : (r : ℕ) → nth f r .loaded ≡ false
-    unloaded r = not-true _ (not-of (nth f r .loaded) (λ x. false≢true (sym q ∙ loaded-at f r x)))
