@@ -4,6 +4,8 @@
 # make firmware:  examples/firmware on that board: a kernel, two tasks, and a fault of the MPU.
 # ARM_ACCESS=aligned with each of them: a library that accesses aligned addresses alone, for a Cortex-M3, M4 or M33 whose firmware
 # traps other accesses; it stands in build/arm-aligned. That for a Cortex-M0, which always traps them, is so in any case.
+# BOARD=armv8m with make arm, arm-run, arm-bench and native: the library for that board, for a Cortex-M33, in build/armv8m/arm and
+# build/armv8m/arm-aligned.
 # make native:    the same for the processor at hand, build/native/libulavrepit.a: where x86-64 is only emulated, that is what is
 # timed and compared at length (tests/lib.sh, use_native).
 # The LLVM module that the back end makes of the proved crates is compiled a second time, by the kit's own clang. docs/ARM.md
@@ -11,16 +13,21 @@
 .PHONY: arm arm-run arm-bench firmware native
 
 ARM_ACCESS ?= any
-arm_folder_any := build/arm
-arm_folder_aligned := build/arm-aligned
+arm_folder_any := $(lib_folder)/arm
+arm_folder_aligned := $(lib_folder)/arm-aligned
 arm_build := $(or $(arm_folder_$(ARM_ACCESS)),$(error ARM_ACCESS is '$(ARM_ACCESS)', and neither any nor aligned))
-arm_processors := $(if $(filter any,$(ARM_ACCESS)),cortex-m0) cortex-m3 cortex-m4 cortex-m33
+arm_processors_armv7m := $(if $(filter any,$(ARM_ACCESS)),cortex-m0) cortex-m3 cortex-m4 cortex-m33
+arm_processors_armv8m := cortex-m33
+arm_processors := $(arm_processors_$(BOARD))
 arm_bin = $(shell bash -c '. tests/lib.sh && kit_bin')
 
-arm: $(arm_processors:%=$(arm_build)/%/libulavrepit.a) $(arm_build)/ulavrepit.h
+arm_library_headers := $(lib_headers_$(BOARD):%=$(arm_build)/%)
+arm: $(arm_processors:%=$(arm_build)/%/libulavrepit.a) $(arm_library_headers)
 
-arm-run: $(arm_build)/cortex-m3/handset.elf
-	@arm/emulate cortex-m3 $<
+arm_run_armv7m := cortex-m3
+arm_run_armv8m := cortex-m33
+arm-run: $(arm_build)/$(arm_run_$(BOARD))/handset.elf
+	@arm/emulate $(arm_run_$(BOARD)) $<
 
 arm-bench: $(arm_processors:%=$(arm_build)/%/rows.elf)
 	@arm/bench $(arm_build) $(arm_processors)
@@ -43,11 +50,11 @@ arm_library_access = $(arm_access)
 arm_library_flags := -O3 -ffunction-sections -fdata-sections -mllvm -trap-unreachable -mllvm -no-trap-after-noreturn \
     -Werror -Wno-override-module -fstack-usage
 
-# build/board.bc is made with the archive.
-arm_module := build/arm/board.ll
-$(arm_module): build/libulavrepit.a arm/as_text arm/gives_archive arm/known.awk
+# board.bc is made with the archive.
+arm_module := $(lib_folder)/arm/board.ll
+$(arm_module): $(lib_folder)/libulavrepit.a arm/as_text arm/gives_archive arm/known.awk
 	@mkdir -p $(@D)
-	@arm/as_text build/board.bc $< $@
+	@arm/as_text $(<D)/board.bc $< $@
 
 # Functions that are not inlined. The marks of runs lie in an array of leave_marks: in the frame of its caller they would lie beside
 # all that decides the table, which has ended when they are made. The others are for text: without them it is 1,000 bytes more on a
@@ -69,16 +76,16 @@ $(arm_build)/%/libulavrepit.a: $(arm_module) arm/arm.mk arm/stack.awk arm/recurs
 	@rm -f $@
 	@$(arm_bin)/llvm-ar rcs $@ $(@D)/board.o
 
-$(arm_build)/ulavrepit.h: include/ulavrepit.h
+$(arm_library_headers): $(arm_build)/%: include/%
 	@mkdir -p $(@D)
 	@cp $< $@
 
-native: build/native/libulavrepit.a build/ulavrepit.h
+native: $(lib_folder)/native/libulavrepit.a $(lib_headers)
 
 # build/aarch64: for that processor, whatever the one at hand; make bench-aarch64 counts its instructions.
 native_processor_native = $$(uname -m)
 native_processor_aarch64 := aarch64
-build/native/libulavrepit.a build/aarch64/libulavrepit.a: $(arm_module) arm/arm.mk
+$(lib_folder)/native/libulavrepit.a $(lib_folder)/aarch64/libulavrepit.a: $(arm_module) arm/arm.mk
 	@mkdir -p $(@D)
 	@$(arm_bin)/clang --target=$(native_processor_$(notdir $(@D)))-unknown-linux-gnu --no-default-config $(arm_library_flags) -fPIC -c -x ir $< -o $(@D)/board.o
 	@rm -f $@
@@ -90,6 +97,7 @@ arm_sources_handset := examples/handset.c
 arm_sources_replay := arm/replay.c
 arm_sources_rows := arm/rows.c tests/c/tables.c
 arm_sources_stack := tests/c/stack.c arm/board/paint.c tests/c/tables.c tests/c/damage.c tests/c/most_runs.c tests/c/steer.c second/kernel.c
+arm_sources_mpu := arm/mpu.c
 arm_sources_compare := tests/c/compare.c tests/c/damage.c tests/c/most_runs.c tests/c/steer.c second/kernel.c
 
 # The emulated board with a Cortex-M0 has too little memory for most: that library runs on the one with a Cortex-M3, which has
@@ -97,7 +105,7 @@ arm_sources_compare := tests/c/compare.c tests/c/damage.c tests/c/most_runs.c te
 arm_c_target = $(arm_target_$(patsubst cortex-m0,cortex-m3,$(*D)))
 arm_memory = $(if $(filter cortex-m33,$(*D)),mps2-an505,mps2-an385)
 arm_c_flags := -std=c99 -O2 -ffunction-sections -Wall -Wextra -Werror -ffreestanding -fno-builtin \
-    -I$(arm_build)/include -I$(arm_build) -Iarm/board -Isecond -Itests/c
+    -I$(arm_build)/include -I$(arm_build) -Iarm/board -Isecond -Itests/c $(if $(filter armv8m,$(BOARD)),-DBOARD=SECOND_V8)
 
 arm_headers := $(patsubst %,$(arm_build)/include/%.h,inttypes stdbool stddef stdint stdio stdlib string)
 $(arm_headers): $(arm_build)/include/%.h: arm/board/libc.h
@@ -108,7 +116,7 @@ $(arm_headers): $(arm_build)/include/%.h: arm/board/libc.h
 arm_compile = $(arm_bin)/clang $(arm_flags) $(arm_access) $(arm_c_flags) -nostdlib --ld-path=$(arm_bin)/ld.lld -Larm/board \
     -Wl,-e,reset,--gc-sections arm/board/libc.c
 arm_link = $(arm_compile) arm/board/start.c
-arm_needs := $(arm_build)/ulavrepit.h $(arm_headers) arm/arm.mk $(wildcard arm/board/*)
+arm_needs := $(arm_library_headers) $(arm_headers) arm/arm.mk $(wildcard arm/board/*)
 
 .SECONDEXPANSION:
 $(arm_build)/%.elf: $(arm_build)/$$(*D)/libulavrepit.a $(arm_needs) $$(arm_sources_$$(*F))

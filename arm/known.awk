@@ -74,10 +74,11 @@ FNR == 1 {
     read_call()
     f = name
     if ($2 == "internal" && !/ ptr @/) next
-    # C finds its arguments and its answer in the same registers only for these types.
+    # C finds its arguments and its answer in the same registers only for these types: numbers of 64 bits, pointers, and in the one function
+    # that takes two registers of the board, numbers of 32.
     text = $0
     gsub(/ noundef| %a[0-9]+/, "", text)
-    if (text !~ /^define i64 @ulavrepit_[a-z_]+\(((ptr|i64)(, )?)*\) #[0-9]+ \{$/) refuse("another type than i64 and pointers in a function for C")
+    if (text !~ /^define i64 @ulavrepit_([a-z_]+\(((ptr|i64)(, )?)*|region_read\(i32, i32, ptr)\) #[0-9]+ \{$/) refuse("another type than i64 and pointers in a function for C")
     for (i = 1; i <= count; i++) if (kind_taken(f, i) != "plain") refuse("a pointer in memory of C")
     next
 }

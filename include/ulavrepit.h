@@ -3,7 +3,8 @@
  *
  * Memory is counted in lines of 32 bytes. A block is start to end, end excluded. There are 16 partitions in a
  * tree; 0 is the root. Each has 4 structures of 8 slots (slots 0 to 31) and 8 regions. The board is an ARMv7-M: a
- * region of its MPU has a power of two of bytes, 32 or more, and lies at a multiple of them.
+ * region of its MPU has a power of two of bytes, 32 or more, and lies at a multiple of them. For an ARMv8-M there is a
+ * library with the same functions and two more: its header is ulavrepit8.h.
  *
  * The table is 5,128 bytes of your memory; the library keeps nothing of its own and may be called from any
  * context, but only once at a time for one table. Every call reads the whole table and refuses (1) one that is

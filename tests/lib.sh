@@ -13,7 +13,7 @@
 #   is_emulated             whether such programs only run in an emulator here
 #   $compiler, $library, $runner  the C compiler, the library and the runner of what follows: target_cc, the archive
 #                           and run_x86, until use_native
-#   use_native              from there on: cc, the archive's module compiled for this processor, and no emulator
+#   use_native WORDS..      from there on: cc, the archive's module compiled for this processor, and no emulator
 #   run_checks COUNT PROGRAM WORDS..  runs one that prints a line 'ok NAME' or 'not ok NAME' a check, COUNT of
 #                           them; lines that begin with # are for the reader
 #   planted FUNCTION OLD NEW  prints the second program with a bug in it
@@ -109,9 +109,9 @@ is_emulated() { [ "$(uname -m)" != x86_64 ] || [ -n "${AS_IF_EMULATED:-}" ]; }
 
 compiler=target_cc library=build/libulavrepit.a runner=run_x86
 run_native() { "$@"; }
-use_native() {
-    compiler=cc library=build/native/libulavrepit.a runner=run_native
-    make_alone native
+use_native() { # WORDS OF make..
+    compiler=cc library=${library%/*}/native/libulavrepit.a runner=run_native
+    make_alone native "$@"
 }
 
 # Runs a program that rt linked: it loads a C library, on Arm the kit's, as rt itself has it do.
@@ -194,7 +194,7 @@ prove_first() { # CRATE COMMAND..
     while :; do
         if IFS= read -r -t "${PATIENCE:-3}" line; then
             printf '%s\n' "$line" >>"$room/said"
-            [[ $line =~ ^rt:\ [a-z_]+\ proved\ \([0-9] ]] || continue
+            [[ $line =~ ^rt:\ [a-z_0-9]+\ proved\ \([0-9] ]] || continue
         elif [ $? -le 128 ]; then
             break
         fi

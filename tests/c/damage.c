@@ -828,6 +828,11 @@ unsigned damage_ways(void)
     return sizeof ways / sizeof *ways;
 }
 
+bool damages_on_board(unsigned which)
+{
+    return BOARD == SECOND_V7 || ways[which].in_table != too_many_pieces;
+}
+
 uint8_t damage_in(unsigned which, const second_table *sound, uint8_t *table, dice *d)
 {
     return damage_by(&ways[which], sound, table, d);

@@ -16,8 +16,9 @@ enum { CLAUSES = 11 };
  */
 uint8_t damage(const second_table *sound, uint8_t *table, dice *d);
 
-/* There are so many ways; and one of them, by its number from 0 on, likewise. */
+/* There are so many ways; and one of them, by its number from 0 on, likewise. Too many pieces there can't be where an entry is one. */
 unsigned damage_ways(void);
+bool damages_on_board(unsigned which);
 uint8_t damage_in(unsigned which, const second_table *sound, uint8_t *table, dice *d);
 
 /*

@@ -150,7 +150,9 @@ static bool write_images(const char *folder)
 {
     static uint8_t table[SECOND_BYTES];
     bool written[MANY_WAYS] = {false}, good = true;
-    unsigned left = damage_ways();
+    unsigned left = 0;
+    for (unsigned which = 0; which < damage_ways(); which++)
+        left += damages_on_board(which);
     for (unsigned turn = 0; left > 0 && turn < 100000; turn++) {
         if (turn % 300 == 0)
             second_boot(table, SECOND_BYTES, 256, 65536);
@@ -201,8 +203,8 @@ static bool every_way_met(void)
 {
     bool good = damage_ways() <= MANY_WAYS;
     for (unsigned which = 0; good && which < damage_ways(); which++)
-        if (met[which] == 0) {
-            printf("# way %u was not met\n", which);
+        if ((met[which] != 0) != damages_on_board(which)) {
+            printf("# way %u was met %lu times\n", which, met[which]);
             good = false;
         }
     return good;

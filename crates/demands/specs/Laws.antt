@@ -7,3 +7,4 @@ pub mod Written
 pub mod BranchProof
 pub mod ChecksProof
 pub mod SheetProof
+pub mod PlainProof

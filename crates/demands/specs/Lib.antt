@@ -3,4 +3,5 @@ pub mod Theorem
 pub mod Branch
 pub mod Checks
 pub mod Sheet
+pub mod Plain
 pub mod Laws

@@ -1,0 +1,20 @@
+use mathlib.Core.Path.{_∙_}
+use native.Mathlib.Omega.{arith}
+use Rattle.board8.specs.Laws.Regions.{no-slot, no-entry, is-entry}
+use borrow.Author.Needs.{needs}
+use borrow.Author.Tests.{not-true, not-false}
+use Rattle.board8.proofs.regions.pair_in.Statement.{statement}
+use Rattle.board8.proofs.regions.pair_in.Tie as tie
+
+pub pair-in-spec : {M : Type 1} → statement M
+pair-in-spec =
+    tie.close
+    (tie.spec
+    (λ c. no-slot _ _ _ (λ a b. omega arith))
+    (λ c. no-slot _ _ _ (λ a b. omega arith))
+    (λ c. search needs)
+    (λ c. search needs)
+    (λ c κs. search needs)
+    (λ c. no-entry (c .before .before .entry .ensures) (not-true _ (c .if3 .taken)))
+    (λ c κs. search needs)
+    (λ c. let b = c .before .before .before .before in c .write-pair .ensures ∙ is-entry (b .before .before .entry .ensures) (not-false _ (b .if3 .left))))

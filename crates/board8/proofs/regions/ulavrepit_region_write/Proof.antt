@@ -1,0 +1,14 @@
+use Rattle.board8.specs.Laws.Regions.{wrote, wrote-not}
+use borrow.Author.Needs.{needs}
+use Rattle.board8.proofs.regions.ulavrepit_region_write.Statement.{statement}
+use Rattle.board8.proofs.regions.ulavrepit_region_write.Tie as tie
+
+pub ulavrepit-region-write-spec : {M : Type 1} → statement M
+ulavrepit-region-write-spec =
+    tie.close
+    (tie.spec
+    (λ c κs. search needs)
+    (λ c. search needs)
+    (λ c. search needs)
+    (λ c. wrote _ _ _ _ _ (c .before .before .before .pair-bytes .ensures) _ (c .before .both .given .1))
+    (λ c. wrote-not _ _ _ _ _ (c .before .before .before .pair-bytes .ensures) _ (c .before .n .given .1)))

@@ -1,0 +1,3 @@
+pub mod Regions
+pub mod Exactly
+pub mod Laws

@@ -1,0 +1,4 @@
+pub mod Word
+pub mod Pair
+pub mod Answers
+pub mod Exactly

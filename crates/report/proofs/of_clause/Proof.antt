@@ -1,0 +1,22 @@
+use native.Mathlib.Omega.{arith}
+use Rattle.report.specs.Laws.Report.{one-one, one-two, two-one, two-two}
+use borrow.Author.Needs.{needs}
+use Rattle.report.proofs.of_clause.Statement.{statement}
+use Rattle.report.proofs.of_clause.Tie as tie
+
+pub of-clause-spec : {M : Type 1} → statement M
+of-clause-spec =
+    tie.close
+    (tie.spec
+    (λ c κs. search needs)
+    (λ c κs. search needs)
+    (λ c. one-one _ _ (c .before .before .before .before .if1 .taken) (c .before .before .if2 .taken) (c .before .digit .ensures) (c .digit2 .ensures))
+    (λ c κs. search needs)
+    (λ c κs. omega (arith, c .before .before .before .before .before .pre .1))
+    (λ c. one-two _ _ (c .before .before .before .before .before .if1 .taken) (c .before .before .before .if2 .left) (c .before .before .before .before .before .before .pre .1) (c .before .before .digit3 .ensures) (c .digit4 .ensures))
+    (λ c κs. omega (arith, c .before .before .before .pre .0))
+    (λ c κs. search needs)
+    (λ c. two-one _ _ (c .before .before .before .before .if1 .left) (c .before .before .before .before .before .pre .0) (c .before .before .if3 .taken) (c .before .digit5 .ensures) (c .digit6 .ensures))
+    (λ c κs. omega (arith, c .before .before .before .pre .0))
+    (λ c κs. omega (arith, c .before .before .before .before .before .pre .1))
+    (λ c. let s = c .before .before .before .before .before .before in two-two _ _ (c .before .before .before .before .before .if1 .left) (s .pre .0) (c .before .before .before .if3 .left) (s .pre .1) (c .before .before .digit7 .ensures) (c .digit8 .ensures)))

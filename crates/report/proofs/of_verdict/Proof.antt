@@ -1,0 +1,18 @@
+use mathlib.Core.Path.{refl, sym, ap, _∙_}
+use Rattle.report.specs.Report.{printed}
+use borrow.Author.Needs.{needs}
+use Rattle.report.proofs.of_verdict.Statement.{statement}
+use Rattle.report.proofs.of_verdict.Tie as tie
+
+pub of-verdict-spec : {M : Type 1} → statement M
+unfolding printed
+of-verdict-spec =
+    tie.close
+    (tie.spec
+    (λ c. search needs)
+    (λ c. search needs)
+    (λ c κs. c .before .before .before .pre .fails _ _ (c .before .v .given .1))
+    (λ c. search needs)
+    (λ c. ap printed (sym (c .enum-told .given .1)))
+    (λ c. c .of-clause .ensures ∙ ap printed (sym (c .before .before .v .given .1)))
+    (λ c. ap printed (sym (c .enum-told2 .given .1))))
