@@ -3,7 +3,8 @@
 # make check:   why an image, a table that was not made by boot and calls, is not sound: make check IMAGE=file; BOARD=armv8m: on that board.
 # make lib:     proves the library and puts it, with its header, into build/; BOARD=armv8m: the one for that board, into build/armv8m/.
 # make example: builds and runs examples/handset.c with it; make lines: examples/lines.c; make sheet: examples/sheet.c.
-# make bench:   the library against the second program, as quotients of their times, where x86-64 is only emulated also of their instructions.
+# make bench:   the library against the second program and against a quick kernel in plain C, as quotients of their times, where
+#               x86-64 is only emulated also of their instructions; make bench-quick: against the quick kernel alone, also on a Cortex-M3.
 # make bench-aarch64: the instructions of the library's module, compiled for aarch64, against the second program's, in an emulator.
 # make arm, arm-run, arm-bench: the library for Cortex-M, the example on an emulated board, instructions counted there (arm/arm.mk).
 # make soak:    compares the library with the second program for MINUTES=10 from SEED=1 on, memory checked.

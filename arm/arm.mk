@@ -1,6 +1,8 @@
 # make arm:       the library for Cortex-M, build/arm/PROCESSOR/libulavrepit.a, and its header build/arm/ulavrepit.h.
 # make arm-run:   examples/handset.c on an emulated board with a Cortex-M3.
-# make arm-bench: the instructions that each function takes on each processor, counted in the emulator.
+# make arm-bench: the instructions that each function takes on each processor, counted in the emulator; those of the quick kernel
+# (bench/quick.c) beside them, and those of chains of partitions.
+# make arm-where: where the instructions of a find go, by function, on a Cortex-M3, of the library and of the quick kernel.
 # make firmware:  examples/firmware on that board: a kernel, two tasks, and a fault of the MPU.
 # ARM_ACCESS=aligned with each of them: a library that accesses aligned addresses alone, for a Cortex-M3, M4 or M33 whose firmware
 # traps other accesses; it stands in build/arm-aligned. That for a Cortex-M0, which always traps them, is so in any case.
@@ -10,7 +12,7 @@
 # timed and compared at length (tests/lib.sh, use_native).
 # The LLVM module that the back end makes of the proved crates is compiled a second time, by the kit's own clang. docs/ARM.md
 # says what of that is proved, what is tested and what is believed.
-.PHONY: arm arm-run arm-bench firmware native
+.PHONY: arm arm-run arm-bench arm-where bench-quick firmware native
 
 ARM_ACCESS ?= any
 arm_folder_any := $(lib_folder)/arm
@@ -31,6 +33,14 @@ arm-run: $(arm_build)/$(arm_run_$(BOARD))/handset.elf
 
 arm-bench: $(arm_processors:%=$(arm_build)/%/rows.elf)
 	@arm/bench $(arm_build) $(arm_processors)
+
+arm-where: lib $(arm_build)/cortex-m3/where.elf
+	@arm/where $(arm_build)/cortex-m3/where.elf
+
+# What docs/PERFORMANCE.md has under "Against a quick kernel".
+bench-quick: lib $(arm_build)/cortex-m3/rows.elf
+	@bench/run quick
+	@arm/bench $(arm_build) cortex-m3
 
 # ---- the library
 
@@ -95,7 +105,8 @@ $(lib_folder)/native/libulavrepit.a $(lib_folder)/aarch64/libulavrepit.a: $(arm_
 
 arm_sources_handset := examples/handset.c
 arm_sources_replay := arm/replay.c
-arm_sources_rows := arm/rows.c tests/c/tables.c
+arm_sources_rows = arm/rows.c tests/c/tables.c $(arm_build)/$(*D)/quick.o
+arm_sources_where = arm/where.c $(arm_build)/$(*D)/quick.o
 arm_sources_stack := tests/c/stack.c arm/board/paint.c tests/c/tables.c tests/c/damage.c tests/c/most_runs.c tests/c/steer.c second/kernel.c
 arm_sources_mpu := arm/mpu.c
 arm_sources_compare := tests/c/compare.c tests/c/damage.c tests/c/most_runs.c tests/c/steer.c second/kernel.c
@@ -105,12 +116,18 @@ arm_sources_compare := tests/c/compare.c tests/c/damage.c tests/c/most_runs.c te
 arm_c_target = $(arm_target_$(patsubst cortex-m0,cortex-m3,$(*D)))
 arm_memory = $(if $(filter cortex-m33,$(*D)),mps2-an505,mps2-an385)
 arm_c_flags := -std=c99 -O2 -ffunction-sections -Wall -Wextra -Werror -ffreestanding -fno-builtin \
-    -I$(arm_build)/include -I$(arm_build) -Iarm/board -Isecond -Itests/c $(if $(filter armv8m,$(BOARD)),-DBOARD=SECOND_V8)
+    -I$(arm_build)/include -I$(arm_build) -Iarm/board -Isecond -Itests/c -Ibench $(if $(filter armv8m,$(BOARD)),-DBOARD=SECOND_V8)
 
 arm_headers := $(patsubst %,$(arm_build)/include/%.h,inttypes stdbool stddef stdint stdio stdlib string)
 $(arm_headers): $(arm_build)/include/%.h: arm/board/libc.h
 	@mkdir -p $(@D)
 	@cp $< $@
+
+# By the same compiler at the same level as the library, for the same processor.
+.SECONDARY: $(arm_processors:%=$(arm_build)/%/quick.o)
+$(arm_build)/%/quick.o: bench/quick.c bench/quick.h $(arm_build)/ulavrepit.h $(arm_headers) arm/arm.mk
+	@mkdir -p $(@D)
+	@$(arm_bin)/clang $(arm_target_$*) $(arm_flags) $(arm_library_access) $(arm_c_flags) -O3 -c $< -o $@
 
 # ARM_STACK=bytes: with a stack of another size.
 arm_compile = $(arm_bin)/clang $(arm_flags) $(arm_access) $(arm_c_flags) -nostdlib --ld-path=$(arm_bin)/ld.lld -Larm/board \

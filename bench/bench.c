@@ -1,5 +1,6 @@
 /*
- * The library against the second program: the same work on the same tables, in one process, turn by turn.
+ * The library against the second program, or with the word quick in front against the quick kernel: the same work on the same tables,
+ * in one process, turn by turn.
  *
  * bench             times them: each round the one and then the other (every second round the other way round), and
  *                   keeps the quotient; what counts is the median quotient of many rounds. Times are of the processor
@@ -12,6 +13,7 @@
 #define _POSIX_C_SOURCE 200809L
 #include "kernel.h"
 #include "most_runs.h"
+#include "quick.h"
 #include "tables.h"
 #include "ulavrepit.h"
 
@@ -45,6 +47,7 @@ static uint64_t pieces_v7(const uint8_t *t, uint64_t len, uint64_t partition, ui
 
 static const kernel library = {ulavrepit_boot, ulavrepit_call, ulavrepit_holders, ulavrepit_runs, ulavrepit_pieces};
 static const kernel second = {second_boot, call_v7, holders_v7, runs_v7, pieces_v7};
+static const kernel quick = {quick_boot, quick_call, quick_holders, quick_runs, NULL}; /* it lists no pieces */
 
 /* The library with a sheet beside the table. */
 static uint8_t sheet[ULAVREPIT_SHEET_BYTES];
@@ -245,7 +248,8 @@ static void table_rows(const char *const names[5], uint64_t line)
     job listing_pieces = {names[4], {current, slot}, 0, ULAVREPIT_DONE};
     report(do_calls, &loading, WORDS);
     report(do_runs, &running, 1);
-    report(do_pieces, &listing_pieces, 1);
+    if (other->pieces)
+        report(do_pieces, &listing_pieces, 1);
 }
 
 /* A call and the one that undoes it, on the table as it is. */
@@ -279,6 +283,7 @@ static void rows(void)
     table_rows(typical, 8000);
     undone_row("cut and merge, typical", ulavrepit_cut(10, 8000), ulavrepit_merge(10, 11));
     undone_row("give and take, typical", ulavrepit_give(1, 10, ULAVREPIT_READ), ulavrepit_take(10));
+    undone_row("create and delete, typical", ulavrepit_create(10), ulavrepit_delete(6));
     table[LAST_ZERO_BYTE] ^= 1;
     report(do_calls, &refused_table, WORDS);
 
@@ -314,14 +319,24 @@ static void sheet_rows(void)
     report(do_calls, &deep, WORDS);
 }
 
+static void print_head(void)
+{
+    const char *name = other == &quick ? "Quick kernel" : "Second program", *brief = other == &quick ? "quick" : "second";
+    printf("| What | Library, ns | %s, ns | Library / %s, median | 5 %% to 95 %% of rounds |\n|---|---|---|---|---|\n", name, brief);
+}
+
 int main(int argc, char **argv)
 {
     if (argc == 2 && strcmp(argv[1], "sheet") == 0) {
         sheet_rows();
         return 0;
     }
+    if (argc > 1 && strcmp(argv[1], "quick") == 0) {
+        other = &quick;
+        argc--, argv++;
+    }
     if (argc == 1)
-        puts("| What | Library, ns | Second program, ns | Library / second, median | 5 % to 95 % of rounds |\n|---|---|---|---|---|");
+        print_head();
     else {
         must(argc == 3 && (strcmp(argv[1], "save") == 0 || strcmp(argv[1], "count") == 0), "the command line");
         saving = strcmp(argv[1], "save") == 0;

@@ -1,10 +1,12 @@
 /*
  * The second program under the library's names. Where no memory checker runs programs for x86-64, the comparison's
  * own code and the second program are checked as programs of the processor at hand, with this in the library's place.
+ * With QUICK it leaves out what the quick kernel has (bench/quick.h), which then stands there itself.
  */
 #include "steer.h"
 #include "ulavrepit.h"
 
+#ifndef QUICK
 uint64_t ulavrepit_boot(uint8_t *table, uint64_t table_len, uint64_t base, uint64_t end)
 {
     return second_boot(table, table_len, base, end);
@@ -25,6 +27,7 @@ uint64_t ulavrepit_runs(const uint8_t *table, uint64_t table_len, ulavrepit_run 
 {
     return second_runs(BOARD, table, table_len, (second_run *)list, list_len);
 }
+#endif
 
 uint64_t ulavrepit_pieces(const uint8_t *table, uint64_t table_len, uint64_t partition, uint64_t slot, uint64_t *list,
                           uint64_t list_len)

@@ -1,3 +1,4 @@
+#include "farthest.h"
 #include "tables.h"
 
 /* The table being made, and whether every call so far was accepted. */
@@ -160,4 +161,24 @@ bool make_densest(const kernel *k, uint8_t *table)
     for (uint32_t depth = 0; depth < LEVELS - 1; depth++)
         deepen(&m, &own, depth, areas);
     return m.good;
+}
+
+/* ---- a chain ---- */
+
+bool climb_chain(const kernel *k, uint8_t *table, uint32_t partitions)
+{
+    making m = {k, table, true};
+    for (uint32_t p = partitions - 1; p > 0; p--)
+        must(&m, ulavrepit_switch(p - 1));
+    return m.good;
+}
+
+bool make_chain(const kernel *k, uint8_t *table, uint32_t partitions, uint32_t entries)
+{
+    static uint64_t words[FARTHEST_CALLS];
+    unsigned calls = chain_session(words, partitions, entries);
+    making m = boot(k, table, 0, FARTHEST_END);
+    for (unsigned i = 0; i < calls; i++)
+        must(&m, words[i]);
+    return climb_chain(k, table, partitions) && m.good;
 }

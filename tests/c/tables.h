@@ -1,5 +1,5 @@
 /*
- * Three tables to measure on, made by accepted calls of the kernel that is handed in. Each answers false if a
+ * Tables to measure on, made by accepted calls of the kernel that is handed in. Each answers false if a
  * call was refused.
  */
 #ifndef TABLES_H
@@ -32,5 +32,11 @@ bool make_typical(const kernel *k, uint8_t *table);
  * them given to its child, with mixed rights.
  */
 bool make_densest(const kernel *k, uint8_t *table);
+
+/* The chain of farthest.h; the root is current. */
+bool make_chain(const kernel *k, uint8_t *table, uint32_t partitions, uint32_t entries);
+
+/* From the last partition of a chain to the root. */
+bool climb_chain(const kernel *k, uint8_t *table, uint32_t partitions);
 
 #endif
