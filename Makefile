@@ -1,6 +1,8 @@
 # make test:    the one test command. It proves every crate and runs the host tests; its last line is 'N passed, M failed'.
 # make run:     runs the program tally on the session that document 01 prints; SESSION=file on another.
 # make check:   why an image, a table that was not made by boot and calls, is not sound: make check IMAGE=file; BOARD=armv8m: on that board.
+# make who:     who could have written there: make who IMAGE=dump LINE=line or 0xaddress; without LINE the whole map. NAMES=file has the names.
+# make map:     .. and a picture of it: build/map.svg; make picture-test: what a browser makes of two of them.
 # make lib:     proves the library and puts it, with its header, into build/; BOARD=armv8m: the one for that board, into build/armv8m/.
 # make example: builds and runs examples/handset.c with it; make lines: examples/lines.c; make sheet: examples/sheet.c.
 # make bench:   the library against the second program and against a quick kernel in plain C, as quotients of their times, where
@@ -8,7 +10,7 @@
 # make bench-aarch64: the instructions of the library's module, compiled for aarch64, against the second program's, in an emulator.
 # make arm, arm-run, arm-bench: the library for Cortex-M, the example on an emulated board, instructions counted there (arm/arm.mk).
 # make soak:    compares the library with the second program for MINUTES=10 from SEED=1 on, memory checked.
-.PHONY: test run check lib example lines sheet bench bench-aarch64 soak
+.PHONY: test run check who map picture-test lib example lines sheet bench bench-aarch64 soak
 
 test:
 	@tests/gate
@@ -20,6 +22,21 @@ check_armv7m := image
 check_armv8m := image8
 check:
 	@examples/check_image $(check_$(BOARD)) '$(or $(IMAGE),crates/$(check_$(BOARD))/stdin)'
+
+# the dump that docs/WHO.md is about, unless another is named
+who_words = $(if $(IMAGE),$(if $(NAMES),--names '$(NAMES)') '$(IMAGE)',--names examples/handset.names examples/handset.dump)
+
+who:
+	@tools/who $(who_words) $(LINE)
+
+map:
+	@mkdir -p build
+	@tools/map $(who_words) >build/map.svg.new
+	@mv build/map.svg.new build/map.svg
+	@echo build/map.svg
+
+picture-test:
+	@tests/picture
 
 # BOARD=armv8m: the library for that board, which stands in a folder of its own.
 BOARD ?= armv7m

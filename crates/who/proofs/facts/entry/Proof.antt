@@ -1,0 +1,16 @@
+use Rattle.who.specs.Laws.Who.{entry-numbers}
+use borrow.Author.Needs.{needs}
+use Rattle.who.proofs.facts.entry.Statement.{statement}
+use Rattle.who.proofs.facts.entry.Tie as tie
+
+pub entry-spec : {M : Type 1} → statement M
+entry-spec =
+    tie.close
+    (tie.spec
+    (λ c κs. search needs)
+    (λ c κs. search needs)
+    (λ c κs. search needs)
+    (λ c κs. search needs)
+    (λ c κs. search needs)
+    (λ c κs. search needs)
+    (λ c. entry-numbers _ _ _ _ _ (c .before .before .before .before .bit .ensures) (c .before .before .before .bit2 .ensures) (c .before .before .bit3 .ensures) (c .before .bit4 .ensures) (c .bit5 .ensures) (c .before .before .before .before .before .piece-count .ensures .0)))

@@ -1,0 +1,14 @@
+use borrow.Author.Tests.{not-true, not-false}
+use Rattle.who.specs.Laws.Who.{names-none, names-some}
+use borrow.Author.Needs.{needs}
+use Rattle.who.proofs.facts.names.Statement.{statement}
+use Rattle.who.proofs.facts.names.Tie as tie
+
+pub names-spec : {M : Type 1} → statement M
+names-spec =
+    tie.close
+    (tie.spec
+    (λ c κs. search needs)
+    (λ c κs. search needs)
+    (λ c. names-none _ (c .before .before .before .regions .ensures) _ (c .before .before .before .before .pre .1) (c .before .before .nth .ensures) (not-true _ (c .if1 .taken)))
+    (λ c. names-some _ (c .before .before .before .before .before .before .regions .ensures) _ (c .before .before .before .before .before .before .before .pre .1) (c .before .before .before .before .before .nth .ensures) (not-false _ (c .before .before .before .if1 .left))))

@@ -1,0 +1,3 @@
+pub mod Who
+pub mod Theorem
+pub mod Laws
