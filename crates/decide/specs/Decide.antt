@@ -6,19 +6,18 @@ use Prim.Native.Nat.{ℕ}
 use Rattle.loops.specs.Every.{all}
 use Rattle.shapes.specs.declared.Board.{Board}
 use Rattle.tables.specs.View.{view}
-use Rattle.settling.specs.Areas.{AreasOf, Parted}
 use Rattle.sound.specs.Clauses.{s6, sound}
 use Rattle.shape.specs.AtOnce.{Shaped}
 use Rattle.decide.specs.Order.{Orders}
+use Rattle.decide.specs.Marking.{MarkedTo}
 
 -- ── the parts of the decision, in the order of the code ──
 -- what is known before the partitions are looked at one by one
-pub record CanDecide (l o c : List ℕ) (n : ℕ) (s e : List ℕ) : Type 0 where
+pub record CanDecide (l o c m : List ℕ) : Type 0 where
   pub shaped : Shaped l
-  pub areas : AreasOf (view l .k) n s e
-  pub parted : Parted n s e
   pub s6 : all 16 (s6 (view l .k)) ≡ true
   pub orders : Orders (view l .k) o c
+  pub marked : MarkedTo (view l .k) 80 m
 
 -- what it says, and how it leaves the entries
 pub record Decided (b : Board) (l : List ℕ) (r : Bool) (o c : List ℕ) : Type 0 where

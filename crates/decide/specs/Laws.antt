@@ -1,10 +1,14 @@
 pub mod Order
 pub mod Used
 pub mod Limit
-pub mod Opening
 pub mod Regions
 pub mod Backing
 pub mod Entries
 pub mod Decide
+pub mod Marking
+pub mod Local
+pub mod Granted
+pub mod Decided
 pub mod Arrange
 pub mod Tiles
+pub mod Lines

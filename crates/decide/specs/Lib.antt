@@ -4,6 +4,8 @@ pub mod Limit
 pub mod Opening
 pub mod Backing
 pub mod Entries
+pub mod Marking
+pub mod Local
 pub mod Decide
 pub mod Arrange
 pub mod Tiles

@@ -1,44 +1,15 @@
--- S9 and S10, a slot and a region at a time: what the exits of the code give.
-use mathlib.Core.Path.{_≡_}
-use mathlib.Core.Bool.{Bool, true, cond, not, _&&_, _||_}
-use mathlib.Core.List.{List}
-use Prim.Native.Nat.{ℕ, _/_, _%_, _^_, _≤_, _<_}
-use lib.ListN.{length, getD}
-use lib.Dec.{leb, ltb, eqb}
+-- S10, a region at a time: what the exits of the code give.
+use mathlib.Core.Bool.{Bool, cond, not, _&&_, _||_}
+use Prim.Native.Nat.{ℕ, _/_, _%_, _^_}
+use lib.Dec.{eqb}
 use lib.Bits.{bitOr}
 use Rattle.words.specs.declared.regions_word.Region.{Region}
 use Rattle.words.specs.declared.regions_word.RegionsFields.{RegionsFields}
 use Rattle.shapes.specs.declared.Board.{Board}
 use Rattle.tables.specs.State.{Table}
-use Rattle.tables.specs.View.{view}
 use Rattle.tables.specs.Search.{isSome}
-use Rattle.settling.specs.Areas.{AreasOf, Parted}
 use Rattle.sound.specs.Limit.{entryPieces}
-use Rattle.decide.specs.Order.{Rows}
-use Rattle.shape.specs.AtOnce.{Shaped}
 
--- ── S9 ──
--- those before r end by the line, and r does not
-pub record Skipped (n : ℕ) (e : List ℕ) (a line r : ℕ) : Type 0 where
-  pub from : a ≤ r
-  pub within : r ≤ n
-  pub by : (b : ℕ) → a ≤ b → b < r → getD e b 0 ≤ line
-  pub after : r < n → line < getD e r 0
-
--- no area from number a on, of n, starts before the line
-unfoldable pub noneBefore : ℕ → List ℕ → ℕ → ℕ → Bool
-noneBefore n s a line = cond (ltb a n) (leb line (getD s a 0)) true
-
--- the entries of p and the areas stand in order
-pub record CanOpen (l : List ℕ) (p : ℕ) (o : List ℕ) (c n : ℕ) (s e : List ℕ) : Type 0 where
-  pub inP : p < 16
-  pub size-o : length o ≡ 512
-  pub rows : Rows (view l .k) p c o
-  pub areas : AreasOf (view l .k) n s e
-  pub parted : Parted n s e
-  pub shaped : Shaped l
-
--- ── S10 ──
 -- slot i of p holds an entry that is open
 unfoldable pub isOpen : Table → ℕ → ℕ → Bool
 isOpen t p i = isSome (t .k .slot p i) && t .opened p i

@@ -2,6 +2,7 @@
 use mathlib.Core.Path.{_≡_}
 use mathlib.Core.Bool.{Bool, true, false, cond}
 use mathlib.Core.List.{List}
+use mathlib.Core.Logic.{_↔_}
 use Prim.Native.Nat.{ℕ, _≤_, _<_}
 use Rattle.words.specs.declared.Rights.{Rights}
 use Rattle.tables.specs.State.{Opt, none, some, Entry, entry, allRights}
@@ -44,6 +45,15 @@ pub data Tiled (E : ℕ → Entry) (n i lo hi : ℕ) (r : Rights) (x : ℕ) : Ty
   fitted : (at : ℕ) → x ≤ n → hi ≤ at → Tiling E i x lo hi at r → Tiled E n i lo hi r x
   stuck : (k at : ℕ) → n < 33 → x ≡ 33 → at < hi → Tiling E i k lo hi at r → (Fits E n i k hi at r → ⊥) → Tiled E n i lo hi r x
 
+-- the flags of places i to k - 1 are set
+abbrev pub AllSet : (ℕ → Bool) → ℕ → ℕ → Type 0
+AllSet O i k = (a : ℕ) → i ≤ a → a < k → O a ≡ true
+
+-- .. and the flag of the range, o, is set exactly if theirs are; where it is not so, 33 again
+pub data TiledAs (E : ℕ → Entry) (O : ℕ → Bool) (n i lo hi : ℕ) (r : Rights) (o : Bool) (x : ℕ) : Type 0 where
+  alike : Tiled E n i lo hi r x → (x ≤ n → (o ≡ true) ↔ AllSet O i x) → TiledAs E O n i lo hi r o x
+  unlike : (k at : ℕ) → n < 33 → x ≡ 33 → k ≤ n → hi ≤ at → Tiling E i k lo hi at r → ((o ≡ true) ↔ AllSet O i k → ⊥) → TiledAs E O n i lo hi r o x
+
 -- ── the entries of a partition by place ──
 unfoldable pub entryOr : Opt Entry → Entry
 entryOr none = entry 0 0 0 allRights false
@@ -51,6 +61,17 @@ entryOr (some e) = e
 
 abbrev pub rowOf : List ℕ → List ℕ → ℕ → ℕ → Entry
 rowOf l o p a = entryOr (view l .k .slot p (placed o p a))
+
+-- .. and their open bits
+abbrev pub bitOf : List ℕ → List ℕ → ℕ → ℕ → Bool
+bitOf l o p a = view l .opened p (placed o p a)
+
+-- an entry as if it had all rights and no mark; those of p by place
+abbrev pub unranked : Entry → Entry
+unranked e = entry (e .start) (e .stop) (e .given) allRights false
+
+abbrev pub plainRow : List ℕ → List ℕ → ℕ → ℕ → Entry
+plainRow l o p a = unranked (rowOf l o p a)
 
 -- the n entries of p, where each has a line, stand in o
 pub record InOrder (l o : List ℕ) (p n : ℕ) : Type 0 where

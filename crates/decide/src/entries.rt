@@ -1,11 +1,13 @@
 ghost use mathlib.Core.Path.{_≡_};
-ghost use mathlib.Core.Bool.{_&&_};
+ghost use mathlib.Core.Bool.{not, _||_};
 ghost use Prim.Native.Nat.{_<_};
+ghost use lib.ListN.{length};
 ghost use Rattle.loops.specs.Every.{all, any};
 ghost use Rattle.tables.specs.View.{entryOf, entryIn, view};
-ghost use Rattle.sound.specs.Clauses.{has, s7Given, lends, undivided, s7Whole};
+ghost use Rattle.sound.specs.Clauses.{has, lends, undivided};
 ghost use Rattle.shape.specs.AtOnce.{Shaped};
-ghost use Rattle.decide.specs.Entries.{givenSlot, fullSlot};
+ghost use Rattle.decide.specs.Entries.{fullSlot};
+ghost use Rattle.decide.specs.Local.{entryRight};
 use crate::used::used_slots;
 use tables::read;
 use words::Partition;
@@ -63,33 +65,48 @@ fn undivided(t: &[u64; 641], p: Partition, f: SlotFields) -> bool
     has_lent(t, h.parent, p, f)
 }
 
-// slot i of p is given to nobody or to a child of p; a whole one is undivided, and so given to nobody
-fn given_slot(t: &[u64; 641], p: Partition, i: Slot) -> bool
-    requires { ⌜ (p .0 < 16) × (i .0 < 32) × Shaped (now t) ⌝ }
-    ensures { λ r. ⌜ r ≡ givenSlot (view (now (t .entry))) (p .0) (i .0) ⌝ }
+// .. if it is whole
+pub fn whole_right(t: &[u64; 641], p: Partition, f: SlotFields) -> bool
+    requires { ⌜ (p .0 < 16) × Shaped (now t) ⌝ }
+    ensures { λ r. ⌜ r ≡ (not (f .whole) || undivided (view (now (t .entry)) .k) (p .0) (f .opened) (entryOf f)) ⌝ }
+{
+    if f.whole {
+        return undivided(t, p, f);
+    }
+    true
+}
+
+// slot i of p is given to a child of p; or to nobody, and then it is open exactly if no area marked it; a whole one is undivided
+fn entry_right(t: &[u64; 641], p: Partition, i: Slot, mark: &[u8; 512]) -> bool
+    requires { ⌜ (p .0 < 16) × (i .0 < 32) × Shaped (now t) × (length (now mark) ≡ 512) ⌝ }
+    ensures { λ r. ⌜ r ≡ entryRight (view (now (t .entry))) (now (mark .entry)) (p .0) (i .0) ⌝ }
 {
     let f = read::entry(t, p, i);
     if !f.present {
         return true;
     }
-    if f.whole {
-        return undivided(t, p, f);
+    if f.given.0 != 0 {
+        if f.whole {
+            return false;
+        }
+        return tables::search::is_child(t, p, f.given);
     }
-    if f.given.0 == 0 {
-        return true;
+    if !whole_right(t, p, f) {
+        return false;
     }
-    tables::search::is_child(t, p, f.given)
+    let k = (32 * p.0 + i.0) as usize;
+    f.opened == (mark[k] == 0)
 }
 
 // .. each slot
-pub fn given_each(t: &[u64; 641], p: Partition) -> bool
-    requires { ⌜ (p .0 < 16) × Shaped (now t) ⌝ }
-    ensures { λ r. ⌜ r ≡ s7Given (view (now (t .entry)) .k) (p .0) && s7Whole (view (now (t .entry))) (p .0) ⌝ }
+pub fn entries_right(t: &[u64; 641], p: Partition, mark: &[u8; 512]) -> bool
+    requires { ⌜ (p .0 < 16) × Shaped (now t) × (length (now mark) ≡ 512) ⌝ }
+    ensures { λ r. ⌜ r ≡ all 32 (entryRight (view (now (t .entry))) (now (mark .entry)) (p .0)) ⌝ }
 {
     let used = used_slots(t, p);
     let mut i = 0u32;
     while i < used {
-        if !given_slot(t, p, Slot(i)) {
+        if !entry_right(t, p, Slot(i), mark) {
             return false;
         }
         i += 1;

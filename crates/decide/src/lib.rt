@@ -1,20 +1,22 @@
 ghost use mathlib.Core.Path.{_≡_};
-ghost use mathlib.Core.Bool.{true, _&&_};
+ghost use mathlib.Core.Bool.{true};
 ghost use Prim.Native.Nat.{_<_};
 ghost use lib.ListN.{length};
 ghost use Rattle.loops.specs.Every.{all};
 ghost use Rattle.tables.specs.View.{view};
 ghost use Rattle.tables.specs.Top.{Top};
 ghost use Rattle.tables.specs.Search.{present};
-ghost use Rattle.sound.specs.Clauses.{s2, sound};
-ghost use Rattle.shape.specs.AtOnce.{restAt, shapeAt};
+ghost use Rattle.sound.specs.Clauses.{sound};
+ghost use Rattle.shape.specs.AtOnce.{shapeAt};
+ghost use Rattle.decide.specs.Local.{localAt, localWhere};
 ghost use Rattle.decide.specs.Decide.{CanDecide, Decided};
 
-// Whether a table is sound, decided along its entries and areas in order.
+// Whether a table is sound, decided along its entries in order, of which its areas mark those that they equal.
 pub mod arrange;
 pub mod backing;
 pub mod entries;
 pub mod limit;
+mod marking;
 pub mod opening;
 pub mod order;
 pub mod tiles;
@@ -52,31 +54,22 @@ fn shapes_sound(t: &[u64; 641], top: u32) -> bool
     true
 }
 
-// The clauses from S7 on at a present partition, but for areas that share a line.
+// S7 and S9 to S11 at a present partition.
 fn present_sound(
     board: Board,
     t: &[u64; 641],
     p: Partition,
     order: &[u8; 512],
     counts: &[u32; 16],
-    n: usize,
-    s: &[u32; 80],
-    e: &[u32; 80],
+    mark: &[u8; 512],
 ) -> bool
-    requires { ⌜ (p .0 < 16) × (present (view (now t) .k) (p .0) ≡ true) × CanDecide (now t) (now order) (now counts) n (now s) (now e) ⌝ }
-    ensures { λ r. ⌜ r ≡ restAt board (now (t .entry)) (p .0) ⌝ }
+    requires { ⌜ (p .0 < 16) × (present (view (now t) .k) (p .0) ≡ true) × CanDecide (now t) (now order) (now counts) (now mark) ⌝ }
+    ensures { λ r. ⌜ r ≡ localAt board (view (now (t .entry))) (now (mark .entry)) (p .0) ⌝ }
 {
-    if !entries::given_each(t, p) {
+    if !entries::entries_right(t, p, mark) {
         return false;
     }
     if !tiles::covers(t, p, order, counts) {
-        return false;
-    }
-    if !backing::areas_backed(t, p) {
-        return false;
-    }
-    let c = counts[p.0 as usize];
-    if !opening::opens_right(t, p, order, c, n, s, e) {
         return false;
     }
     opening::regions_right(board, t, p)
@@ -89,17 +82,15 @@ fn partition_sound(
     p: Partition,
     order: &[u8; 512],
     counts: &[u32; 16],
-    n: usize,
-    s: &[u32; 80],
-    e: &[u32; 80],
+    mark: &[u8; 512],
 ) -> bool
-    requires { ⌜ (p .0 < 16) × CanDecide (now t) (now order) (now counts) n (now s) (now e) ⌝ }
-    ensures { λ r. ⌜ r ≡ s2 (now (t .entry)) (view (now (t .entry)) .k) (p .0) && restAt board (now (t .entry)) (p .0) ⌝ }
+    requires { ⌜ (p .0 < 16) × CanDecide (now t) (now order) (now counts) (now mark) ⌝ }
+    ensures { λ r. ⌜ r ≡ localWhere board (view (now (t .entry))) (now (mark .entry)) (p .0) ⌝ }
 {
     if !tables::search::is_present(t, p) {
         return true;
     }
-    present_sound(board, t, p, order, counts, n, s, e)
+    present_sound(board, t, p, order, counts, mark)
 }
 
 fn partitions_sound(
@@ -108,16 +99,14 @@ fn partitions_sound(
     top: u32,
     order: &[u8; 512],
     counts: &[u32; 16],
-    n: usize,
-    s: &[u32; 80],
-    e: &[u32; 80],
+    mark: &[u8; 512],
 ) -> bool
-    requires { ⌜ Top (now t) top × CanDecide (now t) (now order) (now counts) n (now s) (now e) ⌝ }
-    ensures { λ r. ⌜ r ≡ all 16 (λ p. s2 (now (t .entry)) (view (now (t .entry)) .k) p && restAt board (now (t .entry)) p) ⌝ }
+    requires { ⌜ Top (now t) top × CanDecide (now t) (now order) (now counts) (now mark) ⌝ }
+    ensures { λ r. ⌜ r ≡ all 16 (localWhere board (view (now (t .entry))) (now (mark .entry))) ⌝ }
 {
     let mut p = 0u32;
     while p < top {
-        if !partition_sound(board, t, Partition(p), order, counts, n, s, e) {
+        if !partition_sound(board, t, Partition(p), order, counts, mark) {
             return false;
         }
         p += 1;
@@ -143,16 +132,14 @@ pub fn is_ordered(
     if !shapes_sound(t, top) {
         return false;
     }
-    let mut s = [0u32; 80];
-    let mut e = [0u32; 80];
-    let n = settling::areas::gather_areas(t, top, &mut s, &mut e);
-    if !backing::areas_apart(n, &s, &e) {
-        return false;
-    }
     if !arrange::arrange(t, top, order, counts) {
         return false;
     }
-    partitions_sound(board, t, top, order, counts, n, &s, &e)
+    let mut mark = [0u8; 512];
+    if !marking::mark_all(t, top, &mut mark) {
+        return false;
+    }
+    partitions_sound(board, t, top, order, counts, &mark)
 }
 
 // Exactly the sound tables pass.

@@ -1,70 +1,16 @@
 ghost use mathlib.Core.Path.{_≡_};
 ghost use Prim.Native.Nat.{_≤_, _<_};
 ghost use Rattle.tables.specs.View.{view};
-ghost use Rattle.sound.specs.Clauses.{s9, s10};
-ghost use Rattle.decide.specs.Opening.{Skipped, noneBefore, CanOpen, someLoaded, isOpen, marked, noted, weight};
+ghost use Rattle.sound.specs.Clauses.{s10};
+ghost use Rattle.decide.specs.Opening.{someLoaded, isOpen, marked, noted, weight};
 use crate::limit::entry_pieces;
-use crate::order::entry_at;
 use shapes::Board;
 use tables::read;
 use tables::regions;
-use words::Line;
 use words::Partition;
 use words::Slot;
 use words::regions_word::Region;
 use words::regions_word::RegionsFields;
-
-// The first area from number a on that ends after the line. Those before it are done with: the entries come by rising start.
-fn skip_areas(n: usize, e: &[u32; 80], a: usize, line: Line) -> usize
-    requires { ⌜ (n ≤ 80) × (a ≤ n) ⌝ }
-    ensures { λ r. ⌜ Skipped n (now (e .entry)) a (line .0) r ⌝ }
-{
-    let mut b = a;
-    while b < n {
-        if e[b] > line.0 {
-            return b;
-        }
-        b += 1;
-    }
-    b
-}
-
-// no area from number a on starts before the line
-fn none_before(n: usize, s: &[u32; 80], a: usize, line: Line) -> bool
-    requires { ⌜ n ≤ 80 ⌝ }
-    ensures { λ r. ⌜ r ≡ noneBefore n (now (s .entry)) a (line .0) ⌝ }
-{
-    if a < n {
-        return s[a] >= line.0;
-    }
-    true
-}
-
-// S9 of p, which has c entries: they and the areas are walked side by side, both by rising start.
-pub fn opens_right(
-    t: &[u64; 641],
-    p: Partition,
-    order: &[u8; 512],
-    c: u32,
-    n: usize,
-    s: &[u32; 80],
-    e: &[u32; 80],
-) -> bool
-    requires { ⌜ CanOpen (now t) (p .0) (now order) c n (now s) (now e) ⌝ }
-    ensures { λ r. ⌜ r ≡ s9 (view (now (t .entry))) (p .0) ⌝ }
-{
-    let mut a = 0usize;
-    let mut k = 0u32;
-    while k < c {
-        let f = entry_at(t, p, order, k);
-        a = skip_areas(n, e, a, f.start);
-        if f.opened != none_before(n, s, a, f.end) {
-            return false;
-        }
-        k += 1;
-    }
-    true
-}
 
 // one of the eight is loaded, told without a branch: mostly none is
 fn some_loaded(f: RegionsFields) -> bool

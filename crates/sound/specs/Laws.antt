@@ -10,9 +10,11 @@ pub mod MeansRegions
 pub mod List
 pub mod Canonical
 pub mod Core
+pub mod Grants
 pub mod Properties
 pub mod Chain
 pub mod Limit
+pub mod Local
 pub mod Whole
 pub mod Settled
 pub mod Holders

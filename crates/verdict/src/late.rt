@@ -2,37 +2,46 @@ ghost use mathlib.Core.Path.{_≡_};
 ghost use mathlib.Core.Bool.{true};
 ghost use Prim.Native.Nat.{_≤_, _<_};
 ghost use Rattle.tables.specs.View.{view};
-ghost use Rattle.sound.specs.Clauses.{s7, s9, s11, clauseAt};
+ghost use Rattle.settling.specs.Areas.{AreasOf};
+ghost use Rattle.sound.specs.Clauses.{s9, s11, clauseAt};
 ghost use Rattle.shape.specs.AtOnce.{Shaped};
-ghost use Rattle.decide.specs.Decide.{CanDecide};
 ghost use Rattle.decide.specs.Order.{Orders};
-ghost use Rattle.verdict.specs.Stages.{lowestOf, Reached, Sorted};
+ghost use Rattle.verdict.specs.Stages.{openSlot, Before11, lowestOf, Reached, Sorted};
+use settling::areas::clear_of;
 use shapes::Board;
 use words::Partition;
+use words::Slot;
 
-// S9 at p
-fn opens_at(
-    t: &[u64; 641],
-    p: Partition,
-    order: &[u8; 512],
-    counts: &[u32; 16],
-    n: usize,
-    s: &[u32; 80],
-    e: &[u32; 80],
-) -> bool
-    requires { ⌜ (p .0 < 16) × CanDecide (now t) (now order) (now counts) n (now s) (now e) ⌝ }
-    ensures { λ r. ⌜ r ≡ s9 (view (now (t .entry))) (p .0) ⌝ }
+// slot i of p is open exactly if it is clear of the areas
+fn open_slot(t: &[u64; 641], p: Partition, i: Slot, n: usize, s: &[u32; 80], e: &[u32; 80]) -> bool
+    requires { ⌜ (p .0 < 16) × (i .0 < 32) × Shaped (now t) × AreasOf (view (now t) .k) n (now s) (now e) ⌝ }
+    ensures { λ r. ⌜ r ≡ openSlot (view (now (t .entry))) (p .0) (i .0) ⌝ }
 {
-    if !tables::search::is_present(t, p) {
+    let f = tables::read::entry(t, p, i);
+    if !f.present {
         return true;
     }
-    let c = counts[p.0 as usize];
-    decide::opening::opens_right(t, p, order, c, n, s, e)
+    f.opened == clear_of(n, s, e, f.start, f.end)
 }
 
-// S11 at p, where S7 holds
+// S9 at p
+fn opens_at(t: &[u64; 641], p: Partition, n: usize, s: &[u32; 80], e: &[u32; 80]) -> bool
+    requires { ⌜ (p .0 < 16) × Shaped (now t) × AreasOf (view (now t) .k) n (now s) (now e) ⌝ }
+    ensures { λ r. ⌜ r ≡ s9 (view (now (t .entry))) (p .0) ⌝ }
+{
+    let mut i = 0u32;
+    while i < 32 {
+        if !open_slot(t, p, Slot(i), n, s, e) {
+            return false;
+        }
+        i += 1;
+    }
+    true
+}
+
+// S11 at p, where S7 and S9 hold
 fn rights_at(t: &[u64; 641], p: Partition, order: &[u8; 512], counts: &[u32; 16]) -> bool
-    requires { ⌜ (p .0 < 16) × Shaped (now t) × Orders (view (now t) .k) (now order) (now counts) × (s7 (view (now t)) (p .0) ≡ true) ⌝ }
+    requires { ⌜ (p .0 < 16) × Shaped (now t) × Orders (view (now t) .k) (now order) (now counts) × Before11 (view (now t)) (p .0) ⌝ }
     ensures { λ r. ⌜ r ≡ s11 (view (now (t .entry)) .k) (p .0) ⌝ }
 {
     if !tables::search::is_present(t, p) {
@@ -63,7 +72,7 @@ fn holds(
         return crate::owned::owned_at(t, p);
     }
     if k <= 9 {
-        return opens_at(t, p, order, counts, n, s, e);
+        return opens_at(t, p, n, s, e);
     }
     if k <= 10 {
         return decide::opening::regions_right(board, t, p);

@@ -3,8 +3,10 @@ ghost use Rattle.verdict.specs.Verdict.{verdict, imageVerdict};
 ghost use Rattle.verdict.specs.Stages.{saidOf};
 
 // The lowest clause that a table fails, and the lowest partition where it fails.
+mod backed;
 mod bits;
 mod early;
+mod given;
 mod late;
 mod lines;
 mod owned;

@@ -73,7 +73,7 @@ pub fn owned_at(t: &[u64; 641], p: Partition) -> bool
     requires { ⌜ (p .0 < 16) × Shaped (now t) ⌝ }
     ensures { λ r. ⌜ r ≡ s8 (view (now (t .entry)) .k) (p .0) ⌝ }
 {
-    if !decide::backing::areas_backed(t, p) {
+    if !crate::backed::areas_backed(t, p) {
         return false;
     }
     let mut j = 0u32;

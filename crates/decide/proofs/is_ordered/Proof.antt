@@ -1,7 +1,8 @@
 use mathlib.Core.Path.{refl}
 use borrow.Author.Tests.{not-false}
-use Rattle.decide.specs.Laws.Backing.{apart-said}
-use Rattle.decide.specs.Laws.Decide.{failed, passed, top-first, shaped, not-sound, decided}
+use Rattle.decide.specs.Laws.Decide.{failed, passed, top-first, shaped, not-sound}
+use Rattle.decide.specs.Laws.Decided.{not-marked, decided}
+use Rattle.decide.specs.Laws.Marking.{no-marks}
 use borrow.Author.Needs.{needs}
 use Rattle.decide.proofs.is_ordered.Statement.{statement}
 use Rattle.decide.proofs.is_ordered.Tie as tie
@@ -15,10 +16,22 @@ is-ordered-spec =
     (λ c. not-sound _ _ (λ h. failed (c .before .first-sound .ensures) (c .if1 .taken) (h .first)))
     (λ c κs. (c .before .before .before .pre .0, top-first (c .before .before .before .pre .0) (passed (c .before .first-sound .ensures) (c .if1 .left))))
     (λ c. not-sound _ _ (λ h. failed (c .before .shapes-sound .ensures) (c .if2 .taken) (h .shapes)))
-    (λ c κs. (c .before .before .before .before .before .before .before .pre .0, refl, refl))
-    (λ c κs. c .before .before .gather-areas .ensures .areas .rising .few)
-    (λ c. not-sound _ _ (λ h. failed (apart-said (c .before .before .before .before .gather-areas .ensures .areas) (c .before .areas-apart .ensures) .says) (c .if3 .taken) (h .apart)))
-    (λ c κs. (c .before .before .before .before .before .before .before .before .before .before .before .before .before .before .pre .0, shaped (passed (c .before .before .before .before .before .before .before .before .before .before .shapes-sound .ensures) (c .before .before .before .before .before .before .before .before .before .if2 .left)), c .before .before .before .before .before .before .before .before .before .before .before .before .before .before .pre .1, c .before .before .before .before .before .before .before .before .before .before .before .before .before .before .pre .2))
-    (λ c. not-sound _ _ (λ h. failed (c .before .arrange .ensures .says) (c .if4 .taken) (h .s6)))
-    (λ c κs. (c .before .before .before .before .before .before .before .before .before .before .before .before .before .before .before .before .before .before .before .before .pre .0, record { shaped = shaped (passed (c .before .before .before .before .before .before .before .before .before .before .before .before .before .before .before .before .shapes-sound .ensures) (c .before .before .before .before .before .before .before .before .before .before .before .before .before .before .before .if2 .left)); areas = c .before .before .before .before .before .before .before .before .before .before .before .before .gather-areas .ensures .areas; parted = apart-said (c .before .before .before .before .before .before .before .before .before .before .before .before .gather-areas .ensures .areas) (c .before .before .before .before .before .before .before .before .before .areas-apart .ensures) .parted (not-false _ (c .before .before .before .before .before .before .before .before .if3 .left)); s6 = passed (c .before .before .before .before .before .arrange .ensures .says) (c .before .before .before .before .if4 .left); orders = c .before .before .before .before .before .arrange .ensures .orders (not-false _ (c .before .before .before .before .if4 .left)) }))
-    (λ c. decided _ _ (c .before .before .before .before .before .before .before .before .before .before .before .before .before .before .before .before .before .before .before .before .sized .ensures) (passed (c .before .before .before .before .before .before .before .before .before .before .before .before .before .before .before .before .before .before .before .first-sound .ensures) (c .before .before .before .before .before .before .before .before .before .before .before .before .before .before .before .before .before .before .if1 .left)) (passed (apart-said (c .before .before .before .before .before .before .before .before .before .before .before .before .before .gather-areas .ensures .areas) (c .before .before .before .before .before .before .before .before .before .before .areas-apart .ensures) .says) (c .before .before .before .before .before .before .before .before .before .if3 .left)) (c .before .before .before .before .before .before .arrange .ensures .orders (not-false _ (c .before .before .before .before .before .if4 .left))) (c .partitions-sound .ensures)))
+    (λ c κs. let h = c .before .before .before .before .before .before .before .pre in (h .0, shaped (passed (c .before .before .before .shapes-sound .ensures) (c .before .before .if2 .left)), h .1, h .2))
+    (λ c. not-sound _ _ (λ h. failed (c .before .arrange .ensures .says) (c .if3 .taken) (h .s6)))
+    (λ c κs. (c .before .before .before .before .before .before .before .before .before .before .pre .0, shaped (passed (c .before .before .before .before .before .before .shapes-sound .ensures) (c .before .before .before .before .before .if2 .left)), no-marks))
+    (λ c. not-marked _ (c .before .mark-all .ensures) (c .if4 .taken))
+    (λ c κs. (
+      c .before .before .before .before .before .before .before .before .before .before .before .before .before .before .before .pre .0,
+      record {
+        shaped = shaped (passed (c .before .before .before .before .before .before .before .before .before .before .before .shapes-sound .ensures) (c .before .before .before .before .before .before .before .before .before .before .if2 .left));
+        s6 = passed (c .before .before .before .before .before .before .before .arrange .ensures .says) (c .before .before .before .before .before .before .if3 .left);
+        orders = c .before .before .before .before .before .before .before .arrange .ensures .orders (not-false _ (c .before .before .before .before .before .before .if3 .left));
+        marked = c .before .before .before .before .mark-all .ensures .on (not-false _ (c .before .before .before .if4 .left));
+      },
+    ))
+    (λ c. decided _ (c .before .before .before .before .before .before .before .before .before .before .before .before .before .before .before .sized .ensures) (passed (c .before .before .before .before .before .before .before .before .before .before .before .before .before .before .first-sound .ensures) (c .before .before .before .before .before .before .before .before .before .before .before .before .before .if1 .left)) (record {
+      shaped = shaped (passed (c .before .before .before .before .before .before .before .before .before .before .before .before .shapes-sound .ensures) (c .before .before .before .before .before .before .before .before .before .before .before .if2 .left));
+      s6 = passed (c .before .before .before .before .before .before .before .before .arrange .ensures .says) (c .before .before .before .before .before .before .before .if3 .left);
+      orders = c .before .before .before .before .before .before .before .before .arrange .ensures .orders (not-false _ (c .before .before .before .before .before .before .before .if3 .left));
+      marked = c .before .before .before .before .before .mark-all .ensures .on (not-false _ (c .before .before .before .before .if4 .left));
+    }) (c .partitions-sound .ensures)))

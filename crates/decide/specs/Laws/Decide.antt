@@ -7,28 +7,26 @@ use native.Mathlib.Decide.{ℕ-discrete, decLt}
 use native.Mathlib.Omega.{arith}
 use lib.ListN.{length}
 use lib.Dec.{ltb, eqb}
-use borrow.Author.Tests.{eq-eqb, ne-eqb, not-false}
+use borrow.Author.Tests.{ne-eqb, not-false}
 use Rattle.loops.specs.Every.{all}
-use Rattle.loops.specs.Laws.Every.{all-at, all-of, bool-ext}
+use Rattle.loops.specs.Laws.Every.{all-at, all-of}
 use Rattle.shapes.specs.declared.Board.{Board}
-use Rattle.tables.specs.State.{K}
 use Rattle.tables.specs.View.{view}
 use Rattle.tables.specs.Search.{present}
 use Rattle.tables.specs.ZeroRecord.{zeroRecord}
 use Rattle.tables.specs.Top.{Top}
 use Rattle.tables.specs.Laws.Top.{top-absent}
-use Rattle.sound.specs.Clauses.{s1, s2, s3First, s3, s4, s5, s6, s7Given, s7Whole, s7, s8Backed, s9, s10, s11, sound}
+use Rattle.sound.specs.Clauses.{s1, s2, s3First, s3, s4, s5, s6, s7, s9, s10, s11, sound}
 use Rattle.sound.specs.Laws.Tests.{and-says, and-true, not-says}
 use Rattle.sound.specs.Laws.MeansEntries.{present-means}
 use Rattle.sound.specs.Laws.MeansWords.{s2-means, s5-means}
-use Rattle.decide.specs.Entries.{Solid, exactly}
-use Rattle.decide.specs.Laws.Entries.{s7-parts}
+use Rattle.decide.specs.Entries.{Solid}
 use Rattle.shape.specs.Laws.Absent.{absent-s3, absent-s4, absent-s5, absent-s6, absent-s7, absent-s8, absent-s9, absent-s10, absent-s11}
 use Rattle.shape.specs.AtOnce.{restAt, shapeAt, Shaped}
-use Rattle.shape.specs.Laws.AtOnce.{areasApart, atOnce, Passes, rest-true, rest-says, sound-at-once, shaped-s2, shaped-record}
-use Rattle.decide.specs.Order.{Orders}
+use Rattle.shape.specs.Laws.AtOnce.{areasApart, atOnce, Passes, rest-true, rest-says, sound-at-once}
 use Rattle.decide.specs.Laws.Order.{SameOrders, orders-one}
-use Rattle.decide.specs.Decide.{CanDecide, Decided}
+use Rattle.decide.specs.Decide.{Decided}
+use Rattle.decide.specs.Local.{localWhere}
 
 -- a test that cannot pass is false
 pub never : (b : Bool) → (b ≡ true → ⊥) → false ≡ b
@@ -86,16 +84,6 @@ module _ (board : Board) (l : List ℕ) (p : ℕ) where
         s10 = absent-s10 l p w board;
       })
 
-  -- a clause that fails
-  pub rest-no : (Passes board l p → ⊥) → false ≡ restAt board l p
-  rest-no h = never (restAt board l p) (λ q. h (rest-says board l p q))
-
-  -- all clauses but the last pass
-  pub rest-last : s3 l p && s4 l (view l .k) p && s5 l (view l .k) p ≡ true → s6 (view l .k) p && s7 (view l) p ≡ true → s11 (view l .k) p ≡ true
-      → all 5 (s8Backed (view l .k) p) ≡ true → s9 (view l) p ≡ true → s10 board (view l) p ≡ restAt board l p
-  unfolding restAt
-  rest-last a b c d e = and-is _ (s10 board (view l) p) (and-true _ _ (and-true _ _ (and-true _ _ (and-true _ _ a b) c) d) e)
-
 -- ── the records from the top on need no look ──
 module _ {l : List ℕ} {m : ℕ} (h : Top l m) where
   -- S1 asks for a record, that of current
@@ -116,34 +104,14 @@ module _ {l : List ℕ} {m : ℕ} (h : Top l m) where
       let n = top-absent h p a in
       sym (absent-shape l p b (rw (ne-eqb p 0 (λ z. omega arith), n) (h .zero p a b)) n)
 
-  pub top-rest : (board : Board) → Shaped l → (p : ℕ) → m ≤ p → p < 16 → s2 l (view l .k) p && restAt board l p ≡ true
-  top-rest board shaped p a b =
-      let q = shaped-s2 shaped p b in
-      and-true _ _ q (absent-rest board l p b q (top-absent h p a))
+  pub top-local : (board : Board) (marks : List ℕ) (p : ℕ) → m ≤ p → localWhere board (view l) marks p ≡ true
+  unfolding localWhere
+  top-local board marks p a = rw (top-absent h p a) refl
 
 -- ── the parts of the decision, in the order of the code ──
 -- two results are equal; where they are true, so are the number and the order of the entries of each partition that is present
 pub decided-one : {board : Board} {l : List ℕ} {r r′ : Bool} {o c o′ c′ : List ℕ} → Decided board l r o c → Decided board l r′ o′ c′ → (r ≡ r′) × (r ≡ true → SameOrders (view l .k) 16 o c o′ c′)
 decided-one x y = let z = x .says ∙ sym (y .says) in (z, λ q. orders-one (x .orders q) (y .orders (sym z ∙ q)))
-
--- the clauses of present_sound, with what each check said
-module _ (board : Board) {l o c : List ℕ} {n : ℕ} {s e : List ℕ} (can : CanDecide l o c n s e) (p : ℕ) (b : p < 16) (here : present (view l .k) p ≡ true) where
-  abbrev k : K
-  k = view l .k
-
-  s7-says : Passes board l p → (s7Given k p && s7Whole (view l) p ≡ true) × (exactly k p ≡ true)
-  s7-says h = and-says (s7Given k p && s7Whole (view l) p) (exactly k p) (sym (s7-parts (view l) p here) ∙ h .s7)
-
-  pub no-given : s7Given k p && s7Whole (view l) p ≡ false → false ≡ restAt board l p
-  no-given q = rest-no board l p (λ h. false≢true (sym q ∙ s7-says h .0))
-
-  pub no-cover : exactly k p && s11 k p ≡ false → false ≡ restAt board l p
-  no-cover q = rest-no board l p (λ h. false≢true (sym q ∙ and-true _ _ (s7-says h .1) (h .s11)))
-
-  pub rest-regions : s7Given k p && s7Whole (view l) p ≡ true → exactly k p && s11 k p ≡ true → all 5 (s8Backed k p) ≡ true → s9 (view l) p ≡ true → s10 board (view l) p ≡ restAt board l p
-  rest-regions g x d q =
-      let (y, z) = and-says (exactly k p) (s11 k p) x in
-      rest-last board l p (shaped-record (can .shaped) p b) (and-true _ _ (all-at 16 (s6 k) (can .s6) p b) (s7-parts (view l) p here ∙ and-true _ _ g y)) z d q
 
 module _ (board : Board) (l : List ℕ) where
   -- the sound tables pass each part
@@ -171,17 +139,11 @@ module _ (board : Board) (l : List ℕ) where
       }
 
   -- a part that fails: nothing is left to do, and no order is promised
-  pub not-sound : {o c : List ℕ} → (Parts → ⊥) → Decided board l false o c
-  not-sound h = record { says = never (sound board l) (λ q. h (parts q)); orders = λ q. absurd (false≢true q) }
+  pub not-sound-so : {o c : List ℕ} → (sound board l ≡ true → ⊥) → Decided board l false o c
+  not-sound-so h = record { says = never (sound board l) h; orders = λ q. absurd (false≢true q) }
 
-  -- the last part decides
-  pub decided : {r : Bool} {o c : List ℕ} → length l ≡ 641 → s1 (view l .k) && s3First l ≡ true → areasApart (view l .k) ≡ true → Orders (view l .k) o c
-      → r ≡ all 16 (λ p. s2 l (view l .k) p && restAt board l p) → Decided board l r o c
-  unfolding atOnce
-  decided h a d orders e = record {
-    says = e ∙ bool-ext _ _ (λ q. sym (sound-at-once board l) ∙ and-true _ _ (and-true _ _ (and-true _ _ (eq-eqb (length l) 641 h) a) q) d) (λ q. parts q .partitions);
-    orders = λ _. orders;
-  }
+  pub not-sound : {o c : List ℕ} → (Parts → ⊥) → Decided board l false o c
+  not-sound h = not-sound-so (λ q. h (parts q))
 
 -- the records that pass have their shape
 pub shaped : {l : List ℕ} → all 16 (shapeAt l) ≡ true → Shaped l

@@ -1,69 +1,41 @@
 -- S7 of a present partition from its parts, S11 of the root slot by slot; empty slots pass both.
-use mathlib.Core.Path.{_≡_, refl, sym, _∙_}
-use mathlib.Core.Bool.{Bool, true, false, not, _&&_, _||_, and-true as and-unit}
+use mathlib.Core.Path.{_≡_, refl}
+use mathlib.Core.Bool.{Bool, true, false, not, _&&_, _||_, and-false}
 use mathlib.Core.List.{List}
 use Prim.Native.Nat.{ℕ, _≤_, _<_}
-use lib.Dec.{eqb}
-use borrow.Author.Tests.{eq-eqb}
+use borrow.Author.Tests.{eq-eqb, ne-eqb}
 use Rattle.loops.specs.Every.{all}
-use Rattle.loops.specs.Laws.Every.{bool-ext, all-ext}
-use Rattle.tables.specs.State.{Opt, none, some, Entry, K, Table}
+use Rattle.tables.specs.State.{Entry, K, Table}
 use Rattle.tables.specs.View.{view}
-use Rattle.tables.specs.Search.{present, child}
+use Rattle.tables.specs.Search.{present}
 use Rattle.sound.specs.Clauses.{when, has, s7Given, lends, undivided, s7Whole, s7, s11}
-use Rattle.sound.specs.Laws.Tests.{and-says, and-true, or-left, all-and}
 use Rattle.decide.specs.Used.{Bound}
-use Rattle.decide.specs.Entries.{exactly, givenSlot, fullSlot}
+use Rattle.decide.specs.Entries.{exactly, fullSlot}
 
 -- S7 of a partition that is present
 pub s7-parts : (t : Table) (p : ℕ) → present (t .k) p ≡ true → s7 t p ≡ s7Given (t .k) p && s7Whole t p && exactly (t .k) p
 unfolding s7 exactly
 s7-parts t p h = rw h refl
 
--- its part that is decided slot by slot
-pub given-each-is : (t : Table) (p : ℕ) → all 32 (givenSlot t p) ≡ s7Given (t .k) p && s7Whole t p
-unfolding givenSlot s7Given s7Whole when
-given-each-is t p =
-    all-ext 32 (givenSlot t p) (λ i. when given (t .k .slot p i) && when (whole i) (t .k .slot p i)) (λ i _. both i (t .k .slot p i))
-    ∙ all-and 32 (λ i. when given (t .k .slot p i)) (λ i. when (whole i) (t .k .slot p i))
-  where
-    given : Entry → Bool
-    given e = eqb (e .given) 0 || child (t .k) p (e .given)
+-- what S7 says of an entry that is whole, and of another
+pub whole-on : (w u : Bool) {r : Bool} → w ≡ true → r ≡ u → r ≡ (not w || u)
+whole-on w u q e = rw q e
 
-    whole : ℕ → Entry → Bool
-    whole i e = not (e .whole) || undivided (t .k) p (t .opened p i) e
+pub whole-off : (w u : Bool) → w ≡ false → true ≡ (not w || u)
+whole-off w u q = rw q refl
 
-    both : (i : ℕ) (o : Opt Entry) → when (λ e. given e && whole i e) o ≡ when given o && when (whole i) o
-    both i none = refl
-    both i (some e) = refl
+-- .. where it is given
+pub whole-given : (w u c : Bool) → w ≡ true → u ≡ false → false ≡ (not w || u) && c
+whole-given w u c q e = rw (q, e) refl
 
--- .. of a whole entry, and of another
-marked-only : (w g c u : Bool) → w ≡ true → (u ≡ true → g ≡ true) → u ≡ (g || c) && (not w || u)
-marked-only w g c u q f = rw q (bool-ext _ _ (λ z. and-true _ _ (or-left g c (f z)) z) (λ z. and-says (g || c) u z .1))
+pub not-whole : (w u c : Bool) {r : Bool} → w ≡ false → r ≡ c → r ≡ (not w || u) && c
+not-whole w u c q e = rw q e
 
-not-marked : (w x u : Bool) {b : Bool} → w ≡ false → b ≡ x → b ≡ x && (not w || u)
-not-marked w x u q e = rw q (e ∙ sym (and-unit x))
+pub given-divides : (k : K) (p : ℕ) (o : Bool) (e : Entry) → (e .given ≡ 0 → ⊥) → undivided k p o e ≡ false
+unfolding undivided
+given-divides k p o e n = rw (ne-eqb (e .given) 0 n, and-false) refl
 
-module _ (k : K) (p : ℕ) (e : Entry) (o : Bool) where
-  free : undivided k p o e ≡ true → eqb (e .given) 0 ≡ true
-  unfolding undivided
-  free q =
-      let (x, _) = and-says (o && eqb (e .given) 0 && not (eqb p 0)) _ q in
-      let (y, _) = and-says (o && eqb (e .given) 0) (not (eqb p 0)) x in
-      and-says o (eqb (e .given) 0) y .1
-
-  pub whole-only : e .whole ≡ true → undivided k p o e ≡ (eqb (e .given) 0 || child k p (e .given)) && (not (e .whole) || undivided k p o e)
-  whole-only w = marked-only (e .whole) (eqb (e .given) 0) (child k p (e .given)) (undivided k p o e) w free
-
-  pub not-whole : {b : Bool} → e .whole ≡ false → b ≡ eqb (e .given) 0 || child k p (e .given) → b ≡ (eqb (e .given) 0 || child k p (e .given)) && (not (e .whole) || undivided k p o e)
-  not-whole = not-marked (e .whole) _ _
-
--- an empty slot is given to nobody
-pub given-empty : {l : List ℕ} {p m : ℕ} → Bound l p m → (i : ℕ) → m ≤ i → i < 32 → givenSlot (view l) p i ≡ true
-unfolding givenSlot when
-given-empty h i a b = rw (h .empty i a b) refl
-
--- .. and lends nothing
+-- an empty slot lends nothing
 pub lends-empty : {l : List ℕ} {q m : ℕ} (p : ℕ) (e : Entry) → Bound l q m → (i : ℕ) → m ≤ i → i < 32 → has (lends p e) (view l .k .slot q i) ≡ false
 unfolding has
 lends-empty p e h i c d = rw (h .empty i c d) refl

@@ -2,6 +2,7 @@
 use mathlib.Core.Path.{_≡_, refl, ap, sym, subst, _∙_}
 use mathlib.Core.Bool.{Bool, true, false, cond, _&&_, Bool·beq, false≢true}
 use mathlib.Core.List.{List}
+use mathlib.Core.Logic.{_↔_}
 use Prim.Native.Nat.{ℕ, _+_, _-_, _≤_, _<_}
 use native.Mathlib.Decide.{ℕ-discrete, decLt}
 use native.Mathlib.Omega.{arith}
@@ -9,6 +10,7 @@ use lib.ListN.{getD}
 use lib.Dec.{eqb}
 use borrow.Author.Tests.{eq-eqb, ne-eqb}
 use Rattle.loops.specs.Every.{all}
+use Rattle.loops.specs.Laws.Every.{bool-ext}
 use Rattle.words.specs.declared.Rights.{Rights}
 use Rattle.words.specs.declared.slot_word.SlotFields.{SlotFields}
 use Rattle.tables.specs.State.{Opt, none, some, Entry, Same, entry, allRights}
@@ -25,14 +27,15 @@ use Rattle.sound.specs.Laws.Tests.{and-says, and-true}
 use Rattle.sound.specs.Laws.MeansEntries.{present-means, slots32, root-means, inside-means, cover-means}
 use Rattle.sound.specs.Laws.MeansRegions.{within-means, same-rights-means, s11-means}
 use Rattle.sound.specs.Laws.MeansWords.{s2-means}
-use Rattle.decide.specs.Entries.{exactly, fullSlot}
-use Rattle.decide.specs.Laws.Entries.{rights-root}
+use Rattle.decide.specs.Entries.{exactly}
+use Rattle.decide.specs.Local.{grantsOpen}
+use Rattle.decide.specs.Laws.Local.{grants-open-means}
 use Rattle.shape.specs.AtOnce.{Shaped}
 use Rattle.shape.specs.Laws.AtOnce.{shaped-s2, shaped-record}
 use Rattle.decide.specs.Laws.Decide.{never, solid}
 use Rattle.decide.specs.Order.{linesOf, placed, Orders}
 use Rattle.decide.specs.Laws.Order.{held-of, lines-of}
-use Rattle.decide.specs.Tiles.{Piece, Tiling, Fits, follows, Tiled, fitted, stuck, entryOr, rowOf, InOrder, ChildOf}
+use Rattle.decide.specs.Tiles.{Piece, Tiling, Fits, follows, Tiled, fitted, stuck, AllSet, TiledAs, alike, unlike, entryOr, rowOf, bitOf, plainRow, InOrder, ChildOf}
 
 -- ── two rows: n entries E, and m entries F, some of them given to p ──
 -- each of E has a line; in both, each ends by the start of those after it
@@ -52,6 +55,10 @@ pub record Exact (E : ℕ → Entry) (n : ℕ) (F : ℕ → Entry) (m p : ℕ) :
   pub cover : (b : ℕ) → b < m → F b .given ≡ p → (l : ℕ) → In l (F b) → (a : ℕ) × (a < n) × In l (E a)
   pub rights : (a b : ℕ) → a < n → b < m → F b .given ≡ p → Around (E a) (F b) → within (E a .rights) (F b .rights) ≡ true
   pub equal : (a c b : ℕ) → a < n → c < n → b < m → F b .given ≡ p → Around (E a) (F b) → Around (E c) (F b) → E a .rights ≡ E c .rights
+
+-- and each of F that is given to p is open (P) exactly if all of E inside it are (O)
+pub record Bits (E : ℕ → Entry) (O : ℕ → Bool) (n : ℕ) (F : ℕ → Entry) (P : ℕ → Bool) (m p : ℕ) : Type 0 where
+  pub says : (b : ℕ) → b < m → F b .given ≡ p → (P b ≡ true) ↔ ((a : ℕ) → a < n → Around (E a) (F b) → O a ≡ true)
 
 -- ── one range lo to hi with rights r ──
 -- two results are equal, in a row where each has a line and ends by the start of those after it
@@ -93,6 +100,19 @@ module _ {E : ℕ → Entry} {n i lo hi : ℕ} {r : Rights} (line : (a : ℕ) �
   row-one (fitted at few far t) (stuck k at′ _ z c u no-fit) = absurd (no-fit (no-stop few far t c u))
   row-one (stuck k at _ z c t no-fit) (fitted at′ few′ far′ u) = absurd (no-fit (no-stop few′ far′ u c t))
   row-one (stuck k at _ z c t no-fit) (stuck k′ at′ _ z′ c′ u no-fit′) = z ∙ sym z′
+
+  -- .. with the flags
+  module _ {O : ℕ → Bool} {o : Bool} where
+    mixed-one : {x y k at : ℕ} → y ≡ 33 → k ≤ n → hi ≤ at → Tiling E i k lo hi at r → ((o ≡ true) ↔ AllSet O i k → ⊥) → Tiled E n i lo hi r x → (x ≤ n → (o ≡ true) ↔ AllSet O i x) → x ≡ y
+    mixed-one z few far u differs (stuck k′ at′ _ w c t no-fit) _ = w ∙ sym z
+    mixed-one {at = at} z few far u differs (fitted at′ few′ far′ t) flags =
+        absurd (differs (subst (λ (x : ℕ). (o ≡ true) ↔ AllSet O i x) (row-one (fitted at′ few′ far′ t) (fitted at few far u)) (flags few′)))
+
+    as-one : {x y : ℕ} → TiledAs E O n i lo hi r o x → TiledAs E O n i lo hi r o y → x ≡ y
+    as-one (alike t _) (alike u _) = row-one t u
+    as-one (alike t f) (unlike k at _ z few far u differs) = mixed-one z few far u differs t f
+    as-one (unlike k at _ z few far u differs) (alike t f) = sym (mixed-one z few far u differs t f)
+    as-one (unlike _ _ _ z _ _ _ _) (unlike _ _ _ w _ _ _ _) = z ∙ sym w
 
 -- ── what the rights of the next entry are compared with ──
 -- s: the range's before the first, those of the first after it
@@ -162,6 +182,32 @@ module _ {E : ℕ → Entry} {i lo hi : ℕ} {r : Rights} where
 
   pub tile-end : {n k at : ℕ} → Tiling E i k lo hi at r → k ≤ n → hi ≤ at → Tiled E n i lo hi r k
   tile-end {at = at} inv few c = fitted at few c inv
+
+-- ── the open bits so far ──
+pub set-start : {O : ℕ → Bool} {i : ℕ} → (true ≡ true) ↔ AllSet O i i
+set-start = (λ _ a b c. absurd (omega arith), λ _. refl)
+
+pub set-on : {O : ℕ → Bool} {i k : ℕ} {o x : Bool} → i ≤ k → (o ≡ true) ↔ AllSet O i k → x ≡ O k → (o && x ≡ true) ↔ AllSet O i (k + 1)
+set-on {O} {i} {k} {o} {x} up (to, back) e = (
+  λ q a b c. let (y, z) = and-says o x q in go (to y) z a b c (ℕ-discrete a k),
+  λ all. and-true o x (back (λ a b c. all a b (omega arith))) (e ∙ all k up (omega arith)),
+)
+  where
+    go : AllSet O i k → x ≡ true → (a : ℕ) → i ≤ a → a < k + 1 → Dec (a ≡ k) → O a ≡ true
+    go all z a b c (yes w) = rw w (sym e ∙ z)
+    go all z a b c (no w) = all a b (omega arith)
+
+-- what they say of a range with open bit o: it is stuck, the bits differ, they do not
+module _ {E : ℕ → Entry} {O : ℕ → Bool} {n i lo hi : ℕ} {r : Rights} {o : Bool} where
+  pub stuck-as : n < 33 → Tiled E n i lo hi r 33 → TiledAs E O n i lo hi r o 33
+  stuck-as few t = alike t (λ h. absurd (omega arith))
+
+  module _ {k at : ℕ} {b : Bool} (few : k ≤ n) (far : hi ≤ at) (t : Tiling E i k lo hi at r) (bits : (b ≡ true) ↔ AllSet O i k) where
+    pub other-bits : n < 33 → (b ≡ o → ⊥) → TiledAs E O n i lo hi r o 33
+    other-bits small differ = let (to, back) = bits in unlike k at small refl few far t (λ (f, g). differ (bool-ext b o (λ q. g (to q)) (λ q. back (f q))))
+
+    pub same-bits : b ≡ o → TiledAs E O n i lo hi r o k
+    same-bits e = alike (fitted at few far t) (λ _. subst (λ (b : Bool). (b ≡ true) ↔ AllSet O i k) e bits)
 
 -- ── laws of the walk along the grants ──
 module _ {E F : ℕ → Entry} {p : ℕ} where
@@ -288,12 +334,67 @@ module _ {E F : ℕ → Entry} {p : ℕ} where
               let u : Around (E k) (F j) = subst (λ (b : ℕ). Around (E k) (F b)) e v in
               no-fit (record { there = d; start = exactly-at d s u (decLt (E k .start) at); to = u .to; rights = ex .rights k j d next given u; equal = alike d u ex (ℕ-discrete k i) })
 
+-- ── laws of their open bits ──
+-- what lies in grant j comes from place i on, and before k if those before k cover it
+in-grant : {E F : ℕ → Entry} {p n m : ℕ} → TwoRows E n F m → {i j : ℕ} → Exact E i F j p → j < m → {k at : ℕ} {r : Rights} → F j .stop ≤ at → Tiling E i k (F j .start) (F j .stop) at r
+    → (a : ℕ) → a < n → Around (E a) (F j) → (i ≤ a) × (a < k)
+in-grant {E} w {i} {j} inv next {k} c t a d u = (late (decLt a i), soon (decLt a k))
+  where
+    late : Dec (a < i) → i ≤ a
+    late (yes e) = let (b, h, _, v) = inv .inside a e in absurd (omega (arith, w .line a d, w .grants b j h next, v .to, u .from))
+    late (no e) = omega arith
+
+    soon : Dec (a < k) → a < k
+    soon (yes e) = e
+    soon (no e) =
+        let (b, _, h, v) = t .cover (E a .start) (u .from) (omega (arith, w .line a d, u .to)) in
+        absurd (omega (arith, v .to, w .ends b a (omega arith) d))
+
+module _ {E F : ℕ → Entry} {O P : ℕ → Bool} {p : ℕ} where
+  bits-start : Bits E O 0 F P 0 p
+  bits-start = record { says = λ b c. absurd (omega arith) }
+
+  bits-skip : {i j : ℕ} → Bits E O i F P j p → (F j .given ≡ p → ⊥) → Bits E O i F P (j + 1) p
+  bits-skip {i} {j} inv no-grant = record { says = λ b h g. go b h g (ℕ-discrete b j) }
+    where
+      go : (b : ℕ) → b < j + 1 → F b .given ≡ p → Dec (b ≡ j) → (P b ≡ true) ↔ ((a : ℕ) → a < i → Around (E a) (F b) → O a ≡ true)
+      go b h g (yes z) = absurd (no-grant (subst (λ (b : ℕ). F b .given ≡ p) z g))
+      go b h g (no z) = inv .says b (omega arith) g
+
+  module _ {n m : ℕ} (w : TwoRows E n F m) {i j : ℕ} (inv : Exact E i F j p) (few : i ≤ n) (next : j < m) where
+    bits-on : {x : ℕ} → Bits E O i F P j p → x ≤ n → Tiled E n i (F j .start) (F j .stop) (F j .rights) x → (P j ≡ true) ↔ AllSet O i x → Bits E O x F P (j + 1) p
+    bits-on had few′ (stuck k at b z c t no-fit) _ = absurd (omega arith)
+    bits-on {x} had few′ (fitted at _ c t) (to, back) = record { says = λ b h g. go b h g (ℕ-discrete b j) }
+      where
+        early : (a b : ℕ) → a < x → b < j → F b .given ≡ p → Around (E a) (F b) → Dec (a < i) → a < i
+        early a b c h g u (yes d) = d
+        early a b c h g u (no d) = absurd (later w inv few a b (omega arith) (omega arith) h g u)
+
+        go : (b : ℕ) → b < j + 1 → F b .given ≡ p → Dec (b ≡ j) → (P b ≡ true) ↔ ((a : ℕ) → a < x → Around (E a) (F b) → O a ≡ true)
+        go b h g (yes z) = rw z (
+          λ q a d u. let (e, f) = in-grant w inv next c t a (omega arith) u in to q a e f,
+          λ f. back (λ a d e. let y = t .piece a d e in f a e (record { from = y .from; to = y .to })),
+        )
+        go b h g (no z) =
+            let (to, back) = had .says b (omega arith) g in
+            (λ q a d u. to q a (early a b d (omega arith) g u (decLt a i)) u, λ f. back (λ a d u. f a (omega (arith, t .up)) u))
+
+    -- they tile it, and their bits tell otherwise
+    bits-unlike : {k at : ℕ} → F j .given ≡ p → k ≤ n → F j .stop ≤ at → Tiling E i k (F j .start) (F j .stop) at (F j .rights) → ((P j ≡ true) ↔ AllSet O i k → ⊥) → Bits E O n F P m p → ⊥
+    bits-unlike given few′ c t differs all =
+        let (to, back) = all .says j next given in
+        differs (
+          λ q a d e. let y = t .piece a d e in to q a (omega arith) (record { from = y .from; to = y .to }),
+          λ set. back (λ a d u. let (e, f) = in-grant w inv next c t a d u in set a e f),
+        )
+
 -- ── the entries of a partition by place ──
 -- the first i entries of p lie inside those of the first j of q that are given to p, and cover them
 pub record Walked (l o : List ℕ) (p q n m i j : ℕ) : Type 0 where
   pub few : i ≤ n
   pub far : j ≤ m
   pub exact : Exact (rowOf l o p) i (rowOf l o q) j p
+  pub bits : Bits (rowOf l o p) (bitOf l o p) i (rowOf l o q) (bitOf l o q) j p
 
 module _ {l o : List ℕ} {p n : ℕ} (h : InOrder l o p n) where
   -- what stands at place a
@@ -320,6 +421,17 @@ module _ {l o : List ℕ} {p n : ℕ} (h : InOrder l o p n) where
       let (a, b, z) = h .rows .ordered .every j _ (slot-bounds l p j e u .1) (lines-of (view l .k) p j e u) in
       (a, b, ap (λ (j : ℕ). entryOr (view l .k .slot p j)) z ∙ ap entryOr u)
 
+  -- .. at a slot
+  row-every-at : (j : ℕ) (e : Entry) → view l .k .slot p j ≡ some e → (a : ℕ) × (a < n) × ((rowOf l o p a ≡ e) × (placed o p a ≡ j))
+  unfolding entryOr
+  row-every-at j e u =
+      let (a, b, z) = h .rows .ordered .every j _ (slot-bounds l p j e u .1) (lines-of (view l .k) p j e u) in
+      (a, b, (ap (λ (j : ℕ). entryOr (view l .k .slot p j)) z ∙ ap entryOr u, z))
+
+  -- few: 33 is beyond all places
+  pub few : n < 33
+  few = omega (arith, h .rows .ordered .few)
+
   pub row-line : (a : ℕ) → a < n → rowOf l o p a .start < rowOf l o p a .stop
   row-line a b = h .lines (placed o p a) _ (row-at a b)
 
@@ -331,8 +443,12 @@ module _ {l o : List ℕ} {p n : ℕ} (h : InOrder l o p n) where
       omega (arith, x, y, h .rows .apart .ends a b c d)
 
 -- ── the walk along one range, as the code reads the entries ──
-pub tiled-one : {l o : List ℕ} {p n i lo hi : ℕ} {r : Rights} {x y : ℕ} → InOrder l o p n → Tiled (rowOf l o p) n i lo hi r x → Tiled (rowOf l o p) n i lo hi r y → x ≡ y
-tiled-one h = row-one (row-line h) (row-ends h)
+pub tile-one : {l o : List ℕ} {p n i lo hi : ℕ} {r : Rights} {b : Bool} {x y : ℕ} → InOrder l o p n
+    → TiledAs (rowOf l o p) (bitOf l o p) n i lo hi r b x → TiledAs (rowOf l o p) (bitOf l o p) n i lo hi r b y → x ≡ y
+tile-one h = as-one (row-line h) (row-ends h)
+
+pub line-one : {l o : List ℕ} {p n i lo hi : ℕ} {r : Rights} {x y : ℕ} → InOrder l o p n → Tiled (plainRow l o p) n i lo hi r x → Tiled (plainRow l o p) n i lo hi r y → x ≡ y
+line-one h = row-one (row-line h) (row-ends h)
 
 module _ {l o : List ℕ} {p n i k lo hi at : ℕ} {r : Rights} (h : InOrder l o p n) (inv : Tiling (rowOf l o p) i k lo hi at r) where
   no-place : at < hi → (Fits (rowOf l o p) n i k hi at r → ⊥) → Tiled (rowOf l o p) n i lo hi r 33
@@ -451,37 +567,85 @@ module _ {l o : List ℕ} {p q n m : ℕ} (h : ChildOf l o p q n m) where
             rw (← z, ← w) (ex .equal a d b c k r (rw s (x .given)) (near a e z (x .around)) (near d f w (y .around)));
       }))
 
+  -- the open bits of the grants, as a test
+  bits-child : grantsOpen (view l) p ≡ true → Bits (rowOf l o p) (bitOf l o p) n (rowOf l o q) (bitOf l o q) m p
+  bits-child w = record {
+    says = λ b c g.
+        let (to, back) = grants-open-means l p (h .other) .0 w _ _ (of-q _ _ (row-at (h .above) b c)) g in
+        let is : view l .opened (view l .k .parent p) (placed o q b) ≡ bitOf l o q b = ap (λ (q′ : ℕ). view l .opened q′ (placed o q b)) (h .up) in (
+          λ z a d u. to (is ∙ z) _ _ (row-at (h .own) a d) u,
+          λ f. sym is ∙ back (λ i e v u.
+              let (a, d, z) = row-every-at (h .own) i e v in
+              ap (view l .opened p) (sym (z .1)) ∙ f a d (subst (λ (e : Entry). Around e (rowOf l o q b)) (sym (z .0)) u)),
+        );
+  }
+
+  child-bits : Bits (rowOf l o p) (bitOf l o p) n (rowOf l o q) (bitOf l o q) m p → grantsOpen (view l) p ≡ true
+  child-bits bits = grants-open-means l p (h .other) .1 (λ j f u g.
+      let (b, c, z) = row-every-at (h .above) j f (to-q j f u) in
+      let (to, back) = bits .says b c (subst (λ (f : Entry). f .given ≡ p) (sym (z .0)) g) in
+      let is : view l .opened (view l .k .parent p) j ≡ bitOf l o q b = ap (λ (q′ : ℕ). view l .opened q′ j) (h .up) ∙ ap (view l .opened q) (sym (z .1)) in (
+        λ w i e v x.
+            let (a, d, y) = row-every-at (h .own) i e v in
+            ap (view l .opened p) (sym (y .1)) ∙ to (sym is ∙ w) a d (subst (λ (f : Entry). Around (rowOf l o p a) f) (sym (z .0)) (subst (λ (e : Entry). Around e f) (sym (y .0)) x)),
+        λ all. is ∙ back (λ a d v. all _ _ (row-at (h .own) a d) (subst (Around (rowOf l o p a)) (z .0) v)),
+      ))
+
   two-rows : TwoRows (rowOf l o p) n (rowOf l o q) m
   two-rows = record { line = row-line (h .own); ends = row-ends (h .own); grants = row-ends (h .above) }
 
   -- ── its walk, as the code reads the entries ──
   pub walk-start : Walked l o p q n m 0 0
-  walk-start = record { few = omega arith; far = omega arith; exact = exact-start }
+  walk-start = record { few = omega arith; far = omega arith; exact = exact-start; bits = bits-start }
 
   module _ {i j : ℕ} (inv : Walked l o p q n m i j) where
-    pub walk-end : m ≤ j → eqb i n ≡ exactly (view l .k) p && s11 (view l .k) p
+    says : exactly (view l .k) p && s11 (view l .k) p && grantsOpen (view l) p ≡ true → (exactly (view l .k) p && s11 (view l .k) p ≡ true) × (grantsOpen (view l) p ≡ true)
+    says w = and-says (exactly (view l .k) p && s11 (view l .k) p) (grantsOpen (view l) p) w
+
+    pub walk-end : m ≤ j → eqb i n ≡ exactly (view l .k) p && s11 (view l .k) p && grantsOpen (view l) p
     walk-end c = go (ℕ-discrete i n)
       where
-        go : Dec (i ≡ n) → eqb i n ≡ exactly (view l .k) p && s11 (view l .k) p
-        go (yes e) = let z : m ≡ j = omega (arith, inv .far) in eq-eqb i n e ∙ sym (exact-child (rw (← e, z) (inv .exact)))
-        go (no e) = ne-eqb i n e ∙ never _ (λ w. exact-short two-rows (inv .exact) (inv .few) c (omega (arith, inv .few)) (child-exact w))
+        go : Dec (i ≡ n) → eqb i n ≡ exactly (view l .k) p && s11 (view l .k) p && grantsOpen (view l) p
+        go (yes e) =
+            let z : m ≡ j = omega (arith, inv .far) in
+            eq-eqb i n e ∙ sym (and-true _ _ (exact-child (rw (← e, z) (inv .exact))) (child-bits (rw (← e, z) (inv .bits))))
+        go (no e) = ne-eqb i n e ∙ never _ (λ w. exact-short two-rows (inv .exact) (inv .few) c (omega (arith, inv .few)) (child-exact (says w .0)))
 
     module _ {f : SlotFields} (next : j < m) (v : Seen l q (placed o q j) f) where
       read : Same (rowOf l o q j) (entryOf f)
       read = row-seen (h .above) next v
 
       pub walk-skip : (f .given .0 ≡ p → ⊥) → Walked l o p q n m i (j + 1)
-      walk-skip no-grant = record { few = inv .few; far = omega arith; exact = exact-skip (inv .exact) (λ g. no-grant (sym (read .given) ∙ g)) }
+      walk-skip no-grant = record {
+        few = inv .few;
+        far = omega arith;
+        exact = exact-skip (inv .exact) (λ g. no-grant (sym (read .given) ∙ g));
+        bits = bits-skip (inv .bits) (λ g. no-grant (sym (read .given) ∙ g));
+      }
 
-      module _ {x : ℕ} (given : f .given .0 ≡ p) (t : Tiled (rowOf l o p) n i (f .start .0) (f .end .0) (f .rights) x) where
-        tiled : Tiled (rowOf l o p) n i (rowOf l o q j .start) (rowOf l o q j .stop) (rowOf l o q j .rights) x
-        tiled = rw (read .start, read .stop, read .rights) t
+      module _ {x : ℕ} (given : f .given .0 ≡ p) (t : TiledAs (rowOf l o p) (bitOf l o p) n i (f .start .0) (f .end .0) (f .rights) (f .opened) x) where
+        tiled : TiledAs (rowOf l o p) (bitOf l o p) n i (rowOf l o q j .start) (rowOf l o q j .stop) (rowOf l o q j .rights) (bitOf l o q j) x
+        tiled = rw (read .start, read .stop, read .rights, v .opened) t
 
         pub walk-on : x ≤ n → Walked l o p q n m x (j + 1)
-        walk-on few = record { few = few; far = omega arith; exact = exact-on two-rows (inv .exact) (inv .few) next (read .given ∙ given) few tiled }
+        walk-on few = go tiled
+          where
+            go : TiledAs (rowOf l o p) (bitOf l o p) n i (rowOf l o q j .start) (rowOf l o q j .stop) (rowOf l o q j .rights) (bitOf l o q j) x → Walked l o p q n m x (j + 1)
+            go (alike u f) = record {
+              few = few;
+              far = omega arith;
+              exact = exact-on two-rows (inv .exact) (inv .few) next (read .given ∙ given) few u;
+              bits = bits-on two-rows (inv .exact) (inv .few) next (inv .bits) few u (f few);
+            }
+            go (unlike k at b z _ _ _ _) = absurd (omega arith)
 
-        pub walk-stuck : n < x → false ≡ exactly (view l .k) p && s11 (view l .k) p
-        walk-stuck beyond = never _ (λ w. exact-stuck two-rows (inv .exact) (inv .few) next (read .given ∙ given) beyond tiled (child-exact w))
+        pub walk-stuck : n < x → false ≡ exactly (view l .k) p && s11 (view l .k) p && grantsOpen (view l) p
+        walk-stuck beyond = never _ (λ w. go tiled (says w))
+          where
+            go : TiledAs (rowOf l o p) (bitOf l o p) n i (rowOf l o q j .start) (rowOf l o q j .stop) (rowOf l o q j .rights) (bitOf l o q j) x
+                → (exactly (view l .k) p && s11 (view l .k) p ≡ true) × (grantsOpen (view l) p ≡ true) → ⊥
+            go (alike u _) (w, _) = exact-stuck two-rows (inv .exact) (inv .few) next (read .given ∙ given) beyond u (child-exact w)
+            go (unlike k at b z le far u differs) (_, w) = bits-unlike two-rows (inv .exact) (inv .few) next (read .given ∙ given) le far u differs (bits-child w)
 
 -- ── the root's entries, and base to end as one that it was given ──
 abbrev pub whole : List ℕ → ℕ → ℕ → Entry
@@ -519,43 +683,6 @@ module _ {l o : List ℕ} {p n : ℕ} (h : InOrder l o p n) (root : p ≡ 0) whe
             let (a, c, v) = lies .cover 0 (omega arith) refl i (record { from = t .0; to = t .1 }) in
             record { i = placed o p a; e = rowOf l o p a; at = row-at h a c; holds = v },
       )))
-
-  root-exact : exactly (view l .k) p && s11 (view l .k) p ≡ true → Exact (rowOf l o p) n (whole l p) 1 p
-  root-exact w =
-      let (y, s) = and-says (exactly (view l .k) p) (s11 (view l .k) p) w in
-      let full = s11-means l p (h .inP) .0 s .root root in
-      let lies = root-lies y in
-      record {
-        inside = lies .inside;
-        cover = lies .cover;
-        rights = λ a b c d g v. within-means (rowOf l o p a .rights) allRights .1 (record { read = λ _. refl; write = λ _. refl; execute = λ _. refl });
-        equal = λ a c b d e _ _ _ _. full _ _ (row-at h a d) ∙ sym (full _ _ (row-at h c e));
-      }
-
-  exact-root : Exact (rowOf l o p) n (whole l p) 1 p → exactly (view l .k) p ≡ true
-  exact-root ex = lies-root (record { inside = ex .inside; cover = ex .cover })
-
-  one-row : TwoRows (rowOf l o p) n (whole l p) 1
-  one-row = record { line = row-line h; ends = row-ends h; grants = λ a b c d. absurd (omega arith) }
-
-  -- ── the exits of its test ──
-  pub root-lacks : all 32 (fullSlot (view l .k) p) ≡ false → false ≡ exactly (view l .k) p && s11 (view l .k) p
-  root-lacks w = never _ (λ q. false≢true (sym w ∙ sym (rights-root (view l .k) p root) ∙ and-says (exactly (view l .k) p) (s11 (view l .k) p) q .1))
-
-  pub root-end : {x : ℕ} → all 32 (fullSlot (view l .k) p) ≡ true → Tiled (rowOf l o p) n 0 (view l .k .base) (view l .k .stop) allRights x
-      → eqb x n ≡ exactly (view l .k) p && s11 (view l .k) p
-  root-end {x} w t = go (ℕ-discrete x n) (decLt n x)
-    where
-      start : Exact (rowOf l o p) 0 (whole l p) 0 p
-      start = exact-start
-
-      on : x ≤ n → Exact (rowOf l o p) x (whole l p) 1 p
-      on few = exact-on one-row start (omega arith) (omega arith) refl few t
-
-      go : Dec (x ≡ n) → Dec (n < x) → eqb x n ≡ exactly (view l .k) p && s11 (view l .k) p
-      go (yes e) _ = eq-eqb x n e ∙ sym (and-true _ _ (exact-root (subst (λ (x : ℕ). Exact (rowOf l o p) x (whole l p) 1 p) e (on (omega arith)))) (rights-root (view l .k) p root ∙ w))
-      go (no e) (yes c) = ne-eqb x n e ∙ never _ (λ q. exact-stuck one-row start (omega arith) (omega arith) refl c t (root-exact q))
-      go (no e) (no c) = ne-eqb x n e ∙ never _ (λ q. exact-short one-row (on (omega arith)) (omega arith) (omega arith) (omega arith) (root-exact q))
 
 -- ── what the walks need, from what is known of the table ──
 module _ {l o c : List ℕ} (shaped : Shaped l) (orders : Orders (view l .k) o c) where

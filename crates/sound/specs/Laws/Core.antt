@@ -166,20 +166,25 @@ core-s7 {t} h p s9 = record {
       };
 }
 
+-- S8, from what each area is and that no two share a line
+pub backed-s8 : {k : K} → ((p j : ℕ) (a : Area) → k .area p j ≡ some a → (Rooted p j → ⊥) → Backed (k .slot) (k .parent) p j a)
+    → ((p j q i : ℕ) (a b : Area) (l : ℕ) → k .area p j ≡ some a → k .area q i ≡ some b → InA l a → InA l b → (p ≡ q) × (j ≡ i)) → (p : ℕ) → S8 k p
+backed-s8 {k} backed apart p = record {
+  header = λ n a u. ⊎-elim (λ o. absurd (omega (arith, o .0))) (λ e. e) (whose (backed p 0 a u (λ r. n (r .0))));
+  structure = λ j a u n. ⊎-elim (λ o. inl (o .1)) inr (whose (backed p (1 + j) a u n));
+  apart = λ j q i a b l _. apart p j q i a b l;
+}
+  where
+    whose : {j : ℕ} {a : Area} → Backed (k .slot) (k .parent) p j a → ((0 < j) × Equals k p a) ⊎ Equals k (k .parent p) a
+    whose {j} {a} b = go (b .who) (record { i = b .i; e = b .e; at = b .at; free = b .free; lo = b .lo; hi = b .hi })
+      where
+        go : (b .q ≡ k .parent p) ⊎ ((b .q ≡ p) × (0 < j)) → Equals k (b .q) a → ((0 < j) × Equals k p a) ⊎ Equals k (k .parent p) a
+        go (inl z) e = inr (rw z at e)
+        go (inr z) e = inl (z .1, rw (z .0) at e)
+
 module _ {k : K} (h : Core k) where
   core-s8 : (p : ℕ) → S8 k p
-  core-s8 p = record {
-    header = λ n a u. ⊎-elim (λ o. absurd (omega (arith, o .0))) (λ e. e) (whose (h .s8 p 0 a u (λ r. n (r .0))));
-    structure = λ j a u n. ⊎-elim (λ o. inl (o .1)) inr (whose (h .s8 p (1 + j) a u n));
-    apart = λ j q i a b l _. h .s8-apart p j q i a b l;
-  }
-    where
-      whose : {j : ℕ} {a : Area} → Backed (k .slot) (k .parent) p j a → ((0 < j) × Equals k p a) ⊎ Equals k (k .parent p) a
-      whose {j} {a} b = go (b .who) (record { i = b .i; e = b .e; at = b .at; free = b .free; lo = b .lo; hi = b .hi })
-        where
-          go : (b .q ≡ k .parent p) ⊎ ((b .q ≡ p) × (0 < j)) → Equals k (b .q) a → ((0 < j) × Equals k p a) ⊎ Equals k (k .parent p) a
-          go (inl z) e = inr (rw z at e)
-          go (inr z) e = inl (z .1, rw (z .0) at e)
+  core-s8 = backed-s8 (h .s8) (h .s8-apart)
 
   -- only one entry of the parent holds an entry's first line
   one-around : (p i j : ℕ) (e f : Entry) (n : p ≡ 0 → ⊥) (u : k .slot p i ≡ some e) → Granted k p e j f → h .s7-in p i e u n .i ≡ j

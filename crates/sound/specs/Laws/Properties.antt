@@ -14,6 +14,8 @@ use Rattle.sound.specs.Sound.{Present, S9, Loaded, Sound}
 use Rattle.sound.specs.Laws.Sound.{s9-all, loaded-all}
 use Rattle.sound.specs.Core.{Core}
 use Rattle.sound.specs.Laws.Core.{sound-core, core-sound}
+use Rattle.sound.specs.Laws.Grants.{core-grants, root-above}
+use Rattle.sound.specs.Laws.Grants as grants
 use Rattle.sound.specs.Properties.{Accessible, Isolated, EqualRights, Above, itself, higher}
 
 -- ── the properties ──
@@ -24,24 +26,12 @@ region-lines h p r i e l u v x =
     record { i = i; e = e; entry = record { at = v; opened = o .opened }; holds = x }
 
 -- ── lines and the tree ──
-pub root-above : {up : ℕ → ℕ} {n p : ℕ} → Reaches up n p → Above up 0 p
-root-above (at-root z) = itself z
-root-above (by-step r) = higher (root-above r)
-
 module _ {k : K} (h : Core k) where
   pub parent-holds : {c l : ℕ} → (c ≡ 0 → ⊥) → Holds (k .slot) c l → Holds (k .slot) (k .parent c) l
-  parent-holds {c} n u =
-      let a = h .s7-in c (u .i) (u .e) (u .at) n in
-      record { i = a .i; e = a .f; at = a .at; holds = omega arith }
+  parent-holds = grants.parent-holds (core-grants h)
 
-  -- two that have one parent and hold one line are one
   pub siblings-one : {c d l : ℕ} → (c ≡ 0 → ⊥) → (d ≡ 0 → ⊥) → k .parent c ≡ k .parent d → Holds (k .slot) c l → Holds (k .slot) d l → c ≡ d
-  siblings-one {c} {d} {l} m n p u v =
-      let a = h .s7-in c (u .i) (u .e) (u .at) m in
-      let b = h .s7-in d (v .i) (v .e) (v .at) n in
-      let w : k .slot (k .parent c) (b .i) ≡ some (b .f) = rw p (b .at) in
-      let i : a .i ≡ b .i = h .s6 (k .parent c) (a .i) (b .i) (a .f) (b .f) l (a .at) w (omega arith) (omega arith) in
-      sym (a .given) ∙ same-at (k .slot (k .parent c) (b .i)) (rw i at (a .at)) w .given ∙ b .given
+  siblings-one = grants.siblings-one (core-grants h)
 
   -- what a partition holds every one above it holds
   pub above-holds : {p q l : ℕ} → Above (k .parent) q p → Holds (k .slot) p l → Holds (k .slot) q l
@@ -53,7 +43,7 @@ module _ {k : K} (h : Core k) where
       go (no n) f = f (parent-holds n u)
 
   pub holder-present : {p l : ℕ} → Holds (k .slot) p l → Present k p
-  holder-present {p} u = let (a, v) = h .s5 p (u .i) (u .e) (u .at) in h .s2-absent p _ a v
+  holder-present = grants.holder-present (core-grants h)
 
   pub root-holds : {p l : ℕ} → Holds (k .slot) p l → Holds (k .slot) 0 l
   root-holds {p} u = above-holds (root-above (h .s2-climb p (holder-present u))) u

@@ -1,6 +1,6 @@
 -- The stages one after the other: each exit of the loops over the tests, and what a stage knows from those before it.
 use mathlib.Core.Path.{_≡_, refl, ap, sym, _∙_}
-use mathlib.Core.Bool.{Bool, true, false, not, _&&_, _||_}
+use mathlib.Core.Bool.{Bool, true, false, not, _&&_, _||_, and-true as and-unit}
 use mathlib.Core.Logic.{inl, inr}
 use mathlib.Core.List.{List}
 use Prim.Native.Nat.{ℕ, _+_, _-_, _*_, _/_, _%_, _≤_, _<_}
@@ -14,31 +14,31 @@ use Rattle.loops.specs.Every.{all}
 use Rattle.loops.specs.Laws.Every.{all-of}
 use Rattle.loops.specs.Laws.Scan.{Sought, seek-law, seek-first, seek-none}
 use Rattle.shapes.specs.declared.Board.{Board}
-use Rattle.tables.specs.State.{K}
 use Rattle.tables.specs.View.{view}
 use Rattle.tables.specs.Search.{present}
 use Rattle.tables.specs.ZeroRecord.{zeroRecord}
 use Rattle.memory.specs.Bytes.{wordsOf}
-use Rattle.settling.specs.Areas.{AreasOf, Parted}
-use Rattle.sound.specs.Clauses.{clauseAt, s3First, s3, s6, s7Given, s7Whole, s7, s8Backed, s8Apart, s8, s9, s11}
+use Rattle.sound.specs.Clauses.{clauseAt, s3First, s3, s6, s7Given, s7Whole, s7, s11}
 use Rattle.sound.specs.Laws.Tests.{and-says, and-true}
 use Rattle.sound.specs.Laws.List.{lower-passed}
+use Rattle.sound.specs.Laws.MeansRegions.{s9-means}
+use Rattle.sound.specs.Sound.{Present, S9}
+use Rattle.tables.specs.Laws.View.{slot-bounds}
+use Rattle.decide.specs.Local.{grantsOpen}
+use Rattle.decide.specs.Laws.Granted.{SevenSays, five, here, grants-open}
 use Rattle.shape.specs.AtOnce.{shapeAt, Shaped}
-use Rattle.shape.specs.Laws.Absent.{absent-s7, absent-s9, absent-s11}
-use Rattle.shape.specs.Laws.AtOnce.{areasApart, shaped-s2}
+use Rattle.shape.specs.Laws.Absent.{absent-s7, absent-s11}
+use Rattle.shape.specs.Laws.AtOnce.{shaped-s2}
 use Rattle.decide.specs.Arrange.{Arranged}
-use Rattle.decide.specs.Backing.{nextApart}
-use Rattle.decide.specs.Decide.{CanDecide}
 use Rattle.decide.specs.Entries.{exactly}
-use Rattle.decide.specs.Laws.Backing.{apart-said}
-use Rattle.decide.specs.Laws.Decide.{absent-zero, and-is}
+use Rattle.decide.specs.Laws.Decide.{absent-zero}
 use Rattle.decide.specs.Laws.Entries.{s7-parts}
 use Rattle.decide.specs.Order.{Orders}
 use Rattle.verdict.specs.declared.Verdict.{Verdict}
 use Rattle.verdict.specs.declared.Verdict.the-variants.{Accepted, Length}
 use Rattle.verdict.specs.Verdict.{failsAt, failing, verdict, imageVerdict}
 use Rattle.verdict.specs.Laws.Names.{none-lower, lower-none}
-use Rattle.verdict.specs.Stages.{lowestOf, saidOf, Reached, Sorted}
+use Rattle.verdict.specs.Stages.{Before11, lowestOf, saidOf, Reached}
 
 -- ── the loops over the tests ──
 -- none before number m fails
@@ -141,21 +141,27 @@ module _ {board : Board} {l : List ℕ} {n : ℕ} (h : Reached board l n) where
   unfolding clauseAt
   reached-s7 b p c = tests 7 (omega arith) (omega arith) p c
 
-  pub reached-apart : 9 ≤ n → areasApart (view l .k) ≡ true
-  unfolding clauseAt areasApart s8
-  reached-apart b = all-of 16 (λ p. all 5 (s8Apart (view l .k) p)) (λ p c. and-says (all 5 (s8Backed (view l .k) p)) (all 5 (s8Apart (view l .k) p)) (tests 8 (omega arith) (omega arith) p c) .1)
+  -- the walk along what p was given knows S9
+  pub reached-before : 11 ≤ n → (p : ℕ) → p < 16 → Before11 (view l) p
+  unfolding clauseAt
+  reached-before b p c = record {
+    s7 = reached-s7 (omega arith) p c;
+    opens = λ _. grants-open shaped (reached-s6 (omega arith)) seven nine p;
+  }
+    where
+      shaped : Shaped l
+      shaped = reached-shaped (omega arith)
 
--- all that the walks ask: the areas share no line
-pub reached-decide : {board : Board} {l o c : List ℕ} {k : ℕ} {s e : List ℕ} {n : ℕ} → Reached board l n → 9 ≤ n → Sorted board l o c k s e → CanDecide l o c k s e
-reached-decide {l} {k = k} {s} {e} h b g =
-    let said = apart-said (g .areas) {r = nextApart k s e} refl in
-    record {
-      shaped = reached-shaped h (omega arith);
-      areas = g .areas;
-      parted = said .parted (said .says ∙ reached-apart h b);
-      s6 = reached-s6 h (omega arith);
-      orders = g .orders;
-    }
+      seven : (q : ℕ) → Present (view l .k) q → SevenSays (view l .k) q
+      seven q a =
+          let (d, there) = here l q a in
+          let (x, y) = and-says (s7Given (view l .k) q && s7Whole (view l) q) (exactly (view l .k) q) (sym (s7-parts (view l) q there) ∙ reached-s7 (omega arith) q d) in
+          record { children = and-says (s7Given (view l .k) q) (s7Whole (view l) q) x .0; exact = y }
+
+      nine : (q : ℕ) → S9 (view l) q
+      nine q i e u =
+          let d = slot-bounds l q i e u .0 in
+          s9-means l (five shaped) q d .0 (tests 9 (omega arith) (omega arith) q d) i e u
 
 -- the entries were put in order, since S6 holds
 pub arranged-orders : {board : Board} {l o c : List ℕ} {r : Bool} → Reached board l 7 → Arranged (view l .k) r o c → Orders (view l .k) o c
@@ -168,9 +174,6 @@ module _ {l : List ℕ} (p : ℕ) {r : Bool} (shaped : Shaped l) (b : p < 16) (e
 
   pub s7-absent : true ≡ s7 (view l) p
   s7-absent = sym (absent-s7 l p (zero .1) (zero .0))
-
-  pub s9-absent : true ≡ s9 (view l) p
-  s9-absent = sym (absent-s9 l p (zero .1))
 
   pub s11-absent : true ≡ s11 (view l .k) p
   s11-absent = sym (absent-s11 l p (zero .1) (zero .0))
@@ -187,8 +190,8 @@ module _ (l : List ℕ) (p : ℕ) {r g : Bool} (there : r ≡ present (view l .k
   exact-decides q e = e ∙ sym (parts ∙ rw (← given, not-false g q) refl)
 
 -- ── S11 of one ──
--- the walk tells S7 and S11, and S7 holds
-pub rights-decide : (l : List ℕ) (p : ℕ) {x : Bool} → present (view l .k) p ≡ true → s7 (view l) p ≡ true → x ≡ exactly (view l .k) p && s11 (view l .k) p → x ≡ s11 (view l .k) p
+-- the walk tells S7, S11 and the open bits, and all but S11 hold
+pub rights-decide : (l : List ℕ) (p : ℕ) {x : Bool} → present (view l .k) p ≡ true → Before11 (view l) p → x ≡ exactly (view l .k) p && s11 (view l .k) p && grantsOpen (view l) p → x ≡ s11 (view l .k) p
 rights-decide l p here h e =
-    let (_, y) = and-says (s7Given (view l .k) p && s7Whole (view l) p) (exactly (view l .k) p) (sym (s7-parts (view l) p here) ∙ h) in
-    e ∙ sym (and-is (exactly (view l .k) p) (s11 (view l .k) p) y)
+    let (_, y) = and-says (s7Given (view l .k) p && s7Whole (view l) p) (exactly (view l .k) p) (sym (s7-parts (view l) p here) ∙ h .s7) in
+    e ∙ rw (y, h .opens here) (and-unit (s11 (view l .k) p))

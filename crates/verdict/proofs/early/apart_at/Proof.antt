@@ -1,4 +1,5 @@
 use mathlib.Core.Path.{refl}
+use Rattle.decide.specs.Laws.Arrange.{rowed-says}
 use borrow.Author.Needs.{needs}
 use Rattle.verdict.proofs.early.apart_at.Statement.{statement}
 use Rattle.verdict.proofs.early.apart_at.Tie as tie
@@ -7,6 +8,5 @@ pub apart-at-spec : {M : Type 1} → statement M
 apart-at-spec =
     tie.close
     (tie.spec
-    (λ c κs. (c .before .pre .0, c .before .pre .1, refl))
-    (λ c κs. let d = c .before .before .before in record { inP = d .pre .0; shaped = d .pre .1; ordered = c .before .arrange-record .ensures .ordered })
-    (λ c. c .in-row .ensures .says))
+    (λ c κs. let d = c .before in (d .pre .0, d .pre .1, refl))
+    (λ c. rowed-says (c .arrange-record .ensures)))

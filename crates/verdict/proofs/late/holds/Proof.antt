@@ -1,7 +1,7 @@
 use mathlib.Core.Path.{_≡_}
 use native.Mathlib.Omega.{arith}
 use Rattle.sound.specs.Clauses.{clauseAt}
-use Rattle.verdict.specs.Laws.Stages.{reached-shaped, reached-s7, reached-decide}
+use Rattle.verdict.specs.Laws.Stages.{reached-shaped, reached-before}
 use borrow.Author.Needs.{needs}
 use Rattle.verdict.proofs.late.holds.Statement.{statement}
 use Rattle.verdict.proofs.late.holds.Tie as tie
@@ -15,9 +15,9 @@ holds-spec =
     (λ c. let z : c .before .before .args .k ≡ 7 = omega arith in rw z (c .exact-at .ensures))
     (λ c κs. let h = c .before .before .pre in (h .0, reached-shaped (h .2) (omega arith)))
     (λ c. let z : c .before .before .before .args .k ≡ 8 = omega arith in rw z (c .owned-at .ensures))
-    (λ c κs. let h = c .before .before .before .pre in (h .0, reached-decide (h .2) (omega arith) (h .3)))
+    (λ c κs. let h = c .before .before .before .pre in (h .0, reached-shaped (h .2) (omega arith), h .3 .areas))
     (λ c. let z : c .before .before .before .before .args .k ≡ 9 = omega arith in rw z (c .opens-at .ensures))
     (λ c κs. search needs)
     (λ c. let z : c .before .before .before .before .before .args .k ≡ 10 = omega arith in rw z (c .regions-right .ensures))
-    (λ c κs. let h = c .before .before .before .before .pre in (h .0, reached-shaped (h .2) (omega arith), h .3 .orders, reached-s7 (h .2) (omega arith) _ (h .0)))
+    (λ c κs. let h = c .before .before .before .before .pre in (h .0, reached-shaped (h .2) (omega arith), h .3 .orders, reached-before (h .2) (omega arith) _ (h .0)))
     (λ c. let z : c .before .before .before .before .before .args .k ≡ 11 = omega (arith, c .before .before .before .before .before .pre .2 .to) in rw z (c .rights-at .ensures)))

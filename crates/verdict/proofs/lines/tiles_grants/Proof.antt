@@ -18,7 +18,7 @@ tiles-grants-spec =
     (λ c.
     let e = c .before .before .before .before .before in
     let d = e .before .before in
-    walk-stuck (d .before .pre) (d .loop .inv) (omega arith) (e .entry-at .ensures) (c .before .before .if1 .taken) (c .before .tile .ensures) (omega arith))
+    walk-stuck (d .before .pre) (d .loop .inv) (omega arith) (e .entry-at .ensures) (c .before .before .if1 .taken) (c .before .tile-lines .ensures) (omega arith))
     (λ c. search needs)
     (λ c. search needs)
     (λ c.

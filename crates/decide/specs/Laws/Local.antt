@@ -1,0 +1,156 @@
+-- What these tests say, and what each exit of the pass gives.
+use mathlib.Core.Path.{_≡_, refl, sym, _∙_}
+use mathlib.Core.Bool.{Bool, true, false, cond, not, _&&_, _||_, Bool·beq}
+use mathlib.Core.List.{List}
+use mathlib.Core.Logic.{_↔_}
+use Prim.Native.Nat.{ℕ, _+_, _*_, _≤_, _<_}
+use native.Mathlib.Decide.{ℕ-discrete}
+use lib.Dec.{leb, eqb}
+use lib.ListN.{getD}
+use borrow.Author.Tests.{eqb-true, eq-eqb, ne-eqb, leb-true, le-leb}
+use Rattle.loops.specs.Every.{all}
+use Rattle.loops.specs.Laws.Every.{bool-ext}
+use Rattle.shapes.specs.declared.Board.{Board}
+use Rattle.tables.specs.State.{some, Entry, Table}
+use Rattle.tables.specs.View.{view}
+use Rattle.tables.specs.Laws.View.{slot-bounds}
+use Rattle.tables.specs.Search.{child, present}
+use Rattle.sound.specs.Sound.{Around}
+use Rattle.sound.specs.Clauses.{when, undivided, s10, s11}
+use Rattle.sound.specs.Laws.Tests.{and-says, and-true, then-says, then-true, every-says, every-true}
+use Rattle.sound.specs.Laws.MeansRegions.{beq-means}
+use Rattle.decide.specs.Used.{Bound}
+use Rattle.decide.specs.Entries.{exactly}
+use Rattle.decide.specs.Local.{entryRight, openInside, grantsOpen, localAt, localWhere}
+use Rattle.decide.specs.Laws.Decide.{never, failed, passed, and-is}
+
+-- ── what they say ──
+module _ (l : List ℕ) (p : ℕ) where
+  abbrev lies : Entry → Entry → Bool
+  lies f e = leb (f .start) (e .start) && leb (e .stop) (f .stop)
+
+  open-inside-means : (f : Entry) → (openInside (view l) p f ≡ true) ↔ ((i : ℕ) (e : Entry) → view l .k .slot p i ≡ some e → Around e f → view l .opened p i ≡ true)
+  unfolding openInside
+  open-inside-means f = (
+    λ q i e u o.
+        then-says (lies f e) (view l .opened p i)
+        (every-says 32 (λ i e. not (lies f e) || view l .opened p i) (view l .k .slot p) q i e (slot-bounds l p i e u .1) u)
+        (and-true _ _ (le-leb _ _ (o .from)) (le-leb _ _ (o .to))),
+    λ h. every-true 32 (λ i e. not (lies f e) || view l .opened p i) (view l .k .slot p) (λ i e b u. then-true (lies f e) (view l .opened p i) (λ z.
+        let (x, y) = and-says (leb (f .start) (e .start)) (leb (e .stop) (f .stop)) z in
+        h i e u (record { from = leb-true _ _ x; to = leb-true _ _ y }))),
+  )
+
+  abbrev up : ℕ
+  up = view l .k .parent p
+
+  abbrev asOpen : ℕ → Entry → Bool
+  asOpen j f = Bool·beq (view l .opened up j) (openInside (view l) p f)
+
+  pub grants-open-means : (p ≡ 0 → ⊥) → (grantsOpen (view l) p ≡ true)
+      ↔ ((j : ℕ) (f : Entry) → view l .k .slot (view l .k .parent p) j ≡ some f → f .given ≡ p
+      → (view l .opened (view l .k .parent p) j ≡ true) ↔ ((i : ℕ) (e : Entry) → view l .k .slot p i ≡ some e → Around e f → view l .opened p i ≡ true))
+  unfolding grantsOpen
+  grants-open-means n = rw (ne-eqb p 0 n) (
+    λ q j f u g.
+        let w = then-says (eqb (f .given) p) (asOpen j f) (every-says 32 (λ j f. not (eqb (f .given) p) || asOpen j f) (view l .k .slot up) q j f (slot-bounds l up j f u .1) u) (eq-eqb _ _ g) in
+        let e = beq-means (view l .opened up j) (openInside (view l) p f) .0 w in
+        let (to, back) = open-inside-means f in
+        (λ z. to (sym e ∙ z), λ h. e ∙ back h),
+    λ h. every-true 32 (λ j f. not (eqb (f .given) p) || asOpen j f) (view l .k .slot up) (λ j f b u. then-true (eqb (f .given) p) (asOpen j f) (λ g.
+        let (x, y) = h j f u (eqb-true _ _ g) in
+        let (to, back) = open-inside-means f in
+        beq-means (view l .opened up j) (openInside (view l) p f) .1 (bool-ext _ _ (λ z. back (x z)) (λ z. y (to z))))),
+  )
+
+  -- the root was given nothing
+  pub root-open : p ≡ 0 → grantsOpen (view l) p ≡ true
+  unfolding grantsOpen
+  root-open z = rw (eq-eqb p 0 z) refl
+
+-- ── the parts of the pass ──
+module _ (b : Board) (t : Table) (m : List ℕ) (p : ℕ) where
+  pub record LocalSays : Type 0 where
+    pub entries : all 32 (entryRight t m p) ≡ true
+    pub exact : exactly (t .k) p ≡ true
+    pub s11 : s11 (t .k) p ≡ true
+    pub opens : grantsOpen t p ≡ true
+    pub s10 : s10 b t p ≡ true
+
+  pub local-says : localAt b t m p ≡ true → LocalSays
+  unfolding localAt
+  local-says q =
+      let (a, z) = and-says (all 32 (entryRight t m p) && (exactly (t .k) p && s11 (t .k) p && grantsOpen t p)) (s10 b t p) q in
+      let (e, d) = and-says (all 32 (entryRight t m p)) (exactly (t .k) p && s11 (t .k) p && grantsOpen t p) a in
+      let (c, o) = and-says (exactly (t .k) p && s11 (t .k) p) (grantsOpen t p) d in
+      let (x, y) = and-says (exactly (t .k) p) (s11 (t .k) p) c in
+      record { entries = e; exact = x; s11 = y; opens = o; s10 = z }
+
+  pub local-true : LocalSays → localAt b t m p ≡ true
+  unfolding localAt
+  local-true h = and-true _ _ (and-true _ _ (h .entries) (and-true _ _ (and-true _ _ (h .exact) (h .s11)) (h .opens))) (h .s10)
+
+  -- ── its exits ──
+  pub no-entries : {r : Bool} → r ≡ all 32 (entryRight t m p) → not r ≡ true → false ≡ localAt b t m p
+  no-entries e n = never (localAt b t m p) (λ q. failed e n (local-says q .entries))
+
+  pub no-cover : {r : Bool} → r ≡ exactly (t .k) p && s11 (t .k) p && grantsOpen t p → not r ≡ true → false ≡ localAt b t m p
+  no-cover e n = never (localAt b t m p) (λ q. let h = local-says q in failed e n (and-true _ _ (and-true _ _ (h .exact) (h .s11)) (h .opens)))
+
+  pub local-last : {a d c : Bool} → a ≡ all 32 (entryRight t m p) → not a ≡ false → d ≡ exactly (t .k) p && s11 (t .k) p && grantsOpen t p → not d ≡ false → c ≡ s10 b t p → c ≡ localAt b t m p
+  unfolding localAt
+  local-last x u y v z = z ∙ and-is _ (s10 b t p) (and-true _ _ (passed x u) (passed y v))
+
+  -- an absent partition has nothing to test
+  pub where-absent : present (t .k) p ≡ false → true ≡ localWhere b t m p
+  unfolding localWhere
+  where-absent n = rw n refl
+
+  pub where-present : {r : Bool} → present (t .k) p ≡ true → r ≡ localAt b t m p → r ≡ localWhere b t m p
+  unfolding localWhere
+  where-present n e = rw n e
+
+  pub where-says : localWhere b t m p ≡ true → present (t .k) p ≡ true → localAt b t m p ≡ true
+  unfolding localWhere
+  where-says q n = then-says (present (t .k) p) (localAt b t m p) q n
+
+  pub where-true : (present (t .k) p ≡ true → localAt b t m p ≡ true) → localWhere b t m p ≡ true
+  unfolding localWhere
+  where-true f = then-true (present (t .k) p) (localAt b t m p) f
+
+-- ── one entry ──
+module _ (t : Table) (m : List ℕ) (p : ℕ) where
+  -- who is given it, and its open bit; a whole one is undivided
+  abbrev openTest : ℕ → Entry → Bool
+  openTest i e = cond (eqb (e .given) 0) (Bool·beq (t .opened p i) (eqb (getD m (32 * p + i) 0) 0)) (child (t .k) p (e .given))
+
+  abbrev wholeTest : ℕ → Entry → Bool
+  wholeTest i e = not (e .whole) || undivided (t .k) p (t .opened p i) e
+
+  pub record EntrySays (i : ℕ) (e : Entry) : Type 0 where
+    pub whole : not (e .whole) || undivided (t .k) p (t .opened p i) e ≡ true
+    pub free : e .given ≡ 0 → t .opened p i ≡ eqb (getD m (32 * p + i) 0) 0
+    pub given : (e .given ≡ 0 → ⊥) → child (t .k) p (e .given) ≡ true
+
+  pub entry-says : all 32 (entryRight t m p) ≡ true → (i : ℕ) (e : Entry) → i < 32 → t .k .slot p i ≡ some e → EntrySays i e
+  unfolding entryRight
+  entry-says q i e b u =
+      let (w, x) = and-says (wholeTest i e) (openTest i e) (every-says 32 (λ i e. wholeTest i e && openTest i e) (t .k .slot p) q i e b u) in
+      record {
+        whole = w;
+        free = λ g. beq-means _ _ .0 (rw (eq-eqb (e .given) 0 g) at x);
+        given = λ n. rw (ne-eqb (e .given) 0 n) at x;
+      }
+
+  pub entry-true : ((i : ℕ) (e : Entry) → i < 32 → t .k .slot p i ≡ some e → EntrySays i e) → all 32 (entryRight t m p) ≡ true
+  unfolding entryRight
+  entry-true f = every-true 32 (λ i e. wholeTest i e && openTest i e) (t .k .slot p) (λ i e b u. let h = f i e b u in and-true _ _ (h .whole) (go i e h (ℕ-discrete (e .given) 0)))
+    where
+      go : (i : ℕ) (e : Entry) → EntrySays i e → Dec (e .given ≡ 0) → openTest i e ≡ true
+      go i e h (yes g) = rw (eq-eqb (e .given) 0 g) (beq-means _ _ .1 (h .free g))
+      go i e h (no n) = rw (ne-eqb (e .given) 0 n) (h .given n)
+
+-- the slots behind the last structure are empty
+pub entry-empty : {l : List ℕ} {p n : ℕ} (m : List ℕ) → Bound l p n → (i : ℕ) → n ≤ i → i < 32 → entryRight (view l) m p i ≡ true
+unfolding entryRight when
+entry-empty m h i a b = rw (h .empty i a b) refl

@@ -1,0 +1,30 @@
+use mathlib.Core.Path.{sym, _∙_}
+use borrow.Author.Tests.{not-true, not-false}
+use Rattle.verdict.specs.Laws.Backed.{backed-rooted, structure-absent, structure-own, structure-parent}
+use borrow.Author.Needs.{needs}
+use Rattle.verdict.proofs.backed.structure_backed.Statement.{statement}
+use Rattle.verdict.proofs.backed.structure_backed.Tie as tie
+
+pub structure-backed-spec : {M : Type 1} → statement M
+structure-backed-spec =
+    tie.close
+    (tie.spec
+    (λ c κs. search needs)
+    (λ c. backed-rooted _ _ _ (sym (c .before .is-rooted .ensures) ∙ c .if1 .taken))
+    (λ c. search needs)
+    (λ c κs. search needs)
+    (λ c.
+    let d = c .before .before .before in
+    let f = c .before .before .structure in
+    structure-absent _ (d .before .before .pre .1) (f .ensures) (sym (d .before .is-rooted .ensures) ∙ d .if1 .left) (not-true (f .result .present) (c .if2 .taken)))
+    (λ c κs. search needs)
+    (λ c.
+    let d = c .before .before .before .before .before in
+    let f = c .before .before .before .before .structure in
+    structure-own _ (d .before .before .pre .1) (f .ensures) (sym (d .before .is-rooted .ensures) ∙ d .if1 .left) (not-false (f .result .present) (c .before .before .if2 .left)) (c .before .has-equal .ensures) (c .if3 .taken))
+    (λ c κs. search needs)
+    (λ c κs. search needs)
+    (λ c.
+    let d = c .before .before .before .before .before .before .before in
+    let f = c .before .before .before .before .before .before .structure in
+    structure-parent _ (d .before .before .pre .1) (f .ensures) (sym (d .before .is-rooted .ensures) ∙ d .if1 .left) (not-false (f .result .present) (c .before .before .before .before .if2 .left)) (c .before .before .before .has-equal .ensures) (c .before .before .if3 .left) (c .before .header .ensures) (c .has-equal2 .ensures)))
