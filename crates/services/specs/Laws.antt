@@ -1,5 +1,5 @@
 pub mod Zeroed
-pub mod Bare
+pub mod Unsettled
 pub mod Who
 pub mod AreaExits
 pub mod DeleteExits

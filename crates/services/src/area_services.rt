@@ -44,7 +44,7 @@ pub fn create(t: &mut [u64; 641], s: Slot) -> Outcome
                 end,
             };
             writing::put_header(t, n, header);
-            settling::settle(t);
+            settling::came::settle(t, start, end);
             Outcome::Done(n.0 as u64, 0)
         }
     }
@@ -79,7 +79,7 @@ pub fn prepare(t: &mut [u64; 641], p: Partition, s: Slot) -> Outcome
                 end,
             };
             writing::put_structure(t, p, j, area);
-            settling::settle(t);
+            settling::came::settle(t, start, end);
             Outcome::Done(j as u64, 0)
         }
     }
@@ -123,6 +123,6 @@ pub fn collect(t: &mut [u64; 641], p: Partition, j: u32) -> Outcome
         return Outcome::Refused(15);
     }
     writing::clear_structure(t, p, j);
-    settling::settle(t);
+    settling::gone::settle(t);
     Outcome::Done(0, 0)
 }

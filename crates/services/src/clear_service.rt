@@ -48,6 +48,6 @@ pub fn clear_out(t: &mut [u64; 641], p: Partition) -> Outcome
     }
     crate::delete_service::ungive(t, c, p);
     let n = clear_partition(t, p);
-    settling::settle(t);
+    settling::gone::settle(t);
     Outcome::Done(n, 0)
 }

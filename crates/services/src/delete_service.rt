@@ -53,6 +53,6 @@ pub fn delete(t: &mut [u64; 641], p: Partition) -> Outcome
     }
     ungive(t, c, p);
     writing::clear_record(t, p);
-    settling::settle(t);
+    settling::gone::settle(t);
     Outcome::Done(0, 0)
 }

@@ -3,5 +3,4 @@ pub mod Room
 pub mod Gather
 pub mod Areas
 pub mod UpTo
-pub mod OpenBits
 pub mod Settled

@@ -3,6 +3,5 @@ pub mod Room
 pub mod Gather
 pub mod Areas
 pub mod UpTo
-pub mod OpenBits
 pub mod Settled
 pub mod Laws

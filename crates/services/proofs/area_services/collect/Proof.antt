@@ -4,7 +4,7 @@ use Rattle.tables.specs.Laws.Encode.{is-canon}
 use Rattle.settling.specs.Laws.Settled.{settled-is}
 use Rattle.rules.specs.Rules.{collect}
 use Rattle.rules.specs.Laws.Ran.{ran-refused, ran-done, pass, fail}
-use Rattle.services.specs.Laws.Bare.{right-bare, bare-words, bare-structure}
+use Rattle.services.specs.Laws.Unsettled.{right-gone, gone-words, gone-structure}
 use Rattle.services.specs.Laws.AreaExits.{no-such, structure-there, occupied, root-first, not-root-first}
 use native.Mathlib.Omega.{arith}
 use borrow.Author.Needs.{needs}
@@ -26,5 +26,5 @@ collect-spec =
     (λ c. omega (arith, c .before .before .before .before .before .before .before .before .before .before .before .before .pre .1, c .before .before .before .before .before .before .before .before .if2 .left))
     (λ c. ran-refused (pass 3 (sym (c .before .before .before .before .before .before .before .before .before .before .before .own-or-child .ensures) ∙ not-false _ (c .before .before .before .before .before .before .before .before .before .before .if1 .left)) (pass 4 (structure-there (c .before .before .before .before .before .before .before .structure .ensures) (c .before .before .before .before .before .before .before .before .before .if2 .left) (not-false _ (c .before .before .before .before .before .if3 .left))) (fail 15 _ (root-first _ _ (sym (c .before .before .before .vacant .ensures) ∙ not-false _ (c .before .before .if4 .left)) (c .if5 .taken))))))
     (λ c κs. record { canon = c .before .before .before .before .before .before .before .before .before .before .before .before .before .before .pre .0; inP = c .before .before .before .before .before .before .before .before .before .before .before .before .before .before .pre .1; inI = c .before .before .before .before .before .before .before .before .before .before .if2 .left })
-    (λ c κs. (is-canon (c .before .clear-structure .ensures), bare-words (c .before .clear-structure .ensures) (bare-structure (right-bare (c .before .before .before .before .before .before .before .before .before .before .before .before .before .before .before .before .pre .2)) _ _ _)))
+    (λ c κs. (is-canon (c .before .clear-structure .ensures), gone-words (c .before .clear-structure .ensures) (gone-structure (right-gone (c .before .before .before .before .before .before .before .before .before .before .before .before .before .before .before .before .pre .2)) _ _ (sym (c .before .before .before .before .before .before .vacant .ensures) ∙ not-false _ (c .before .before .before .before .before .if4 .left)))))
     (λ c. ran-done (pass 3 (sym (c .before .before .before .before .before .before .before .before .before .before .before .before .before .before .before .own-or-child .ensures) ∙ not-false _ (c .before .before .before .before .before .before .before .before .before .before .before .before .before .before .if1 .left)) (pass 4 (structure-there (c .before .before .before .before .before .before .before .before .before .before .before .structure .ensures) (c .before .before .before .before .before .before .before .before .before .before .before .before .before .if2 .left) (not-false _ (c .before .before .before .before .before .before .before .before .before .if3 .left))) (pass 15 (not-root-first _ _ (sym (c .before .before .before .before .before .before .before .vacant .ensures) ∙ not-false _ (c .before .before .before .before .before .before .if4 .left)) (c .before .before .before .before .if5 .left)) refl))) (sym (settled-is (c .before .before .clear-structure .ensures) (c .settle .ensures) .encoded))))

@@ -8,7 +8,7 @@ use Rattle.sound.specs.Clauses.{long}
 use Rattle.rules.specs.Rules.{create}
 use Rattle.rules.specs.Laws.Ran.{ran-refused, pass, fail, there, missing}
 use Rattle.blocks.specs.Laws.Pick.{picked-no, picked-is}
-use Rattle.services.specs.Laws.Bare.{right-bare, bare-words, bare-header}
+use Rattle.services.specs.Laws.Unsettled.{came-header}
 use Rattle.services.specs.Laws.AreaExits.{created}
 use native.Mathlib.Omega.{arith}
 use borrow.Author.Needs.{needs}
@@ -32,7 +32,7 @@ create-spec =
     (λ c. ran-refused (picked-is (c .before .before .before .before .before .before .before .before .before .before .before .before .e .given .1) (c .before .before .before .before .before .before .before .before .before .before .before .before .before .before .free-entry .ensures) .rule _ ∙ there 8 _ _ (which-is _ (sym (c .before .before .before .before .before .which .given .1) ∙ c .before .before .before .before .before .before .before .absent-partition .ensures)) (pass 9 (le-leb _ _ (c .before .if1 .left)) (fail 18 _ (ap not (c .if2 .taken))))))
     (λ c κs. search needs)
     (λ c κs. let v = picked-is (c .before .before .before .before .before .before .before .before .before .before .before .before .before .before .before .before .e .given .1) (c .before .before .before .before .before .before .before .before .before .before .before .before .before .before .before .before .before .before .free-entry .ensures) .seen in record { canon = c .before .before .before .before .before .before .before .before .before .before .before .before .before .before .before .before .before .before .before .before .pre .0; inP = omega (arith, lowest-some 16 _ _ (which-is _ (sym (c .before .before .before .before .before .before .before .before .before .which .given .1) ∙ c .before .before .before .before .before .before .before .before .before .before .before .absent-partition .ensures)) .below); present = refl; parent-small = c .before .before .first .ensures .current-small; start-small = v .start-small; end-small = v .end-small })
-    (λ c κs. (is-canon (c .before .put-header .ensures), bare-words (c .before .put-header .ensures) (bare-header (right-bare (c .before .before .before .before .before .before .before .before .before .before .before .before .before .before .before .before .before .before .before .before .before .before .pre .2)) _ _ _)))
+    (λ c κs. (is-canon (c .before .put-header .ensures), came-header _ (c .before .before .before .before .before .before .before .before .before .before .before .before .before .before .before .before .before .before .before .before .before .before .pre .2) (c .before .before .before .before .before .before .before .if1 .left) _ (which-is _ (sym (c .before .before .before .before .before .before .before .before .before .before .before .which .given .1) ∙ c .before .before .before .before .before .before .before .before .before .before .before .before .before .absent-partition .ensures)) (c .before .put-header .ensures)))
     (λ c. search needs)
     (λ c. ran-refused (picked-no (c .before .why .given .1) (c .before .before .before .free-entry .ensures) _))
     (λ c. created (picked-is (c .before .before .before .before .before .before .before .before .before .before .before .before .before .before .before .before .before .before .before .before .e .given .1) (c .before .before .before .before .before .before .before .before .before .before .before .before .before .before .before .before .before .before .before .before .before .before .free-entry .ensures)) (which-is _ (sym (c .before .before .before .before .before .before .before .before .before .before .before .before .before .which .given .1) ∙ c .before .before .before .before .before .before .before .before .before .before .before .before .before .before .before .absent-partition .ensures)) (c .before .before .before .before .before .before .before .before .before .if1 .left) (c .before .before .before .before .before .before .before .before .if2 .left) (c .before .before .before .before .before .before .first .ensures .current) (c .before .before .before .put-header .ensures) (c .before .settle .ensures)))

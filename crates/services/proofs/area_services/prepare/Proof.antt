@@ -9,7 +9,7 @@ use Rattle.sound.specs.Clauses.{long}
 use Rattle.rules.specs.Rules.{prepare}
 use Rattle.rules.specs.Laws.Ran.{ran-refused, ran-done, pass, fail, there, missing}
 use Rattle.blocks.specs.Laws.Pick.{picked-no, picked-is}
-use Rattle.services.specs.Laws.Bare.{right-bare, bare-words, bare-structure}
+use Rattle.services.specs.Laws.Unsettled.{came-structure}
 use native.Mathlib.Omega.{arith}
 use borrow.Author.Needs.{needs}
 use Rattle.services.proofs.area_services.prepare.Statement.{statement}
@@ -33,7 +33,7 @@ prepare-spec =
     (λ c. ran-refused (pass 3 (sym (c .before .before .before .before .before .before .before .before .before .before .before .before .before .before .before .before .own-or-child .ensures) ∙ not-false _ (c .before .before .before .before .before .before .before .before .before .before .before .before .before .before .before .if1 .left)) (picked-is (c .before .before .before .before .before .before .before .before .before .before .before .e .given .1) (c .before .before .before .before .before .before .before .before .before .before .before .before .before .free-entry .ensures) .rule _ ∙ there 8 _ _ (structure-is _ (sym (c .before .before .before .before .which .given .1) ∙ c .before .before .before .before .before .before .absent-structure .ensures)) (fail 9 _ (lt-leb _ _ (c .if2 .taken))))))
     (λ c. ran-refused (pass 3 (sym (c .before .before .before .before .before .before .before .before .before .before .before .before .before .before .before .before .before .own-or-child .ensures) ∙ not-false _ (c .before .before .before .before .before .before .before .before .before .before .before .before .before .before .before .before .if1 .left)) (picked-is (c .before .before .before .before .before .before .before .before .before .before .before .before .e .given .1) (c .before .before .before .before .before .before .before .before .before .before .before .before .before .before .free-entry .ensures) .rule _ ∙ there 8 _ _ (structure-is _ (sym (c .before .before .before .before .before .which .given .1) ∙ c .before .before .before .before .before .before .before .absent-structure .ensures)) (pass 9 (le-leb _ _ (c .before .if2 .left)) (fail 18 _ (ap not (c .if3 .taken)))))))
     (λ c κs. let v = picked-is (c .before .before .before .before .before .before .before .before .before .before .before .before .before .e .given .1) (c .before .before .before .before .before .before .before .before .before .before .before .before .before .before .before .free-entry .ensures) .seen in record { canon = c .before .before .before .before .before .before .before .before .before .before .before .before .before .before .before .before .before .before .before .before .pre .0; inP = c .before .before .before .before .before .before .before .before .before .before .before .before .before .before .before .before .before .before .before .before .pre .1; inJ = lowest-some 4 _ _ (structure-is _ (sym (c .before .before .before .before .before .before .which .given .1) ∙ c .before .before .before .before .before .before .before .before .absent-structure .ensures)) .below; present = refl; start-small = v .start-small; end-small = v .end-small })
-    (λ c κs. (is-canon (c .before .put-structure .ensures), bare-words (c .before .put-structure .ensures) (bare-structure (right-bare (c .before .before .before .before .before .before .before .before .before .before .before .before .before .before .before .before .before .before .before .before .before .before .pre .3)) _ _ _)))
+    (λ c κs. (is-canon (c .before .put-structure .ensures), came-structure _ (c .before .before .before .before .before .before .before .before .before .before .before .before .before .before .before .before .before .before .before .before .before .before .pre .3) (c .before .before .before .before .if2 .left) (c .before .before .before .before .before .before .before .before .before .before .before .before .before .before .before .before .before .before .before .before .before .before .pre .1) (structure-is _ (sym (c .before .before .before .before .before .before .before .before .which .given .1) ∙ c .before .before .before .before .before .before .before .before .before .before .absent-structure .ensures)) (c .before .put-structure .ensures)))
     (λ c. search needs)
     (λ c. ran-refused (pass 3 (sym (c .before .before .before .before .before .before .own-or-child .ensures) ∙ not-false _ (c .before .before .before .before .before .if1 .left)) (picked-no (c .before .why .given .1) (c .before .before .before .free-entry .ensures) _)))
     (λ c. ran-done (pass 3 (sym (c .before .before .before .before .before .before .before .before .before .before .before .before .before .before .before .before .before .before .before .before .before .own-or-child .ensures) ∙ not-false _ (c .before .before .before .before .before .before .before .before .before .before .before .before .before .before .before .before .before .before .before .before .if1 .left)) (picked-is (c .before .before .before .before .before .before .before .before .before .before .before .before .before .before .before .before .e .given .1) (c .before .before .before .before .before .before .before .before .before .before .before .before .before .before .before .before .before .before .free-entry .ensures) .rule _ ∙ there 8 _ _ (structure-is _ (sym (c .before .before .before .before .before .before .before .before .before .which .given .1) ∙ c .before .before .before .before .before .before .before .before .before .before .before .absent-structure .ensures)) (pass 9 (le-leb _ _ (c .before .before .before .before .before .if2 .left)) (pass 18 (ap not (c .before .before .before .before .if3 .left)) refl)))) (sym (settled-is (c .before .before .put-structure .ensures) (c .settle .ensures) .encoded))))

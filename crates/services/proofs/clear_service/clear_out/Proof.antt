@@ -4,7 +4,7 @@ use Rattle.tables.specs.Laws.Encode.{is-canon}
 use Rattle.rules.specs.Rules.{clearOut}
 use Rattle.rules.specs.Laws.Ran.{ran-refused, fail}
 use Rattle.blocks.specs.Laws.SlotExits.{child-now}
-use Rattle.services.specs.Laws.Bare.{right-bare, bare-words, bare-ungiven, bare-branch}
+use Rattle.services.specs.Laws.Unsettled.{right-gone, gone-words, gone-ungiven, gone-branch}
 use Rattle.services.specs.Laws.ClearExits.{ungiven-child, clear-done}
 use borrow.Author.Needs.{needs}
 use Rattle.services.proofs.clear_service.clear_out.Statement.{statement}
@@ -20,5 +20,5 @@ clear-out-spec =
     (λ c. ran-refused (fail 3 _ (child-now _ _ (c .before .before .before .before .first .ensures .current) (sym (c .before .is-child .ensures) ∙ not-true _ (c .if1 .taken)))))
     (λ c κs. search needs)
     (λ c κs. let (n, there) = ungiven-child _ _ (c .before .before .before .before .before .before .before .first .ensures .current) (sym (c .before .before .before .before .is-child .ensures) ∙ not-false _ (c .before .before .before .if1 .left)) (c .before .ungive .ensures) in (is-canon (c .before .ungive .ensures), c .before .before .before .before .before .before .before .before .before .pre .1, n, there))
-    (λ c κs. (is-canon (c .before .clear-partition .ensures .is), bare-branch (c .before .clear-partition .ensures) (bare-words (c .before .before .before .ungive .ensures) (bare-ungiven (right-bare (c .before .before .before .before .before .before .before .before .before .before .before .pre .2)) _ _))))
+    (λ c κs. (is-canon (c .before .clear-partition .ensures .is), gone-branch (c .before .clear-partition .ensures) (gone-words (c .before .before .before .ungive .ensures) (gone-ungiven (right-gone (c .before .before .before .before .before .before .before .before .before .before .before .pre .2)) _ _))))
     (λ c. clear-done _ _ (c .before .before .before .before .before .before .before .before .before .before .first .ensures .current) (sym (c .before .before .before .before .before .before .before .is-child .ensures) ∙ not-false _ (c .before .before .before .before .before .before .if1 .left)) (c .before .before .before .before .ungive .ensures) (c .before .before .clear-partition .ensures) (c .settle .ensures)))

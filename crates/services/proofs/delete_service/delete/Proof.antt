@@ -4,7 +4,7 @@ use Rattle.tables.specs.Laws.Encode.{is-canon}
 use Rattle.rules.specs.Rules.{delete}
 use Rattle.rules.specs.Laws.Ran.{ran-refused, fail}
 use Rattle.blocks.specs.Laws.SlotExits.{child-now}
-use Rattle.services.specs.Laws.Bare.{right-bare, bare-words, bare-ungiven, bare-cleared}
+use Rattle.services.specs.Laws.Unsettled.{right-gone, gone-words, gone-ungiven, gone-cleared}
 use Rattle.services.specs.Laws.DeleteExits.{delete-parent, delete-done}
 use borrow.Author.Needs.{needs}
 use Rattle.services.proofs.delete_service.delete.Statement.{statement}
@@ -22,5 +22,5 @@ delete-spec =
     (λ c. delete-parent _ (c .before .before .before .before .before .before .before .first .ensures .current) (sym (c .before .before .before .before .is-child .ensures) ∙ not-false _ (c .before .before .before .if1 .left)) (sym (c .before .has-child .ensures) ∙ c .if2 .taken))
     (λ c κs. (c .before .before .before .before .before .before .before .before .before .before .pre .0, c .before .before .before .before .before .before .before .before .first .ensures .current-small))
     (λ c κs. record { canon = is-canon (c .before .ungive .ensures); inP = c .before .before .before .before .before .before .before .before .before .before .before .before .pre .1 })
-    (λ c κs. (is-canon (c .before .clear-record .ensures), bare-words (c .before .clear-record .ensures) (bare-cleared (bare-words (c .before .before .before .ungive .ensures) (bare-ungiven (right-bare (c .before .before .before .before .before .before .before .before .before .before .before .before .before .before .pre .2)) _ _)) _)))
+    (λ c κs. (is-canon (c .before .clear-record .ensures), gone-words (c .before .clear-record .ensures) (gone-cleared (gone-words (c .before .before .before .ungive .ensures) (gone-ungiven (right-gone (c .before .before .before .before .before .before .before .before .before .before .before .before .before .before .pre .2)) _ _)) _)))
     (λ c. delete-done _ (c .before .before .before .before .before .before .before .before .before .before .before .before .before .first .ensures .current) (sym (c .before .before .before .before .before .before .before .before .before .before .is-child .ensures) ∙ not-false _ (c .before .before .before .before .before .before .before .before .before .if1 .left)) (sym (c .before .before .before .before .before .before .before .has-child .ensures) ∙ c .before .before .before .before .before .before .if2 .left) (c .before .before .before .before .ungive .ensures) (c .before .before .clear-record .ensures) (c .settle .ensures)))

@@ -1,0 +1,23 @@
+use Rattle.tables.specs.View.{view}
+use Rattle.settling.specs.Laws.Settled.{Absent, absent-start, absent-more, ends-here, ends-none}
+use native.Mathlib.Omega.{arith}
+use borrow.Author.Needs.{needs}
+use Rattle.settling.proofs.used_slots.Statement.{statement}
+use Rattle.settling.proofs.used_slots.Tie as tie
+
+pub used-slots-spec : {M : Type 1} → statement M
+used-slots-spec =
+    tie.close
+    (tie.spec
+    (λ t p j₀ j. Absent (view t .k) (p .0) j)
+    (λ t p j₀ j. j)
+    (λ c. absent-start)
+    (λ c. search needs)
+    (λ c κs. (c .before .before .pre, omega (arith, c .before .loop .inv .within)))
+    (λ c. omega (arith, c .before .before .before .loop .inv .within))
+    (λ c. ends-here (c .before .before .before .loop .inv) (omega arith) (c .before .structure .ensures) (c .if1 .taken))
+    (λ c. search needs)
+    (λ c. search needs)
+    (λ c. absent-more (c .before .before .before .loop .inv) (omega arith) (c .before .structure .ensures) (c .if1 .left))
+    (λ c. omega (arith, c .before .loop .inv .within))
+    (λ c. ends-none (c .before .loop .inv) (omega arith)))
