@@ -14,9 +14,10 @@
 static volatile uint32_t *const timer = (volatile uint32_t *)0xe000e010; /* control, start, value; it counts down from 2^24 */
 
 static const kernel library = {ulavrepit_boot, ulavrepit_call, ulavrepit_holders, ulavrepit_runs, ulavrepit_pieces};
-static const kernel quick = {quick_boot, quick_call, quick_holders, quick_runs, NULL}; /* it lists no pieces */
+static const kernel quick = {quick_boot, quick_call, quick_holders, quick_runs, NULL}; /* it lists no pieces and keeps no sheet */
 static const kernel *measured = &library;
 static uint8_t start[ULAVREPIT_TABLE_BYTES], table[ULAVREPIT_TABLE_BYTES], list[ULAVREPIT_HOLDERS_BYTES];
+static uint8_t start_sheet[ULAVREPIT_SHEET_BYTES], sheet[ULAVREPIT_SHEET_BYTES];
 static ulavrepit_run runs[ULAVREPIT_RUNS];
 static uint64_t pieces[ULAVREPIT_PIECES];
 
@@ -48,6 +49,25 @@ static uint64_t call(void)
     return measured->call(table, sizeof table, argument, &second);
 }
 
+static uint64_t call_beside(void)
+{
+    uint64_t second;
+    return ulavrepit_call_sheet(table, sizeof table, sheet, sizeof sheet, argument, &second);
+}
+
+/* The library that keeps a sheet beside the table in 'start'. */
+static uint64_t boot_start(uint8_t *t, uint64_t len, uint64_t base, uint64_t end)
+{
+    return ulavrepit_boot_sheet(t, len, start_sheet, sizeof start_sheet, base, end);
+}
+
+static uint64_t call_start(uint8_t *t, uint64_t len, uint64_t word, uint64_t *second)
+{
+    return ulavrepit_call_sheet(t, len, start_sheet, sizeof start_sheet, word, second);
+}
+
+static const kernel beside = {boot_start, call_start, ulavrepit_holders, ulavrepit_runs, ulavrepit_pieces};
+
 static uint64_t holders(void)
 {
     uint64_t second;
@@ -69,6 +89,7 @@ static uint64_t list_pieces(void)
 static uint32_t ticks(uint64_t work(void), uint32_t *refusal)
 {
     memcpy(table, start, sizeof table);
+    memcpy(sheet, start_sheet, sizeof sheet);
     uint32_t before = timer[2];
     *refusal = (uint32_t)(work() & 0xff);
     return (before - timer[2]) & 0xffffff;
@@ -91,7 +112,7 @@ static void row(const char *name, uint64_t work(void), uint64_t with, uint32_t e
 {
     printf("%s|%u", name, (unsigned)count(work, with, expected));
     measured = &quick;
-    if (work == list_pieces)
+    if (work == list_pieces || work == call_beside)
         puts("|-");
     else
         printf("|%u\n", (unsigned)count(work, with, expected));
@@ -126,7 +147,7 @@ static void fresh_rows(void)
 
 static void typical_rows(void)
 {
-    good = make_typical(&library, start) && good;
+    good = make_typical(&beside, start) && good;
     row("find, typical", call, ulavrepit_find(0, 8000), 0);
     row("holders, typical", holders, 8000, 0);
     row("read region, typical", call, ulavrepit_read_region(0, 7), 0);
@@ -141,6 +162,13 @@ static void typical_rows(void)
     row("clear out a child with two of its own, typical", call, ulavrepit_clear_out(1), 0);
     row("runs, typical", list_runs, 0, 0);
     row("pieces, typical", list_pieces, 10, 0);
+    row("find with a sheet, typical", call_beside, ulavrepit_find(0, 8000), 0);
+    row("load with a sheet, typical", call_beside, ulavrepit_load(0, 10, 7), 0);
+    row("switch with a sheet, typical", call_beside, ulavrepit_switch(1), 0);
+    row("cut with a sheet, typical", call_beside, ulavrepit_cut(10, 8000), 0);
+    row("give with a sheet, typical", call_beside, ulavrepit_give(1, 10, ULAVREPIT_READ), 0);
+    row("create with a sheet, typical", call_beside, ulavrepit_create(10), 0);
+    row("prepare with a sheet, typical", call_beside, ulavrepit_prepare(0, 10), 0);
     row("no service (refused 2), typical", call, 0, 2);
     start[LAST_ZERO_BYTE] ^= 1;
     row("find, typical with the last zero bit set (refused 1)", call, ulavrepit_find(0, 8000), 1);

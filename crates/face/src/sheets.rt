@@ -1,15 +1,15 @@
 ghost use mathlib.Core.Path.{_≡_};
-ghost use mathlib.Core.Bool.{cond, _||_};
+ghost use mathlib.Core.Bool.{cond};
 ghost use lib.ListN.{length};
 ghost use Rattle.tables.specs.View.{view};
 ghost use Rattle.memory.specs.Bytes.{bytesOf};
 ghost use Rattle.memory.specs.ByteRecords.{HeaderTells, BytesTell};
 ghost use Rattle.sound.specs.Whole.{Right};
-ghost use Rattle.sheet.specs.Sheet.{sheetOf};
-ghost use Rattle.sheet.specs.Bytes.{sheetBytes};
+ghost use Rattle.sheet.specs.Touched.{Named, sheetKept};
 ghost use Rattle.face.specs.Sheets.{BootSheetLent, CallSheetLent};
 use crate::packed;
 use shapes::Board;
+use sheet::Whose;
 use tables::Outcome;
 use words::Partition;
 
@@ -37,19 +37,16 @@ pub fn boot_sheet_bytes(table: &mut [u8], sheet: &mut [u8], base: u64, end: u64)
     }
 }
 
-// Table and sheet are written back, but for a call after which every word is as it was; the sheet is left where the call leaves it.
-fn store_both(t: &[u64; 641], stands: bool, leaves: bool, table: &mut [u8], sheet: &mut [u8])
-    requires { ⌜ (length (now table) ≡ 5128) × (length (now sheet) ≡ 256) × HeaderTells (now t) × BytesTell (now table) × Right (view (now t)) ⌝ }
-    ensures { λ _. ⌜ (now (table .exit) ≡ cond stands (now (table .entry)) (bytesOf (now (t .entry)))) × (now (sheet .exit) ≡ cond (stands || leaves) (now (sheet .entry)) (sheetBytes (sheetOf (view (now (t .entry)))))) ⌝ }
+// Table and sheet are written back, but for a call after which every word is as it was; of the sheet the words of those that it touched.
+fn store_both(t: &[u64; 641], stands: bool, x: Whose, table: &mut [u8], sheet: &mut [u8])
+    requires { ⌜ (length (now table) ≡ 5128) × (length (now sheet) ≡ 256) × HeaderTells (now t) × BytesTell (now table) × Right (view (now t)) × Named x ⌝ }
+    ensures { λ _. ⌜ (now (table .exit) ≡ cond stands (now (table .entry)) (bytesOf (now (t .entry)))) × (now (sheet .exit) ≡ cond stands (now (sheet .entry)) (sheetKept x (view (now (t .entry))) (now (sheet .entry)))) ⌝ }
 {
     if stands {
         return;
     }
     memory::store(t, table);
-    if leaves {
-        return;
-    }
-    sheet::write_sheet(t, sheet);
+    sheet::keep_sheet(t, x, sheet);
 }
 
 // A call: 1 first, then 20 where the sheet is not the table's, then as `call_bytes`.
@@ -74,14 +71,14 @@ pub fn call_sheet_bytes(
         let first = tables::read::first(&a);
         return packed(20, first.current, 0);
     }
+    let touched = sheet::touched(&a, word);
     let answer = services::calls::serve_word(board, &mut a, word);
     let caller = answer.caller;
     let stands = answer.stands;
-    let leaves = sheet::leaves_sheet(word);
     let outcome = answer.outcome;
     match outcome {
         Outcome::Done(first, value) => {
-            store_both(&a, stands, leaves, table, sheet);
+            store_both(&a, stands, touched, table, sheet);
             *second = value;
             packed(0, caller, first)
         }

@@ -1,10 +1,9 @@
 -- A sheet as C lends it: 256 bytes, each of its 32 words most significant byte first.
-use mathlib.Core.Path.{_≡_}
 use mathlib.Core.Bool.{Bool, cond, _&&_}
 use mathlib.Core.List.{List, []}
 use Prim.Native.Nat.{ℕ, _+_, _*_}
 use lib.Dec.{eqb}
-use lib.ListN.{length, getD}
+use lib.ListN.{length}
 use Rattle.loops.specs.Rewrite.{tab}
 use Rattle.memory.specs.Bytes.{wordAt, byteOf, putWord}
 use Rattle.tables.specs.State.{Table}
@@ -28,6 +27,6 @@ sheetBytesAfter b (refused n) = b
 unfoldable pub pairMatches : List ℕ → Table → ℕ → Bool
 pairMatches b t p = eqb (wordAt b (2 * p)) (masksWord t p) && eqb (wordAt b (2 * p + 1)) (linesWord t p)
 
--- the bytes s are b with the two words of p put from byte 16 p on
-pub record PutPair (sheet : List ℕ) (p : ℕ) (b s : List ℕ) : Type 0 where
-  pub words : s ≡ putWord (putWord b (16 * p) (getD sheet (2 * p) 0)) (16 * p + 8) (getD sheet (2 * p + 1) 0)
+-- the bytes b with two words put from byte 16 p on
+abbrev pub pairPut : List ℕ → ℕ → ℕ → ℕ → List ℕ
+pairPut b p x y = putWord (putWord b (16 * p) x) (16 * p + 8) y

@@ -7,4 +7,4 @@ pub mod Words
 pub mod Bytes
 pub mod Reading
 pub mod Kept
-pub mod Leaves
+pub mod Touched

@@ -30,6 +30,10 @@ pub record Adding (t : Table) (p i : ℕ) (x : Sums) : Type 0 where
   pub held : Ending (heldAt (t .k) p) i (x .held)
   pub opened : Ending (openedAt t p) i (x .opened)
 
+-- the children of p as a mask
+abbrev pub childrenOf : K → ℕ → ℕ
+childrenOf k p = mapOf 16 (child k p)
+
 -- the mask of p among those of all
 abbrev pub maskOf : List ℕ → ℕ → ℕ
 maskOf m p = getD m p 0

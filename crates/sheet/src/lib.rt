@@ -1,26 +1,27 @@
 ghost use mathlib.Core.Path.{_≡_};
-ghost use Prim.Native.Nat.{_*_, _+_, _≤_, _<_};
+ghost use Prim.Native.Nat.{_^_, _<_};
 ghost use lib.ListN.{length};
 ghost use Rattle.loops.specs.Every.{all};
 ghost use Rattle.tables.specs.View.{view};
 ghost use Rattle.sound.specs.Whole.{Right};
-ghost use Rattle.sheet.specs.Sheet.{sheetOf, matches};
-ghost use Rattle.sheet.specs.Sums.{ChildrenTo};
-ghost use Rattle.sheet.specs.Leaves.{leavesSheet};
-ghost use Rattle.sheet.specs.Bytes.{handedSheet, sheetBytes, pairMatches, PutPair};
+ghost use Rattle.sheet.specs.Sheet.{linesWord, sheetOf, matches};
+ghost use Rattle.sheet.specs.Sums.{childrenOf, ChildrenTo};
+ghost use Rattle.sheet.specs.Touched.{givenIn, touchedOfCaller, touched, Named, masksWith, keptPair, sheetKept};
+ghost use Rattle.sheet.specs.Bytes.{handedSheet, sheetBytes, pairMatches, pairPut};
 
 // A sheet beside the table: two words a partition, worked out of its record, for diagnostics that would scan the whole table else.
 pub mod pairs;
 pub mod sums;
 
 use words::Partition;
+use words::Slot;
 
-// The two words of p are those of the sheet.
-fn pair_matches(t: &[u64; 641], p: Partition, masks: &[u32; 16], sheet: &[u8]) -> bool
-    requires { ⌜ (p .0 < 16) × ChildrenTo (view (now t) .k) 16 (now masks) × (length (now sheet) ≡ 256) × Right (view (now t)) ⌝ }
+// The two words of p, which has these children, are those of the sheet.
+fn pair_matches(t: &[u64; 641], p: Partition, children: u32, sheet: &[u8]) -> bool
+    requires { ⌜ (p .0 < 16) × (children ≡ childrenOf (view (now t) .k) (p .0)) × (length (now sheet) ≡ 256) × Right (view (now t)) ⌝ }
     ensures { λ r. ⌜ r ≡ pairMatches (now (sheet .entry)) (view (now (t .entry))) (p .0) ⌝ }
 {
-    let x = pairs::words_of(t, p, masks);
+    let x = pairs::words_of(t, p, children);
     let at = (16 * p.0) as usize;
     if memory::word(sheet, at) != x.masks {
         return false;
@@ -35,7 +36,8 @@ fn pairs_match(t: &[u64; 641], masks: &[u32; 16], sheet: &[u8]) -> bool
 {
     let mut p = 0u32;
     while p < 16 {
-        if !pair_matches(t, Partition(p), masks, sheet) {
+        let children = pairs::mask_of(masks, Partition(p));
+        if !pair_matches(t, Partition(p), children, sheet) {
             return false;
         }
         p += 1;
@@ -56,25 +58,26 @@ pub fn is_sheet(t: &[u64; 641], sheet: &[u8]) -> bool
     pairs_match(t, &masks, sheet)
 }
 
-// Puts the two words of p to their place; those before it are there.
-fn put_pair(t: &[u64; 641], p: Partition, masks: &[u32; 16], sheet: &mut [u8])
-    requires { ⌜ (p .0 < 16) × ChildrenTo (view (now t) .k) 16 (now masks) × (length (now sheet) ≡ 256) × Right (view (now t)) ⌝ }
-    ensures { λ _. ⌜ PutPair (sheetOf (view (now (t .entry)))) (p .0) (now (sheet .entry)) (now (sheet .exit)) ⌝ }
+// Puts the two words of p, with these children, to their place.
+fn put_pair(t: &[u64; 641], p: Partition, children: u32, sheet: &mut [u8])
+    requires { ⌜ (p .0 < 16) × (children < 2 ^ 16) × (length (now sheet) ≡ 256) × Right (view (now t)) ⌝ }
+    ensures { λ _. ⌜ now (sheet .exit) ≡ pairPut (now (sheet .entry)) (p .0) (masksWith children (view (now (t .entry))) (p .0)) (linesWord (view (now (t .entry))) (p .0)) ⌝ }
 {
-    let x = pairs::words_of(t, p, masks);
+    let x = pairs::words_of(t, p, children);
     let at = (16 * p.0) as usize;
     memory::put(sheet, at, x.masks);
     memory::put(sheet, at + 8, x.lines);
 }
 
-// .. and those of all.
+// .. those of all.
 fn put_pairs(t: &[u64; 641], masks: &[u32; 16], sheet: &mut [u8])
     requires { ⌜ ChildrenTo (view (now t) .k) 16 (now masks) × (length (now sheet) ≡ 256) × Right (view (now t)) ⌝ }
     ensures { λ _. ⌜ now (sheet .exit) ≡ sheetBytes (sheetOf (view (now (t .entry)))) ⌝ }
 {
     let mut p = 0u32;
     while p < 16 {
-        put_pair(t, Partition(p), masks, sheet);
+        let children = pairs::mask_of(masks, Partition(p));
+        put_pair(t, Partition(p), children, sheet);
         p += 1;
     }
 }
@@ -89,14 +92,85 @@ pub fn write_sheet(t: &[u64; 641], sheet: &mut [u8])
     put_pairs(t, &masks, sheet);
 }
 
-// A call of the word that is done leaves the sheet as it is: load, unload and switch.
-pub fn leaves_sheet(word: u64) -> bool
-    ensures { λ r. ⌜ r ≡ leavesSheet word ⌝ }
+// Whose two words a call can change.
+pub enum Whose {
+    Nobody,
+    One(Partition),
+    All,
+}
+
+// The partition that slot i of p is given to; 0 where it has no entry.
+fn given_to(t: &[u64; 641], p: Partition, i: Slot) -> Partition
+    requires { ⌜ (p .0 < 16) × (i .0 < 32) ⌝ }
+    ensures { λ r. ⌜ (r .0 ≡ givenIn (view (now (t .entry)) .k .slot (p .0) (i .0))) × (r .0 < 16) ⌝ }
+{
+    let f = tables::read::entry(t, p, i);
+    if !f.present {
+        return Partition(0);
+    }
+    f.given
+}
+
+// .. whose words a service changes that works on the caller's slots alone, or takes from a child
+fn touched_of_caller(t: &[u64; 641], service: u32, i: Slot) -> Whose
+    requires { ⌜ i .0 < 32 ⌝ }
+    ensures { λ r. ⌜ (r ≡ touchedOfCaller service (view (now (t .entry)) .k) (i .0)) × Named r ⌝ }
+{
+    let first = tables::read::first(t);
+    let caller = first.current;
+    if service == 6 {
+        let child = given_to(t, caller, i);
+        return Whose::One(child);
+    }
+    if service == 7 {
+        return Whose::One(caller);
+    }
+    if service == 8 {
+        return Whose::One(caller);
+    }
+    Whose::All
+}
+
+// Whose two words a call of the word changes at most, of this table.
+pub fn touched(t: &[u64; 641], word: u64) -> Whose
+    ensures { λ r. ⌜ (r ≡ touched (view (now (t .entry)) .k) word) × Named r ⌝ }
 {
     let f = words::call_word::fields(word);
     let service = f.service;
+    let named = f.partition;
     if service == 9 {
-        return true;
+        return Whose::Nobody;
     }
-    service == 13
+    if service == 13 {
+        return Whose::Nobody;
+    }
+    if service == 5 {
+        return Whose::One(named);
+    }
+    if service == 15 {
+        return Whose::One(named);
+    }
+    touched_of_caller(t, service, f.slot)
+}
+
+// Puts the two words of p afresh; its children stay as the sheet has them.
+fn put_again(t: &[u64; 641], p: Partition, sheet: &mut [u8])
+    requires { ⌜ (p .0 < 16) × (length (now sheet) ≡ 256) × Right (view (now t)) ⌝ }
+    ensures { λ _. ⌜ now (sheet .exit) ≡ keptPair (view (now (t .entry))) (p .0) (now (sheet .entry)) ⌝ }
+{
+    let at = (16 * p.0) as usize;
+    let old = words::masks_word::fields(memory::word(sheet, at));
+    put_pair(t, p, old.children, sheet);
+}
+
+// Brings the sheet up to the table: puts the words of those that were touched.
+pub fn keep_sheet(t: &[u64; 641], x: Whose, sheet: &mut [u8])
+    requires { ⌜ (length (now sheet) ≡ 256) × Right (view (now t)) × Named x ⌝ }
+    ensures { λ _. ⌜ now (sheet .exit) ≡ sheetKept x (view (now (t .entry))) (now (sheet .entry)) ⌝ }
+{
+    match x {
+        Whose::Nobody => {}
+        Whose::One(p) => put_again(t, p, sheet),
+        Whose::All => write_sheet(t, sheet),
+    }
 }

@@ -5,7 +5,8 @@ ghost use Rattle.loops.specs.Bit.{bitOf};
 ghost use Rattle.loops.specs.Map.{mapOf};
 ghost use Rattle.tables.specs.View.{view};
 ghost use Rattle.sound.specs.Whole.{Right};
-ghost use Rattle.sheet.specs.Sheet.{structured, masksWord, linesWord};
+ghost use Rattle.sheet.specs.Sheet.{structured, linesWord};
+ghost use Rattle.sheet.specs.Touched.{masksWith};
 ghost use Rattle.sheet.specs.Sums.{wordIn, maskOf, ChildrenTo};
 use words::Partition;
 use words::Written;
@@ -49,7 +50,7 @@ pub fn children(t: &[u64; 641], masks: &mut [u32; 16])
 }
 
 // the mask of p among those of all
-fn mask_of(masks: &[u32; 16], p: Partition) -> u32
+pub fn mask_of(masks: &[u32; 16], p: Partition) -> u32
     requires { ⌜ (p .0 < 16) × (length (now masks) ≡ 16) ⌝ }
     ensures { λ r. ⌜ r ≡ maskOf (now (masks .entry)) (p .0) ⌝ }
 {
@@ -90,17 +91,17 @@ fn word_in(w: Written) -> u64
     }
 }
 
-// The two words of p, worked out of its record and its children: an absent partition's are zero.
-pub fn words_of(t: &[u64; 641], p: Partition, masks: &[u32; 16]) -> Pair
-    requires { ⌜ (p .0 < 16) × ChildrenTo (view (now t) .k) 16 (now masks) × Right (view (now t)) ⌝ }
-    ensures { λ r. ⌜ (r .masks ≡ masksWord (view (now (t .entry))) (p .0)) × (r .lines ≡ linesWord (view (now (t .entry))) (p .0)) ⌝ }
+// The two words of p, worked out of its record and the mask of its children: an absent partition's are zero.
+pub fn words_of(t: &[u64; 641], p: Partition, children: u32) -> Pair
+    requires { ⌜ (p .0 < 16) × (children < 2 ^ 16) × Right (view (now t)) ⌝ }
+    ensures { λ r. ⌜ (r .masks ≡ masksWith children (view (now (t .entry))) (p .0)) × (r .lines ≡ linesWord (view (now (t .entry))) (p .0)) ⌝ }
 {
     if !tables::search::is_present(t, p) {
         return Pair { masks: 0, lines: 0 };
     }
     let x = crate::sums::gather(t, p);
     let masks = words::masks_word::write(MasksFields {
-        children: mask_of(masks, p),
+        children,
         slots: x.slots,
         structures: structures(t, p),
     });

@@ -1,26 +1,25 @@
 -- Each exit of boot and call with a sheet leaves the bytes, the result and the second value that the rule says; and two results are equal.
 use mathlib.Core.Path.{_≡_, refl, ap, sym, subst, _∙_}
-use mathlib.Core.Bool.{Bool, true, false, cond, _||_}
-use mathlib.Core.List.{List, []}
-use Prim.Native.Nat.{ℕ, _^_, _<_}
+use mathlib.Core.Bool.{Bool, true, false, cond}
+use mathlib.Core.List.{List}
+use Prim.Native.Nat.{ℕ, _<_}
 use native.Mathlib.Omega.{arith}
 use lib.ListN.{length, getD}
 use Rattle.shapes.specs.declared.Board.{Board}
 use Rattle.tables.specs.State.{Table}
 use Rattle.tables.specs.View.{view}
-use Rattle.tables.specs.Encode.{encode}
 use Rattle.tables.specs.Laws.Back.{view-encode}
 use Rattle.tables.specs.Fitting.{Words}
 use Rattle.tables.specs.declared.Outcome.{Outcome}
 use Rattle.tables.specs.declared.Outcome.the-variants.{Done, Refused}
-use Rattle.memory.specs.Bytes.{wordsOf, wordAt, bytesOf}
+use Rattle.memory.specs.Bytes.{wordsOf, bytesOf}
 use Rattle.memory.specs.Laws.ByteTrips.{length-wordsOf, words-small}
 use Rattle.sound.specs.Clauses.{sound}
 use Rattle.sound.specs.Whole.{Right}
 use Rattle.sound.specs.Laws.List.{sound-means}
 use Rattle.sound.specs.Laws.Whole.{sound-right}
 use Rattle.sound.specs.Laws.Canonical.{sound-canon}
-use Rattle.rules.specs.Rules.{Result, done, refused, check, serveRead, callOn, bootOn, wordsAfter}
+use Rattle.rules.specs.Rules.{Result, done, refused, callOn, bootOn, wordsAfter}
 use Rattle.rules.specs.Ran.{outcomeOf, Ran}
 use Rattle.rules.specs.Laws.Ran.{refused-done, refused-number}
 use Rattle.rules.specs.declared.Answer.{Answer}
@@ -31,10 +30,11 @@ use Rattle.isolation.specs.Laws.Fits.{right-fit}
 use Rattle.isolation.specs.Laws.Boot.{boot-right}
 use Rattle.isolation.specs.Whole.{call-right}
 use Rattle.sheet.specs.Sheet.{sheetOf, matches, callSheetOn, bootSheetOn}
-use Rattle.sheet.specs.Leaves.{leavesSheet}
+use Rattle.sheet.specs.Touched.{touched, Named, sheetKept}
+use Rattle.sheet.specs.declared.Whose.{Whose}
 use Rattle.sheet.specs.Bytes.{handedSheet, sheetBytes, sheetBytesAfter}
 use Rattle.sheet.specs.Laws.Rules.{call-1, call-20, call-else, boot-1, boot-20, boot-else}
-use Rattle.sheet.specs.Laws.Leaves.{call-leaves}
+use Rattle.sheet.specs.Laws.Touched.{call-touched}
 use Rattle.sheet.specs.Laws.Bytes.{matches-means, sheet-bytes, short-handed, handed-length, matches-length}
 use Rattle.face.specs.Face.{handed, packed, resultOf, secondAfter, bytesAfter, Lent, CallLent}
 use Rattle.face.specs.Laws.Face.{lent-one, handed-is, handed-unsound, handed-none, boot-lent, call-lent, call-stands, call-kept}
@@ -88,13 +88,13 @@ right-done {res} {a} {m} {o} ran q right = go res refl (ran .outcome) (ran .word
     go (done v y t) z c d = let k = right v y t z in subst Right (sym (ap view d ∙ view-encode t (right-fit k))) k
     go (refused n) z c d = absurd (refused-done (sym c ∙ q))
 
--- .. and has the sheet s, where that is what every such result has
-done-leaves : {res : Result} {a m s : List ℕ} {o : Outcome} {v y : ℕ} → Ran res a o m → o ≡ Done v y → ((v y : ℕ) (t : Table) → res ≡ done v y t → Right t × (sheetOf t ≡ s)) → sheetOf (view m) ≡ s
+-- .. and what is so of every such result is so of it
+done-has : {res : Result} {a m : List ℕ} {o : Outcome} {v y : ℕ} (P : Table → Type 0) → Ran res a o m → o ≡ Done v y → ((v y : ℕ) (t : Table) → res ≡ done v y t → Right t × P t) → P (view m)
 unfolding outcomeOf wordsAfter
-done-leaves {res} {a} {m} {s} {o} ran q all = go res refl (ran .outcome) (ran .words)
+done-has {res} {a} {m} {o} P ran q all = go res refl (ran .outcome) (ran .words)
   where
-    go : (x : Result) → res ≡ x → o ≡ outcomeOf x → m ≡ wordsAfter a x → sheetOf (view m) ≡ s
-    go (done v y t) z c d = let (k, e) = all v y t z in ap sheetOf (ap view d ∙ view-encode t (right-fit k)) ∙ e
+    go : (x : Result) → res ≡ x → o ≡ outcomeOf x → m ≡ wordsAfter a x → P (view m)
+    go (done v y t) z c d = let (k, e) = all v y t z in subst P (sym (ap view d ∙ view-encode t (right-fit k))) e
     go (refused n) z c d = absurd (refused-done (sym c ∙ q))
 
 -- ── boot ──
@@ -190,20 +190,23 @@ module _ (board : Board) (b s : List ℕ) (w : ℕ) where
         call-neither q p = beside (call-kept b size load h q p) (sym (ap (sheetBytesAfter s) (refused-result (sym (subst (λ (l : List ℕ). Answers board l w x m) is h .ran .outcome) ∙ q))))
 
         module _ (small : (i : ℕ) → getD b i 0 < 256) {f g : ℕ} (q : x .outcome ≡ Done f g) where
-          -- written, or as it was where every word is as it was, or the call leaves the sheet
-          sheet-after : ((i : ℕ) → getD s i 0 < 256) → {leaves : Bool} {u : List ℕ} → leaves ≡ leavesSheet w → u ≡ cond (x .stands || leaves) s (sheetBytes (sheetOf (view m)))
+          -- as it was where every word is as it was; else with the words of those put that the call touched
+          sheet-after : ((i : ℕ) → getD s i 0 < 256) → {whose : Whose} {u : List ℕ} → whose ≡ touched (view a .k) w → Named whose → u ≡ cond (x .stands) s (sheetKept whose (view m) s)
               → u ≡ sheetBytes (sheetOf (view m))
-          sheet-after bytes {leaves} r e = e ∙ go (x .stands) leaves refl (sym r)
+          sheet-after bytes {whose} r named e = e ∙ go (x .stands) refl
             where
               was : s ≡ sheetBytes (sheetOf (view a))
               was =
                   sym (sheet-bytes s (matches-length s (view a) y) bytes)
                   ∙ ap sheetBytes (matches-means (handedSheet s) (view a) .0 y)
 
-              go : (k l : Bool) → x .stands ≡ k → leavesSheet w ≡ l → cond (k || l) s (sheetBytes (sheetOf (view m))) ≡ sheetBytes (sheetOf (view m))
-              go true l k _ = was ∙ ap (λ (l : List ℕ). sheetBytes (sheetOf (view l))) (sym (answers-stand (loaded-words board b load small) h k))
-              go false true _ k = was ∙ ap sheetBytes (sym (done-leaves (h .ran) q (λ v y t e. (call-right board a w (loaded-words board b load small) e, call-leaves board a w (loaded-words board b load small) k e))))
-              go false false _ _ = refl
+              kept : sheetKept (touched (view a .k) w) (view m) (sheetBytes (sheetOf (view a))) ≡ sheetBytes (sheetOf (view m))
+              kept = done-has (λ t. sheetKept (touched (view a .k) w) t (sheetBytes (sheetOf (view a))) ≡ sheetBytes (sheetOf t)) (h .ran) q (λ v y t e.
+                  (call-right board a w (loaded-words board b load small) e, call-touched board a w (loaded-words board b load small) (subst Named r named) e))
+
+              go : (k : Bool) → x .stands ≡ k → cond k s (sheetKept whose (view m) s) ≡ sheetBytes (sheetOf (view m))
+              go true k = was ∙ ap (λ (l : List ℕ). sheetBytes (sheetOf (view l))) (sym (answers-stand (loaded-words board b load small) h k))
+              go false _ = ap (λ (x : Whose). sheetKept x (view m) s) r ∙ ap (sheetKept (touched (view a .k) w) (view m)) was ∙ kept
 
           table-after : {n : List ℕ} → n ≡ cond (x .stands) b (bytesOf m) → n ≡ bytesOf m
           table-after e = e ∙ go (x .stands) refl
@@ -213,7 +216,7 @@ module _ (board : Board) (b s : List ℕ) (w : ℕ) where
               go false k = refl
 
           pub call-both : ((i : ℕ) → getD s i 0 < 256) → {v r v′ : ℕ} {n u : List ℕ} → r ≡ packed 0 (x .caller .0) f → n ≡ cond (x .stands) b (bytesOf m)
-              → {leaves : Bool} → leaves ≡ leavesSheet w → u ≡ cond (x .stands || leaves) s (sheetBytes (sheetOf (view m))) → v′ ≡ g → CallSheetLent board b s w v r n u v′
-          call-both bytes p e r d k =
+              → {whose : Whose} → (whose ≡ touched (view a .k) w) × Named whose → u ≡ cond (x .stands) s (sheetKept whose (view m) s) → v′ ≡ g → CallSheetLent board b s w v r n u v′
+          call-both bytes p e (r, named) d k =
               beside (call-lent b size load h q p (table-after e) k)
-              (both-done s (h .ran) q (λ v y t e. call-right board a w (loaded-words board b load small) e) (sheet-after bytes r d) ∙ ap (λ (l : List ℕ). sheetBytesAfter s (callOn board l w)) is)
+              (both-done s (h .ran) q (λ v y t e. call-right board a w (loaded-words board b load small) e) (sheet-after bytes r named d) ∙ ap (λ (l : List ℕ). sheetBytesAfter s (callOn board l w)) is)

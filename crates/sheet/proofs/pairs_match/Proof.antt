@@ -1,3 +1,4 @@
+use mathlib.Core.Path.{_∙_}
 use Prim.Native.Nat.{_-_}
 use Rattle.loops.specs.Laws.Every.{Passing}
 use Rattle.loops.specs.Laws.Scan.{seek-start, seek-hit, seek-on, seek-end}
@@ -21,9 +22,10 @@ pairs-match-spec =
     Inv-loop
     μ-loop
     (λ c. seek-start)
-    (λ c κs. (omega arith, c .before .before .before .pre .0, c .before .before .before .pre .1, c .before .before .before .pre .2))
-    (λ c. seek-hit (c .before .before .before .loop .inv) (omega arith) (rw (← c .before .pair-matches .ensures) (c .if1 .taken)))
+    (λ c κs. (omega arith, c .before .before .before .pre .0 .size))
+    (λ c κs. (omega arith, c .mask-of .ensures ∙ c .before .before .before .before .pre .0 .at _ (omega arith), c .before .before .before .before .pre .1, c .before .before .before .before .pre .2))
+    (λ c. seek-hit (c .before .before .before .before .loop .inv) (omega arith) (rw (← c .before .pair-matches .ensures) (c .if1 .taken)))
     (λ c. search needs)
     (λ c. search needs)
-    (λ c. seek-on (c .before .before .before .loop .inv) (omega arith) (rw (← c .before .pair-matches .ensures) (c .if1 .left)))
+    (λ c. seek-on (c .before .before .before .before .loop .inv) (omega arith) (rw (← c .before .pair-matches .ensures) (c .if1 .left)))
     (λ c. seek-end (c .before .loop .inv) (omega arith)))

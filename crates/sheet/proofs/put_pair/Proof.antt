@@ -17,4 +17,4 @@ put-pair-spec =
     (λ c. search needs)
     (λ c κs. omega (arith, c .before .before .before .before .before .before .before .before .pre .0, c .before .before .before .before .before .before .before .before .pre .2, ap length (c .before .before .before .put .ensures) ∙ put-length _ _ _))
     (λ c. ap length (c .before .before .put2 .ensures) ∙ put-length _ _ _ ∙ ap length (c .before .before .before .before .before .before .put .ensures) ∙ put-length _ _ _)
-    (λ c. pair-put _ _ (c .before .before .before .before .before .before .before .before .before .before .before .pre .0) (c .before .before .before .before .before .before .before .before .before .words-of .ensures .0) (c .before .before .before .before .before .before .before .before .before .words-of .ensures .1) (omega arith) (omega arith) (c .before .before .before .before .before .before .put .ensures) (c .before .before .put2 .ensures)))
+    (λ c. pair-put _ _ (c .before .before .before .before .before .before .before .before .before .words-of .ensures .0) (c .before .before .before .before .before .before .before .before .before .words-of .ensures .1) (omega arith) (omega arith) (c .before .before .before .before .before .before .put .ensures) (c .before .before .put2 .ensures)))

@@ -1,10 +1,11 @@
-use mathlib.Core.Path.{sym, _∙_}
+use mathlib.Core.Path.{refl, sym, _∙_}
 use Prim.Native.Nat.{_*_, _-_, _≤_}
 use Rattle.loops.specs.Rewrite.{Filling}
 use Rattle.tables.specs.View.{view}
 use Rattle.memory.specs.Bytes.{byteOf}
 use Rattle.sheet.specs.Sheet.{sheetOf}
-use Rattle.sheet.specs.Laws.Bytes.{sheet-start, sheet-on, sheet-end}
+use Rattle.sheet.specs.Laws.Bytes.{pair-sheet, sheet-start, sheet-on, sheet-end}
+use Rattle.sheet.specs.Laws.Words.{children-few, with-children}
 use native.Mathlib.Omega.{arith}
 use borrow.Author.Needs.{needs}
 use Rattle.sheet.proofs.put_pairs.Statement.{statement}
@@ -23,9 +24,10 @@ put-pairs-spec =
     Inv-loop
     μ-loop
     (λ c. (omega arith, sheet-start (sheetOf (view (c .before .args .t .now))) (c .before .pre .1)))
-    (λ c κs. (omega arith, c .before .before .before .before .pre .0, c .before .before .loop .inv .1 .size, c .before .before .before .before .pre .2))
+    (λ c κs. (omega arith, c .before .before .before .pre .0 .size))
+    (λ c κs. (omega arith, children-few _ _ (c .before .mask-of .ensures ∙ c .before .before .before .before .before .pre .0 .at _ (omega arith)), c .before .before .before .loop .inv .1 .size, c .before .before .before .before .before .pre .2))
     (λ c. search needs)
     (λ c. search needs)
-    (λ c. (omega arith, sheet-on (sheetOf (view (c .before .before .before .before .before .before .before .args .t .now))) _ (c .before .before .before .before .before .loop .inv .1) (omega arith) (c .before .before .put-pair .ensures)))
+    (λ c. (omega arith, sheet-on (sheetOf (view (c .before .before .before .before .before .before .before .before .args .t .now))) _ (c .before .before .before .before .before .before .loop .inv .1) (omega arith) (pair-sheet _ _ (omega arith) _ (with-children (c .before .before .before .before .before .before .before .before .pre .2) _ (c .before .before .before .before .mask-of .ensures ∙ c .before .before .before .before .before .before .before .before .pre .0 .at _ (omega arith))) refl (c .before .before .put-pair .ensures))))
     (λ c. c .before .loop .inv .1 .size ∙ sym (c .before .before .before .pre .1))
     (λ c. sheet-end (sheetOf (view (c .before .before .before .args .t .now))) (c .before .loop .inv .1) (omega arith)))

@@ -8,11 +8,10 @@ use native.Mathlib.Nat.{add-zero, add-assoc}
 use native.Mathlib.Decide.{ℕ-discrete}
 use native.Mathlib.Omega.{arith}
 use lib.Dec.{eqb}
-use lib.ListN.{length, getD, set, length-set}
+use lib.ListN.{length, getD, length-set}
 use borrow.Author.Tests.{eq-eqb, ne-eqb, eqb-true}
 use Rattle.loops.specs.Every.{all}
 use Rattle.loops.specs.Laws.Every.{bool-ext, all-of, all-at}
-use Rattle.loops.specs.Carry.{done}
 use Rattle.loops.specs.Laws.Carry.{done-keeps}
 use Rattle.loops.specs.Rewrite.{tab, Filling}
 use Rattle.loops.specs.Laws.Rewrite.{length-tab, tab-at, tab-is, fill-start, fill-put, fill-tab}
@@ -22,7 +21,7 @@ use Rattle.memory.specs.Laws.ByteTrips.{byte-place}
 use Rattle.memory.specs.Laws.ByteTrips.{bytes-there}
 use Rattle.sound.specs.Laws.Tests.{and-says, and-true}
 use Rattle.sheet.specs.Sheet.{masksWord, linesWord, sheetWord, sheetOf, matches}
-use Rattle.sheet.specs.Bytes.{handedSheet, sheetBytes, pairMatches, PutPair}
+use Rattle.sheet.specs.Bytes.{handedSheet, sheetBytes, pairMatches, pairPut}
 
 -- ── the two words of a partition ──
 module _ (t : Table) (p : ℕ) where
@@ -137,19 +136,22 @@ fill-word sheet {b} {s} n {i} inv h e z =
     (λ j u c f. rw (← add-assoc) (fill-put f (omega arith) (sym (ap (λ (n : ℕ). byteOf sheet (n + j)) e ∙ byte-place sheet n j c)))))
 
 -- the two words of p are put
-pub pair-put : (t : Table) (p : ℕ) → p < 16 → {m n i j : ℕ} {b s u : List ℕ} → m ≡ masksWord t p → n ≡ linesWord t p → i ≡ 16 * p → j ≡ 16 * p + 8
-    → s ≡ putWord b i m → u ≡ putWord s j n → PutPair (sheetOf t) p b u
-pair-put t p h {b = b} q r d e x y =
-    record { words = y ∙ rw (x, r, q, d, e, ← sheet-even t p h, ← sheet-odd t p h) refl }
+pub pair-put : (p : ℕ) (b : List ℕ) {m n x y i j : ℕ} {s u : List ℕ} → m ≡ x → n ≡ y → i ≡ 16 * p → j ≡ 16 * p + 8 → s ≡ putWord b i m → u ≡ putWord s j n → u ≡ pairPut b p x y
+pair-put p b q r d e z w = w ∙ rw (z, r, q, d, e) refl
+
+-- .. and are those of the sheet
+pub pair-sheet : (t : Table) (p : ℕ) → p < 16 → (b : List ℕ) {x y : ℕ} {u : List ℕ} → x ≡ masksWord t p → y ≡ linesWord t p → u ≡ pairPut b p x y → u ≡ pairPut b p (getD (sheetOf t) (2 * p) 0) (getD (sheetOf t) (2 * p + 1) 0)
+pair-sheet t p h b q r z = z ∙ rw (q, r, ← sheet-even t p h, ← sheet-odd t p h) refl
 
 module _ (sheet : List ℕ) {b : List ℕ} where
   pub sheet-start : length b ≡ 256 → Filling (λ k x. byteOf sheet k) b 256 (16 * 0) b
   sheet-start h = fill-start h
 
-  pub sheet-on : (p : ℕ) {s u : List ℕ} → Filling (λ k x. byteOf sheet k) b 256 (16 * p) s → p < 16 → PutPair sheet p s u → Filling (λ k x. byteOf sheet k) b 256 (16 * (p + 1)) u
+  pub sheet-on : (p : ℕ) {s u : List ℕ} → Filling (λ k x. byteOf sheet k) b 256 (16 * p) s → p < 16 → u ≡ pairPut s p (getD sheet (2 * p) 0) (getD sheet (2 * p + 1) 0)
+      → Filling (λ k x. byteOf sheet k) b 256 (16 * (p + 1)) u
   sheet-on p {s} {u} inv h put =
       subst (λ (n : ℕ). Filling (λ k x. byteOf sheet k) b 256 n u) (omega arith)
-      (fill-word sheet (2 * p + 1) {i = 16 * p + 8} (fill-word sheet (2 * p) {i = 16 * p} inv (omega arith) (omega arith) refl) (omega arith) (omega arith) (put .words))
+      (fill-word sheet (2 * p + 1) {i = 16 * p + 8} (fill-word sheet (2 * p) {i = 16 * p} inv (omega arith) (omega arith) refl) (omega arith) (omega arith) put)
 
   pub sheet-end : {s : List ℕ} {i : ℕ} → Filling (λ k x. byteOf sheet k) b 256 i s → 256 ≤ i → s ≡ sheetBytes sheet
   unfolding sheetBytes

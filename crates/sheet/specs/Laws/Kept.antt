@@ -1,12 +1,11 @@
 -- The two words of a partition whose record an accepted call leaves as it was are as they were.
-use mathlib.Core.Path.{_≡_, refl, ap, ap₂, sym, subst, _∙_}
+use mathlib.Core.Path.{_≡_, ap, subst}
 use mathlib.Core.Bool.{cond}
 use mathlib.Core.List.{List}
 use Prim.Native.Nat.{ℕ, _+_, _<_}
 use Rattle.loops.specs.Count.{sum}
 use Rattle.loops.specs.Map.{mapOf}
 use Rattle.words.specs.Kind.{fieldsIn, wordOf}
-use Rattle.words.specs.declared.call_word.CallFields.{CallFields}
 use Rattle.words.specs.Words.{call, masks, lines}
 use Rattle.shapes.specs.declared.Board.{Board}
 use Rattle.tables.specs.State.{Table}
@@ -15,15 +14,24 @@ use Rattle.tables.specs.Encode.{encode}
 use Rattle.tables.specs.Fitting.{Words}
 use Rattle.tables.specs.Laws.Back.{view-encode}
 use Rattle.tables.specs.Search.{isSome, present}
-use Rattle.sound.specs.Whole.{Right}
-use Rattle.rules.specs.Rules.{done, serve, callOn}
+use Rattle.rules.specs.Rules.{done, callOn}
 use Rattle.isolation.specs.Laws.Fits.{right-fit}
 use Rattle.isolation.specs.Whole.{served, call-right}
-use Rattle.sheet.specs.Sheet.{linesOf, masksOf, linesFor, masksWord, linesWord}
+use Rattle.sheet.specs.Sheet.{linesOf, masksWord, linesWord}
 use Rattle.tables.specs.Laws.Stays.{Stays, stays}
 use Rattle.sheet.specs.Laws.Children.{SameChildren, same-mask, serve-children}
 
-module _ {t new : Table} {p : ℕ} (s : Stays t new p) where
+-- areas, who has an entry, its lines and whether it is open are as they were
+pub record Alike (t new : Table) (p : ℕ) : Type 0 where
+  pub area : (j : ℕ) → new .k .area p j ≡ t .k .area p j
+  pub occupied : (i : ℕ) → isSome (new .k .slot p i) ≡ isSome (t .k .slot p i)
+  pub held : (i : ℕ) → linesOf (new .k .slot p i) ≡ linesOf (t .k .slot p i)
+  pub opened : (i : ℕ) → new .opened p i ≡ t .opened p i
+
+pub stays-alike : {t new : Table} {p : ℕ} → Stays t new p → Alike t new p
+stays-alike s = record { area = s .area; occupied = λ i. ap isSome (s .slot i); held = λ i. ap linesOf (s .slot i); opened = s .opened }
+
+module _ {t new : Table} {p : ℕ} (s : Alike t new p) where
   here : present (new .k) p ≡ present (t .k) p
   unfolding present
   here = ap isSome (s .area 0)
@@ -32,15 +40,15 @@ module _ {t new : Table} {p : ℕ} (s : Stays t new p) where
   unfolding masksWord
   masks-same c = λ x. cond (here x) (wordOf masks (record {
     children = mapOf 16 (λ d. same-mask c d x);
-    slots = mapOf 32 (λ i. isSome (s .slot i x));
+    slots = mapOf 32 (λ i. s .occupied i x);
     structures = mapOf 4 (λ j. isSome (s .area (1 + j) x));
   })) 0
 
   pub lines-same : linesWord new p ≡ linesWord t p
   unfolding linesWord
   lines-same = λ x. cond (here x) (wordOf lines (record {
-    held = sum 32 (λ i. linesOf (s .slot i x));
-    opened = sum 32 (λ i. cond (s .opened i x) (linesOf (s .slot i x)) 0);
+    held = sum 32 (λ i. s .held i x);
+    opened = sum 32 (λ i. cond (s .opened i x) (s .held i x) 0);
   })) 0
 
 -- THE THEOREM, over words: of a call that is done
@@ -50,4 +58,4 @@ call-kept b l w small {new = new} z p same =
     let (_, h, y) = served b l w small z in
     let back = view-encode new (right-fit (call-right b l w small z)) in
     let k = subst (λ (t : Table). Stays (view l) t p) back (stays l (encode new) p same) in
-    (masks-same k (serve-children b h (fieldsIn call w) y k), lines-same k)
+    (masks-same (stays-alike k) (serve-children b h (fieldsIn call w) y k), lines-same (stays-alike k))

@@ -1,12 +1,12 @@
 -- The fields of the sheet fit their bits, so they are read back from its words; and the exits of the code that writes the two words of a partition.
-use mathlib.Core.Path.{_≡_, refl, ap, sym, _∙_}
+use mathlib.Core.Path.{_≡_, refl, ap, _∙_}
 use mathlib.Core.Bool.{Bool, true, false, cond}
 use Prim.Native.Nat.{ℕ, _^_, _≤_, _<_}
 use native.Mathlib.Omega.{arith}
 use Rattle.loops.specs.Map.{mapOf}
 use Rattle.loops.specs.Laws.Count.{sum-fewer}
 use Rattle.loops.specs.Laws.Map.{map-lt}
-use Rattle.words.specs.Kind.{wordOf, reading, writing, InRange, write-done}
+use Rattle.words.specs.Kind.{fieldsIn, wordOf, reading, writing, InRange, write-done}
 use Rattle.words.specs.Laws.Kind.{word-small}
 use Rattle.words.specs.declared.Written.{Written}
 use Rattle.words.specs.Words.{masks, lines}
@@ -15,11 +15,12 @@ use Rattle.words.specs.declared.masks_word.MasksFields.{MasksFields}
 use Rattle.words.specs.declared.lines_word.LinesFields.{LinesFields}
 use Rattle.words.specs.declared.masks_word.MasksRead.the-variants.{Fields as MasksAre}
 use Rattle.words.specs.declared.lines_word.LinesRead.the-variants.{Fields as LinesAre}
-use Rattle.tables.specs.State.{Table}
+use Rattle.tables.specs.State.{K, Table}
 use Rattle.tables.specs.Search.{present, child}
 use Rattle.sound.specs.Whole.{Right}
 use Rattle.sheet.specs.Sheet.{occupied, structured, masksOf, heldAt, openedAt, heldLines, openLines, linesFor, masksWord, linesWord}
-use Rattle.sheet.specs.Sums.{wordIn, Adding}
+use Rattle.sheet.specs.Sums.{wordIn, Adding, childrenOf}
+use Rattle.sheet.specs.Touched.{masksWith}
 use Rattle.sheet.specs.declared.sums.Sums.{Sums}
 use Rattle.sheet.specs.Laws.Held.{held-le}
 use Rattle.sheet.specs.Laws.Sums.{adding-end}
@@ -32,9 +33,20 @@ open-le t p = sum-fewer 32 (openedAt t p) (heldAt (t .k) p) (λ i _. less (t .op
     less true = omega arith
     less false = omega arith
 
+-- a mask of children, and what stands for one in a word, are below 2^16
+pub children-few : (k : K) (p : ℕ) {c : ℕ} → c ≡ childrenOf k p → c < 2 ^ 16
+children-few k p e = rw e (map-lt (child k p) 0 16)
+
+pub masks-few : (w : ℕ) → fieldsIn masks w .children < 2 ^ 16
+unfolding masks
+masks-few w = omega arith
+
 module _ {t : Table} (h : Right t) (p : ℕ) where
+  with-in : {c : ℕ} → c < 2 ^ 16 → InRange masks (record { children = c; slots = mapOf 32 (occupied (t .k) p); structures = mapOf 4 (structured (t .k) p) })
+  with-in few = masks-range _ few (map-lt (occupied (t .k) p) 0 32) (map-lt (structured (t .k) p) 0 4)
+
   pub masks-in : InRange masks (masksOf (t .k) p)
-  masks-in = masks-range (masksOf (t .k) p) (map-lt (child (t .k) p) 0 16) (map-lt (occupied (t .k) p) 0 32) (map-lt (structured (t .k) p) 0 4)
+  masks-in = with-in (map-lt (child (t .k) p) 0 16)
 
   pub lines-in : InRange lines (linesFor t p)
   lines-in =
@@ -72,18 +84,26 @@ module _ {t : Table} (h : Right t) (p : ℕ) where
   unfolding masksWord linesWord
   pair-absent q = (rw q refl, rw q refl)
 
+  pub pair-none : (c : ℕ) → present (t .k) p ≡ false → (0 ≡ masksWith c t p) × (0 ≡ linesWord t p)
+  unfolding masksWith linesWord
+  pair-none c q = (rw q refl, rw q refl)
+
+  -- with its children
+  pub with-children : {c : ℕ} → c ≡ childrenOf (t .k) p → masksWith c t p ≡ masksWord t p
+  unfolding masksWith masksWord
+  with-children e = rw e refl
+
   module _ (q : present (t .k) p ≡ true) {x : Sums} (sums : Adding t p 0 x) where
-    pub masks-written : {c s : ℕ} {w : Written} {r : ℕ} → c ≡ mapOf 16 (child (t .k) p) → s ≡ mapOf 4 (structured (t .k) p)
-        → w ≡ writing masks (record { children = c; slots = x .slots; structures = s }) → r ≡ wordIn w → r ≡ masksWord t p
-    unfolding masksWord
-    masks-written {c} {s} d e u v =
+    pub masks-written : {c s : ℕ} {w : Written} {r : ℕ} → c < 2 ^ 16 → s ≡ mapOf 4 (structured (t .k) p)
+        → w ≡ writing masks (record { children = c; slots = x .slots; structures = s }) → r ≡ wordIn w → r ≡ masksWith c t p
+    unfolding masksWith
+    masks-written {c} {s} few e u v =
         v
-        ∙ ap wordIn (u ∙ ap (writing masks) (same d (adding-end sums .0) e) ∙ write-done masks (masksOf (t .k) p) masks-in)
+        ∙ ap wordIn (u ∙ ap (writing masks) (same (adding-end sums .0) e) ∙ write-done masks (record { children = c; slots = mapOf 32 (occupied (t .k) p); structures = mapOf 4 (structured (t .k) p) }) (with-in few))
         ∙ rw q refl
       where
-        same : {a b c a′ b′ c′ : ℕ} → a ≡ a′ → b ≡ b′ → c ≡ c′
-            → _≡_ {A = MasksFields} (record { children = a; slots = b; structures = c }) (record { children = a′; slots = b′; structures = c′ })
-        same y z w = cc
+        same : {b c′ b″ c″ : ℕ} → b ≡ b″ → c′ ≡ c″ → _≡_ {A = MasksFields} (record { children = c; slots = b; structures = c′ }) (record { children = c; slots = b″; structures = c″ })
+        same y z = cc
 
     pub lines-written : {w : Written} {r : ℕ} → w ≡ writing lines (record { held = x .held; opened = x .opened }) → r ≡ wordIn w → r ≡ linesWord t p
     unfolding linesWord

@@ -28,40 +28,31 @@ call-sheet-bytes-spec =
     (λ c κs. (omega arith, omega (arith, c .first .ensures .current-small), omega arith))
     (λ c. search needs)
     (λ c. search needs)
-    (λ c.
-    let size = c .before .before .before .before .before .before .before .before .before .before .before .before .before .if1 .left in
-    let load = c .before .before .before .before .before .before .before .before .before .before .load .ensures .0 in
-    let right = sym (c .before .before .before .before .before .before .before .before .is-sound .ensures) ∙ not-false _ (c .before .before .before .before .before .before .before .if2 .left) in
-    call-mismatch _ _ _ _ size load right (sym (c .before .before .before .before .is-sheet .ensures) ∙ not-true _ (c .before .before .before .if3 .taken)) (c .before .first .ensures .current) (c .packed3 .ensures))
-    (λ c κs. sym (c .before .before .before .before .before .before .is-sound .ensures) ∙ not-false _ (c .before .before .before .before .before .if2 .left))
+    (λ c. call-mismatch _ _ _ _ (c .before .before .before .before .before .before .before .before .before .before .before .before .before .if1 .left) (c .before .before .before .before .before .before .before .before .before .before .load .ensures .0) (sym (c .before .before .before .before .before .before .before .before .is-sound .ensures) ∙ not-false _ (c .before .before .before .before .before .before .before .if2 .left)) (sym (c .before .before .before .before .is-sheet .ensures) ∙ not-true _ (c .before .before .before .if3 .taken)) (c .before .first .ensures .current) (c .packed3 .ensures))
     (λ c κs. search needs)
+    (λ c κs. sym (c .before .before .before .before .before .before .before .before .is-sound .ensures) ∙ not-false _ (c .before .before .before .before .before .before .before .if2 .left))
     (λ c. search needs)
     (λ c κs.
-    let size = c .before .before .before .before .before .before .before .before .before .before .before .before .before .before .before .before .before .before .before .before .if1 .left in
-    let load = c .before .before .before .before .before .before .before .before .before .before .before .before .before .before .before .before .before .load .ensures .0 in
-    let small = c .before .before .before .before .before .before .before .before .before .before .before .before .before .before .before .before .before .before .before .before .before .before .slice-known .given in
-    let same = sym (c .before .before .before .before .before .before .before .before .before .before .before .is-sheet .ensures) ∙ not-false _ (c .before .before .before .before .before .before .before .before .before .before .if3 .left) in
-    let answer = c .before .before .before .before .before .before .before .before .serve-word .ensures in
+    let size = c .before .before .before .before .before .before .before .before .before .before .before .before .before .before .before .before .before .before .before .before .before .if1 .left in
+    let load = c .before .before .before .before .before .before .before .before .before .before .before .before .before .before .before .before .before .before .load .ensures .0 in
+    let small = c .before .before .before .before .before .before .before .before .before .before .before .before .before .before .before .before .before .before .before .before .before .before .before .slice-known .given in
+    let answer = c .before .before .before .before .before .before .before .serve-word .ensures in
     let done = c .before .before .before .before .outcome .given .1 in
-    (size, matches-length _ _ same, call-tells _ size load answer (λ i. small i .fits) done, call-told _ size load answer (λ i. small i .fits) done, called-right _ _ load (λ i. small i .fits) answer done))
-    (λ c κs. (omega arith, omega (arith, call-caller _ (c .before .before .before .before .before .before .before .before .before .before .before .before .before .before .before .before .before .before .before .before .before .before .before .before .before .if1 .left) (c .before .before .before .before .before .before .before .before .before .before .before .before .before .before .before .before .before .before .before .before .before .before .load .ensures .0) (c .before .before .before .before .before .before .before .before .before .before .before .before .before .serve-word .ensures)), omega (arith, first-small (call-brief _ _ _) (sym (c .before .before .before .before .before .before .before .before .before .before .before .before .before .serve-word .ensures .ran .outcome) ∙ c .before .before .before .before .before .before .before .before .before .outcome .given .1))))
+    (size, matches-length _ _ (sym (c .before .before .before .before .before .before .before .before .before .before .before .before .is-sheet .ensures) ∙ not-false _ (c .before .before .before .before .before .before .before .before .before .before .before .if3 .left)), call-tells _ size load answer (λ i. small i .fits) done, call-told _ size load answer (λ i. small i .fits) done, called-right _ _ load (λ i. small i .fits) answer done, c .before .before .before .before .before .before .before .before .before .touched .ensures .1))
+    (λ c κs. (omega arith, omega (arith, call-caller _ (c .before .before .before .before .before .before .before .before .before .before .before .before .before .before .before .before .before .before .before .before .before .before .before .before .before .before .if1 .left) (c .before .before .before .before .before .before .before .before .before .before .before .before .before .before .before .before .before .before .before .before .before .before .before .load .ensures .0) (c .before .before .before .before .before .before .before .before .before .before .before .before .serve-word .ensures)), omega (arith, first-small (call-brief _ _ _) (sym (c .before .before .before .before .before .before .before .before .before .before .before .before .serve-word .ensures .ran .outcome) ∙ c .before .before .before .before .before .before .before .before .before .outcome .given .1))))
     (λ c. search needs)
-    (λ c κs. (omega (arith, number-small (call-brief _ _ _) (sym (c .before .before .before .before .before .serve-word .ensures .ran .outcome) ∙ c .before .outcome2 .given .1)), omega (arith, call-caller _ (c .before .before .before .before .before .before .before .before .before .before .before .before .before .before .before .before .before .if1 .left) (c .before .before .before .before .before .before .before .before .before .before .before .before .before .before .load .ensures .0) (c .before .before .before .before .before .serve-word .ensures)), omega arith))
-    (λ c. search needs)
-    (λ c. search needs)
-    (λ c.
-    let size = c .before .before .before .before .before .before .before .before .before .before .before .before .before .before .before .before .before .before .before .before .before .before .before .before .before .before .if1 .left in
-    let load = c .before .before .before .before .before .before .before .before .before .before .before .before .before .before .before .before .before .before .before .before .before .before .before .load .ensures .0 in
-    let small = c .before .before .before .before .before .before .before .before .before .before .before .before .before .before .before .before .before .before .before .before .before .before .before .before .before .before .before .before .slice-known .given in
-    let right = sym (c .before .before .before .before .before .before .before .before .before .before .before .before .before .before .before .before .before .before .before .before .before .is-sound .ensures) ∙ not-false _ (c .before .before .before .before .before .before .before .before .before .before .before .before .before .before .before .before .before .before .before .before .if2 .left) in
-    let same = sym (c .before .before .before .before .before .before .before .before .before .before .before .before .before .before .before .before .before .is-sheet .ensures) ∙ not-false _ (c .before .before .before .before .before .before .before .before .before .before .before .before .before .before .before .before .if3 .left) in
-    let bytes = c .before .before .before .before .before .before .before .before .before .before .before .before .before .before .before .before .before .before .before .before .before .before .before .before .before .before .before .slice-known2 .given in
-    call-both _ _ _ _ size load right same (c .before .before .before .before .before .before .before .before .before .before .before .before .before .before .serve-word .ensures) (λ i. small i .fits) (c .before .before .before .before .before .before .before .before .before .before .outcome .given .1) (λ i. bytes i .fits) (c .packed4 .ensures) (c .before .before .before .before .before .store-both .ensures .0) (c .before .before .before .before .before .before .before .before .before .before .before .before .leaves-sheet .ensures) (c .before .before .before .before .before .store-both .ensures .1) refl)
+    (λ c κs. (omega (arith, number-small (call-brief _ _ _) (sym (c .before .before .before .before .serve-word .ensures .ran .outcome) ∙ c .before .outcome2 .given .1)), omega (arith, call-caller _ (c .before .before .before .before .before .before .before .before .before .before .before .before .before .before .before .before .before .before .if1 .left) (c .before .before .before .before .before .before .before .before .before .before .before .before .before .before .before .load .ensures .0) (c .before .before .before .before .serve-word .ensures)), omega arith))
     (λ c. search needs)
     (λ c. search needs)
     (λ c.
-    let size = c .before .before .before .before .before .before .before .before .before .before .before .before .before .before .before .before .before .before .if1 .left in
-    let load = c .before .before .before .before .before .before .before .before .before .before .before .before .before .before .before .load .ensures .0 in
-    let right = sym (c .before .before .before .before .before .before .before .before .before .before .before .before .before .is-sound .ensures) ∙ not-false _ (c .before .before .before .before .before .before .before .before .before .before .before .before .if2 .left) in
-    let same = sym (c .before .before .before .before .before .before .before .before .before .is-sheet .ensures) ∙ not-false _ (c .before .before .before .before .before .before .before .before .if3 .left) in
-    call-neither _ _ _ _ size load right same (c .before .before .before .before .before .before .serve-word .ensures) (c .before .before .outcome2 .given .1) (c .packed5 .ensures)))
+    let small = c .before .before .before .before .before .before .before .before .before .before .before .before .before .before .before .before .before .before .before .before .before .before .before .before .before .before .before .before .before .slice-known .given in
+    let bytes = c .before .before .before .before .before .before .before .before .before .before .before .before .before .before .before .before .before .before .before .before .before .before .before .before .before .before .before .before .slice-known2 .given in
+    let right = sym (c .before .before .before .before .before .before .before .before .before .before .before .before .before .before .before .before .before .before .before .before .before .before .is-sound .ensures) ∙ not-false _ (c .before .before .before .before .before .before .before .before .before .before .before .before .before .before .before .before .before .before .before .before .before .if2 .left) in
+    let same = sym (c .before .before .before .before .before .before .before .before .before .before .before .before .before .before .before .before .before .before .is-sheet .ensures) ∙ not-false _ (c .before .before .before .before .before .before .before .before .before .before .before .before .before .before .before .before .before .if3 .left) in
+    call-both _ _ _ _ (c .before .before .before .before .before .before .before .before .before .before .before .before .before .before .before .before .before .before .before .before .before .before .before .before .before .before .before .if1 .left) (c .before .before .before .before .before .before .before .before .before .before .before .before .before .before .before .before .before .before .before .before .before .before .before .before .load .ensures .0) right same (c .before .before .before .before .before .before .before .before .before .before .before .before .before .serve-word .ensures) (λ i. small i .fits) (c .before .before .before .before .before .before .before .before .before .before .outcome .given .1) (λ i. bytes i .fits) (c .packed4 .ensures) (c .before .before .before .before .before .store-both .ensures .0) (c .before .before .before .before .before .before .before .before .before .before .before .before .before .before .before .touched .ensures) (c .before .before .before .before .before .store-both .ensures .1) refl)
+    (λ c. search needs)
+    (λ c. search needs)
+    (λ c.
+    let right = sym (c .before .before .before .before .before .before .before .before .before .before .before .before .before .before .is-sound .ensures) ∙ not-false _ (c .before .before .before .before .before .before .before .before .before .before .before .before .before .if2 .left) in
+    let same = sym (c .before .before .before .before .before .before .before .before .before .before .is-sheet .ensures) ∙ not-false _ (c .before .before .before .before .before .before .before .before .before .if3 .left) in
+    call-neither _ _ _ _ (c .before .before .before .before .before .before .before .before .before .before .before .before .before .before .before .before .before .before .before .if1 .left) (c .before .before .before .before .before .before .before .before .before .before .before .before .before .before .before .before .load .ensures .0) right same (c .before .before .before .before .before .serve-word .ensures) (c .before .before .outcome2 .given .1) (c .packed5 .ensures)))

@@ -1,0 +1,14 @@
+use borrow.Author.Tests.{not-true, not-false}
+use Rattle.sheet.specs.Laws.Touched.{given-none, given-some}
+use native.Mathlib.Omega.{arith}
+use borrow.Author.Needs.{needs}
+use Rattle.sheet.proofs.given_to.Statement.{statement}
+use Rattle.sheet.proofs.given_to.Tie as tie
+
+pub given-to-spec : {M : Type 1} → statement M
+given-to-spec =
+    tie.close
+    (tie.spec
+    (λ c κs. search needs)
+    (λ c. (given-none (c .before .before .entry .ensures) (not-true _ (c .if1 .taken)), omega arith))
+    (λ c. (given-some (c .before .before .before .entry .ensures) (not-false _ (c .before .if1 .left)), c .before .before .before .entry .ensures .given-small)))
