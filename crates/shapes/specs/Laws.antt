@@ -4,6 +4,7 @@ pub mod Clean
 pub mod Cover
 pub mod Only
 pub mod Halves
+pub mod Zeros
 pub mod Counting
 pub mod Listing
 pub mod Shapes

@@ -3,6 +3,8 @@ use mathlib.Core.Path.{_≡_}
 use mathlib.Core.Bool.{Bool, cond, _&&_}
 use mathlib.Core.List.{List, [], _∷_, _++_, map}
 use Prim.Native.Nat.{ℕ, zero, suc, _+_, _-_, _*_, _%_, _^_, _≤_, _<_}
+use lib.Bits.{bitOr}
+use lib.Count.{trailingZeros}
 use lib.Dec.{eqb, leb, ltb}
 use lib.ListN.{length, drop}
 use Rattle.shapes.specs.declared.Board.{Board}
@@ -38,6 +40,10 @@ piecesIn (suc n) s b = cond (ltb s b) (piece s (widest s b) ∷ piecesIn n (s + 
 -- the pieces of the block s to b, in rising order: no more than it has lines
 unfoldable pub pieces : ℕ → ℕ → List Piece
 pieces s b = piecesIn (b - s) s b
+
+-- the zeros that a and b both end in
+abbrev pub commonZeros : ℕ → ℕ → ℕ
+commonZeros a b = trailingZeros 32 (bitOr a b)
 
 -- ── on either board ──
 -- ARMv8-M has a base and a limit, and no power-of-two rule: a block is one region

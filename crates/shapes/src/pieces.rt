@@ -2,7 +2,7 @@ ghost use mathlib.Core.Path.{_≡_};
 ghost use Prim.Native.Nat.{_+_, _*_, _^_, _≤_, _<_};
 ghost use lib.ListN.{length};
 ghost use Rattle.shapes.specs.declared.Board.the-variants.{V7, V8};
-ghost use Rattle.shapes.specs.Pieces.{widest, pieces, piecesFor, CanList, Listed};
+ghost use Rattle.shapes.specs.Pieces.{widest, commonZeros, pieces, piecesFor, CanList, Listed};
 use crate::Board;
 
 // The lines of the largest piece at start that ends by end: they double as long as that fits. start is `rest` times their number.
@@ -23,7 +23,14 @@ fn widest(start: u32, end: u32) -> u32
     lines
 }
 
-// An odd start needs a piece of one line, so does an odd end, and what is left has as many pieces as its half has.
+// The zeros that both end in.
+fn common_zeros(a: u32, b: u32) -> u32
+    ensures { λ r. ⌜ r ≡ commonZeros a b ⌝ }
+{
+    u32::trailing_zeros(a | b)
+}
+
+// Zeros that both lines end in make no piece and are taken out at once. Then an odd start needs a piece of one line, so does an odd end, and what is left has as many pieces as its half has: each turn counts one or two.
 fn shaped_count(start: u32, end: u32) -> u32
     requires { ⌜ end < 2 ^ 27 ⌝ }
     ensures { λ r. ⌜ r ≡ length (pieces start end) ⌝ }
@@ -32,9 +39,12 @@ fn shaped_count(start: u32, end: u32) -> u32
     let mut b = end;
     let mut n = 0u32;
     while a < b {
-        n += a % 2 + b % 2;
-        a = (a + 1) / 2;
-        b = b / 2;
+        let z = common_zeros(a, b);
+        let low = a >> z;
+        let high = b >> z;
+        n += low % 2 + high % 2;
+        a = (low + 1) / 2;
+        b = high / 2;
     }
     n
 }

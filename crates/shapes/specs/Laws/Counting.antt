@@ -1,4 +1,4 @@
--- The loop that counts the pieces by halving.
+-- The loop that counts the pieces by halving, zeros that both lines end in taken out at once.
 use mathlib.Core.Path.{_≡_, ap}
 use Prim.Native.Nat.{ℕ, _+_, _/_, _%_, _^_, _≤_, _<_}
 use native.Mathlib.Omega.{arith}
@@ -8,6 +8,7 @@ use Rattle.shapes.specs.declared.Board.the-variants.{V7}
 use Rattle.shapes.specs.Pieces.{pieces, piecesFor}
 use Rattle.shapes.specs.Laws.Greedy.{pieces-none}
 use Rattle.shapes.specs.Laws.Halves.{pieces-half, pieces-few}
+use Rattle.shapes.specs.Laws.Zeros.{Shifted}
 
 -- n pieces of s to e are counted; those of a to b are not yet
 pub record Counting (s e a b n : ℕ) : Type 0 where
@@ -19,12 +20,16 @@ pub count-start : {s e : ℕ} → e < 2 ^ 27 → Counting s e s e 0
 count-start h = record { small = h; left = omega arith; few = omega arith }
 
 module _ {s e a b n : ℕ} (c : Counting s e a b n) (small : e < 2 ^ 27) where
-  pub count-on : a < b → Counting s e ((a + 1) / 2) (b / 2) (n + (a % 2 + b % 2))
-  count-on h = record {
-    small = omega (arith, c .small);
-    left = omega (arith, c .left, pieces-half (c .small) h);
-    few = omega (arith, c .left, pieces-half (c .small) h, pieces-few s e small);
-  }
+  -- z zeros are taken out, then the ends are counted and halved
+  pub count-on : (z : ℕ) → Shifted a b z → Counting s e ((a / 2 ^ z + 1) / 2) (b / 2 ^ z / 2) (n + (a / 2 ^ z % 2 + b / 2 ^ z % 2))
+  count-on z t =
+      let low : b / 2 ^ z < 2 ^ 27 = omega (arith, c .small, t .small) in
+      let half = pieces-half low (t .less) in
+      record {
+        small = omega arith;
+        left = omega (arith, c .left, t .same, half);
+        few = omega (arith, c .left, t .same, half, pieces-few s e small);
+      }
 
   pub count-end : b ≤ a → n ≡ length (pieces s e)
   count-end h = omega (arith, c .left, ap length (pieces-none a b h))

@@ -1,4 +1,5 @@
 use native.Mathlib.Omega.{arith}
+use Rattle.shapes.specs.Laws.Zeros.{zeros-out, zeros-few}
 use Rattle.shapes.specs.Laws.Counting.{Counting, count-start, count-on, count-end}
 use borrow.Author.Needs.{needs}
 use Rattle.shapes.proofs.pieces.shaped_count.Statement.{statement}
@@ -11,9 +12,12 @@ shaped-count-spec =
     (λ start end a₀ b₀ n₀ a b n. Counting start end a b n)
     (λ start end a₀ b₀ n₀ a b n. b)
     (λ c. count-start (c .pre))
+    (λ c κs. search needs)
+    (λ c. zeros-few (c .before .before .loop .a) (c .before .before .loop .b) (omega arith) (c .before .before .loop .inv .small) (c .common-zeros .ensures))
+    (λ c. zeros-few (c .before .before .loop .a) (c .before .before .loop .b) (omega arith) (c .before .before .loop .inv .small) (c .common-zeros .ensures))
     (λ c. search needs)
     (λ c. search needs)
-    (λ c. search needs)
-    (λ c. search needs)
-    (λ c. count-on (c .before .loop .inv) (c .before .before .pre) (omega arith))
+    (λ c. let t = zeros-out (c .before .before .loop .a) (c .before .before .loop .b) (omega arith) (c .before .before .loop .inv .small) (c .common-zeros .ensures) in record { fits = omega (arith, t .less, t .small, c .before .before .loop .inv .small) })
+    (λ c. omega (arith, zeros-out (c .before .before .loop .a) (c .before .before .loop .b) (omega arith) (c .before .before .loop .inv .small) (c .common-zeros .ensures) .small))
+    (λ c. count-on (c .before .before .loop .inv) (c .before .before .before .pre) _ (zeros-out (c .before .before .loop .a) (c .before .before .loop .b) (omega arith) (c .before .before .loop .inv .small) (c .common-zeros .ensures)))
     (λ c. count-end (c .before .loop .inv) (c .before .before .pre) (omega arith)))
