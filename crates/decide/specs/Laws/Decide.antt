@@ -118,14 +118,13 @@ module _ (board : Board) (l : List ℕ) where
   pub record Parts : Type 0 where
     pub first : s1 (view l .k) && s3First l ≡ true
     pub shapes : all 16 (shapeAt l) ≡ true
-    pub apart : areasApart (view l .k) ≡ true
     pub s6 : all 16 (s6 (view l .k)) ≡ true
     pub partitions : all 16 (λ p. s2 l (view l .k) p && restAt board l p) ≡ true
 
   pub parts : sound board l ≡ true → Parts
   unfolding atOnce shapeAt
   parts q =
-      let (r, w) = and-says _ (areasApart (view l .k)) (sound-at-once board l ∙ q) in
+      let (r, _) = and-says _ (areasApart (view l .k)) (sound-at-once board l ∙ q) in
       let (z, u) = and-says (eqb (length l) 641 && (s1 (view l .k) && s3First l)) (all 16 (λ p. s2 l (view l .k) p && restAt board l p)) r in
       let at : (p : ℕ) → p < 16 → (s2 l (view l .k) p ≡ true) × Passes board l p = λ p b.
       let (x, y) = and-says (s2 l (view l .k) p) (restAt board l p) (all-at 16 (λ p. s2 l (view l .k) p && restAt board l p) u p b) in
@@ -133,7 +132,6 @@ module _ (board : Board) (l : List ℕ) where
       record {
         first = and-says (eqb (length l) 641) (s1 (view l .k) && s3First l) z .1;
         shapes = all-of 16 (shapeAt l) (λ p b. let (x, h) = at p b in and-true _ _ x (and-true _ _ (and-true _ _ (h .s3) (h .s4)) (h .s5)));
-        apart = w;
         s6 = all-of 16 (s6 (view l .k)) (λ p b. at p b .1 .s6);
         partitions = u;
       }
