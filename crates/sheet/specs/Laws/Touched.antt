@@ -12,7 +12,7 @@ use Rattle.loops.specs.Rewrite.{Filling}
 use Rattle.loops.specs.Laws.Rewrite.{length-tab, tab-at, tab-is, tab-ext}
 use Rattle.words.specs.Kind.{fieldsIn}
 use Rattle.words.specs.Laws.Kind.{fields-back}
-use Rattle.words.specs.Laws.Fields.{call-small}
+use Rattle.words.specs.Laws.Fields.{masks-few, call-small}
 use Rattle.words.specs.Words.{call, masks}
 use Rattle.words.specs.Laws.Kinds.{masks-lawful}
 use Rattle.words.specs.declared.Partition.{Partition}
@@ -50,7 +50,7 @@ use Rattle.sheet.specs.Touched.{givenIn, touchedOfCaller, touchedBy, tou
 use Rattle.sheet.specs.declared.Whose.{Whose}
 use Rattle.sheet.specs.declared.Whose.the-variants.{Nobody, One, All}
 use Rattle.sheet.specs.Laws.Bytes.{pair-sheet, sheet-on}
-use Rattle.sheet.specs.Laws.Words.{masks-in, masks-few}
+use Rattle.sheet.specs.Laws.Words.{masks-in}
 use Rattle.sheet.specs.Laws.Reading.{masks-read, bytes-same}
 use Rattle.sheet.specs.Laws.Children.{heads-same}
 use Rattle.sheet.specs.Laws.Kept.{Alike, stays-alike, masks-same, lines-same}

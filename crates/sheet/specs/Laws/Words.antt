@@ -6,7 +6,7 @@ use native.Mathlib.Omega.{arith}
 use Rattle.loops.specs.Map.{mapOf}
 use Rattle.loops.specs.Laws.Count.{sum-fewer}
 use Rattle.loops.specs.Laws.Map.{map-lt}
-use Rattle.words.specs.Kind.{fieldsIn, wordOf, reading, writing, InRange, write-done}
+use Rattle.words.specs.Kind.{wordOf, reading, writing, InRange, write-done}
 use Rattle.words.specs.Laws.Kind.{word-small}
 use Rattle.words.specs.declared.Written.{Written}
 use Rattle.words.specs.Words.{masks, lines}
@@ -33,13 +33,9 @@ open-le t p = sum-fewer 32 (openedAt t p) (heldAt (t .k) p) (λ i _. less (t .op
     less true = omega arith
     less false = omega arith
 
--- a mask of children, and what stands for one in a word, are below 2^16
+-- a mask of children is below 2^16
 pub children-few : (k : K) (p : ℕ) {c : ℕ} → c ≡ childrenOf k p → c < 2 ^ 16
 children-few k p e = rw e (map-lt (child k p) 0 16)
-
-pub masks-few : (w : ℕ) → fieldsIn masks w .children < 2 ^ 16
-unfolding masks
-masks-few w = omega arith
 
 module _ {t : Table} (h : Right t) (p : ℕ) where
   with-in : {c : ℕ} → c < 2 ^ 16 → InRange masks (record { children = c; slots = mapOf 32 (occupied (t .k) p); structures = mapOf 4 (structured (t .k) p) })

@@ -5,7 +5,7 @@ use Prim.Native.Nat.{ℕ, _^_, _<_}
 use native.Mathlib.Omega.{arith}
 use Rattle.words.specs.Kind.{fieldsIn, wordOf, zeroed, reading, Zeroed}
 use Rattle.words.specs.Laws.Kind.{zero-back}
-use Rattle.words.specs.Words.{first, header, structure, regions, slot, call}
+use Rattle.words.specs.Words.{first, header, structure, regions, slot, call, masks}
 use Rattle.words.specs.Laws.Kinds.{regions-lawful}
 use Rattle.words.specs.declared.call_word.CallRead.the-variants.{Fields as CallIs, Refused as CallRefused}
 use Rattle.words.specs.declared.first_word.FirstFields.{FirstFields}
@@ -110,6 +110,11 @@ regions-zero = refl
 -- .. and eight of them are written as the zero word
 pub no-regions-word : wordOf regions noRegions ≡ 0
 no-regions-word = ap (wordOf regions) (sym regions-zero) ∙ zero-back regions-lawful
+
+-- ── what stands for children in a word is below 2^16 ──
+pub masks-few : (w : ℕ) → fieldsIn masks w .children < 2 ^ 16
+unfolding masks
+masks-few w = omega arith
 
 -- ── a slot has no zero bit ──
 pub slot-zeroed : (w : ℕ) → Zeroed slot w
