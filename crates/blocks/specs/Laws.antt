@@ -1,6 +1,8 @@
 pub mod Pick
 pub mod Unloading
-pub mod SlotExits
+pub mod FreeExits
+pub mod CutExits
+pub mod GiveExits
 pub mod RegionExits
 pub mod TakeExits
 pub mod MergeExits

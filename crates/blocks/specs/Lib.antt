@@ -1,6 +1,7 @@
 pub mod Pick
 pub mod Unloading
-pub mod SlotExits
+pub mod CutExits
+pub mod GiveExits
 pub mod RegionExits
 pub mod TakeExits
 pub mod MergeExits

@@ -1,6 +1,6 @@
 ghost use mathlib.Core.Path.{_≡_};
 ghost use Prim.Native.Nat.{_<_, _^_};
-ghost use Rattle.loops.specs.Every.{any};
+ghost use Rattle.loops.specs.Loops.{any};
 ghost use Rattle.tables.specs.View.{view, entryOf, entryIn};
 ghost use Rattle.tables.specs.Encode.{Canon, Is};
 ghost use Rattle.sound.specs.Clauses.{grants, containsBoth};

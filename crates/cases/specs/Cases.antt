@@ -8,16 +8,12 @@ use native.Mathlib.Decide.{ℕ-discrete}
 use lib.ListN.{length, getD, replicate}
 use lib.Dec.{eqb}
 use borrow.Author.Tests.{eq-eqb, eqb-true}
-use Rattle.loops.specs.Scan.{rest}
-use Rattle.loops.specs.Rewrite.{tabFrom}
-use Rattle.loops.specs.Climb.{climb}
-use Rattle.loops.specs.Carry.{done as carried}
-use Rattle.loops.specs.Count.{sum}
+use Rattle.loops.specs.Loops.{rest, tabFrom, climb, carried, sum}
 use Rattle.words.specs.Kind.{wordOf}
 use Rattle.words.specs.Words.{first, header, structure, regions, slot, call}
 use Rattle.shapes.specs.declared.Board.the-variants.{V7}
 use Rattle.tables.specs.State.{Opt, none, some, Entry, entry, allRights, Area}
-use Rattle.tables.specs.View.{view, viewK, entryIn, headerArea, structureArea, areaIn, nth, named, inside, parentAt, firstWord, recordWord, areaWordAt, regionsWordAt, blankWordAt, slotWordAt}
+use Rattle.tables.specs.View.{view, viewK, entryIn, headerArea, structureArea, areaIn, nthRegion, named, inside, parentAt, firstWord, recordWord, areaWordAt, regionsWordAt, blankWordAt, slotWordAt}
 use Rattle.tables.specs.Encode.{encode, slotWord, headerWord, structureWord, regionFor, regionsWord, partWord, wordFor}
 use Rattle.tables.specs.Update.{pick, upd, upd1, both?}
 use Rattle.tables.specs.Search.{lowest, present, absent, absentChild, child, hasChild, noStructure, free, holds, lookedAt}
@@ -346,23 +342,23 @@ right-both (c ∷ bs) cs g h =
 
 -- each part is computed by itself: a declaration has so many steps and no more
 base-right : right (casesOf B session) ≡ true
-unfolding B session D A carried rest tabFrom climb first header structure regions slot call firstWord recordWord areaWordAt regionsWordAt blankWordAt slotWordAt view viewK entryIn headerArea structureArea areaIn nth named inside parentAt encode slotWord headerWord structureWord regionFor regionsWord partWord wordFor pick upd upd1 both? ℕ-discrete lowest present absent absentChild child noStructure free holds lookedAt meets apart clear openBit openAt keep settle zeroTo zeroBlanks when has isNowhere long s1 s2Root s2Other s2 blankRegion s3Regions s3First s3 rooted s4Area s4Absent s4 s5Slot s5 apartE s6 held covered s7Root s7Given grants s7Inside s7Cover lends undivided s7Whole s7 equals s8Backed s8Apart s8 s9 s10Names s10Once fits grown widest piecesIn pieces entryPieces regionPieces loadedPieces s10 full within s11Within containsBoth oneGrant sameRights s11Equal s11 clauseAt sound receiver givenBy heir deepest trail holdersOf sumOver looksOf inMemory holdersOutcome holdersBytes check need ownOrChild parentOrChild freeEntry create prepare vacant collect give returned take cut merge elsewhere load switch ungive branch clearOut sum noRights uses unused regionCall known perform serve serveRead callOn bootOn wordsAfter outcomeOf
+unfolding B session D A carried rest tabFrom climb first header structure regions slot call firstWord recordWord areaWordAt regionsWordAt blankWordAt slotWordAt view viewK entryIn headerArea structureArea areaIn nthRegion named inside parentAt encode slotWord headerWord structureWord regionFor regionsWord partWord wordFor pick upd upd1 both? ℕ-discrete lowest present absent absentChild child noStructure free holds lookedAt meets apart clear openBit openAt keep settle zeroTo zeroBlanks when has isNowhere long s1 s2Root s2Other s2 blankRegion s3Regions s3First s3 rooted s4Area s4Absent s4 s5Slot s5 apartE s6 held covered s7Root s7Given grants s7Inside s7Cover lends undivided s7Whole s7 equals s8Backed s8Apart s8 s9 s10Names s10Once fits grown widest piecesIn pieces entryPieces regionPieces loadedPieces s10 full within s11Within containsBoth oneGrant sameRights s11Equal s11 clauseAt sound receiver givenBy heir deepest trail holdersOf sumOver looksOf inMemory holdersOutcome holdersBytes check need ownOrChild parentOrChild freeEntry create prepare vacant collect give returned take cut merge elsewhere load switch ungive branch clearOut sum noRights uses unused regionCall known perform serve serveRead callOn bootOn wordsAfter outcomeOf
 base-right = refl
 
 further-right : right (furtherCases B (session .1) D A) ≡ true
-unfolding B session D A carried rest tabFrom climb first header structure regions slot call firstWord recordWord areaWordAt regionsWordAt blankWordAt slotWordAt view viewK entryIn headerArea structureArea areaIn nth named inside parentAt encode slotWord headerWord structureWord regionFor regionsWord partWord wordFor pick upd upd1 both? ℕ-discrete lowest present absent absentChild child hasChild noStructure free holds lookedAt meets apart clear openBit openAt keep settle zeroTo zeroBlanks when has isNowhere long s1 s2Root s2Other s2 blankRegion s3Regions s3First s3 rooted s4Area s4Absent s4 s5Slot s5 apartE s6 held covered s7Root s7Given grants s7Inside s7Cover lends undivided s7Whole s7 equals s8Backed s8Apart s8 s9 s10Names s10Once fits grown widest piecesIn pieces entryPieces regionPieces loadedPieces s10 full within s11Within containsBoth oneGrant sameRights s11Equal s11 clauseAt sound receiver givenBy heir deepest trail holdersOf sumOver looksOf inMemory holdersOutcome holdersBytes check need ownOrChild parentOrChild freeEntry create delete prepare vacant collect give returned take cut merge elsewhere load unload regionWord readRegion find switch ungive branch clearOut sum noRights uses unused regionCall known perform serve serveRead callOn bootOn wordsAfter outcomeOf
+unfolding B session D A carried rest tabFrom climb first header structure regions slot call firstWord recordWord areaWordAt regionsWordAt blankWordAt slotWordAt view viewK entryIn headerArea structureArea areaIn nthRegion named inside parentAt encode slotWord headerWord structureWord regionFor regionsWord partWord wordFor pick upd upd1 both? ℕ-discrete lowest present absent absentChild child hasChild noStructure free holds lookedAt meets apart clear openBit openAt keep settle zeroTo zeroBlanks when has isNowhere long s1 s2Root s2Other s2 blankRegion s3Regions s3First s3 rooted s4Area s4Absent s4 s5Slot s5 apartE s6 held covered s7Root s7Given grants s7Inside s7Cover lends undivided s7Whole s7 equals s8Backed s8Apart s8 s9 s10Names s10Once fits grown widest piecesIn pieces entryPieces regionPieces loadedPieces s10 full within s11Within containsBoth oneGrant sameRights s11Equal s11 clauseAt sound receiver givenBy heir deepest trail holdersOf sumOver looksOf inMemory holdersOutcome holdersBytes check need ownOrChild parentOrChild freeEntry create delete prepare vacant collect give returned take cut merge elsewhere load unload regionWord readRegion find switch ungive branch clearOut sum noRights uses unused regionCall known perform serve serveRead callOn bootOn wordsAfter outcomeOf
 further-right = refl
 
 lent-right : right (lentCases L) ≡ true
-unfolding B L carried rest tabFrom climb first header structure regions slot call firstWord recordWord areaWordAt regionsWordAt blankWordAt slotWordAt view viewK entryIn headerArea structureArea areaIn nth named inside parentAt encode slotWord headerWord structureWord regionFor regionsWord partWord wordFor pick upd upd1 both? ℕ-discrete lowest present absent absentChild child hasChild noStructure free holds lookedAt meets apart clear openBit openAt keep settle zeroTo zeroBlanks when has isNowhere long s1 s2Root s2Other s2 blankRegion s3Regions s3First s3 rooted s4Area s4Absent s4 s5Slot s5 apartE s6 held covered s7Root s7Given grants s7Inside s7Cover lends undivided s7Whole s7 equals s8Backed s8Apart s8 s9 s10Names s10Once fits grown widest piecesIn pieces entryPieces regionPieces loadedPieces s10 full within s11Within containsBoth oneGrant sameRights s11Equal s11 clauseAt sound receiver givenBy heir deepest trail holdersOf sumOver looksOf inMemory holdersOutcome holdersBytes check need ownOrChild parentOrChild freeEntry create delete prepare vacant collect give returned take cut merge elsewhere load unload regionWord readRegion find switch ungive branch clearOut sum noRights uses unused regionCall known perform serve serveRead callOn bootOn wordsAfter outcomeOf
+unfolding B L carried rest tabFrom climb first header structure regions slot call firstWord recordWord areaWordAt regionsWordAt blankWordAt slotWordAt view viewK entryIn headerArea structureArea areaIn nthRegion named inside parentAt encode slotWord headerWord structureWord regionFor regionsWord partWord wordFor pick upd upd1 both? ℕ-discrete lowest present absent absentChild child hasChild noStructure free holds lookedAt meets apart clear openBit openAt keep settle zeroTo zeroBlanks when has isNowhere long s1 s2Root s2Other s2 blankRegion s3Regions s3First s3 rooted s4Area s4Absent s4 s5Slot s5 apartE s6 held covered s7Root s7Given grants s7Inside s7Cover lends undivided s7Whole s7 equals s8Backed s8Apart s8 s9 s10Names s10Once fits grown widest piecesIn pieces entryPieces regionPieces loadedPieces s10 full within s11Within containsBoth oneGrant sameRights s11Equal s11 clauseAt sound receiver givenBy heir deepest trail holdersOf sumOver looksOf inMemory holdersOutcome holdersBytes check need ownOrChild parentOrChild freeEntry create delete prepare vacant collect give returned take cut merge elsewhere load unload regionWord readRegion find switch ungive branch clearOut sum noRights uses unused regionCall known perform serve serveRead callOn bootOn wordsAfter outcomeOf
 lent-right = refl
 
 pack-right : right (packCases E F) ≡ true
-unfolding E F carried rest tabFrom climb first header structure regions slot call firstWord recordWord areaWordAt regionsWordAt blankWordAt slotWordAt view viewK entryIn headerArea structureArea areaIn nth named inside parentAt encode slotWord headerWord structureWord regionFor regionsWord partWord wordFor pick upd upd1 both? ℕ-discrete lowest present absent absentChild child hasChild noStructure free holds lookedAt meets apart clear openBit openAt keep settle zeroTo zeroBlanks when has isNowhere long s1 s2Root s2Other s2 blankRegion s3Regions s3First s3 rooted s4Area s4Absent s4 s5Slot s5 apartE s6 held covered s7Root s7Given grants s7Inside s7Cover lends undivided s7Whole s7 equals s8Backed s8Apart s8 s9 s10Names s10Once s10 full within s11Within containsBoth oneGrant sameRights s11Equal s11 clauseAt sound receiver givenBy heir deepest trail holdersOf sumOver looksOf inMemory holdersOutcome holdersBytes check need ownOrChild parentOrChild freeEntry create delete prepare vacant collect give returned take cut merge elsewhere load unload regionWord readRegion find switch ungive branch clearOut usable rename moveTo packSlot packed pack sum noRights uses unused regionCall known perform serve serveRead callOn bootOn wordsAfter outcomeOf fits grown widest piecesIn pieces entryPieces regionPieces loadedPieces
+unfolding E F carried rest tabFrom climb first header structure regions slot call firstWord recordWord areaWordAt regionsWordAt blankWordAt slotWordAt view viewK entryIn headerArea structureArea areaIn nthRegion named inside parentAt encode slotWord headerWord structureWord regionFor regionsWord partWord wordFor pick upd upd1 both? ℕ-discrete lowest present absent absentChild child hasChild noStructure free holds lookedAt meets apart clear openBit openAt keep settle zeroTo zeroBlanks when has isNowhere long s1 s2Root s2Other s2 blankRegion s3Regions s3First s3 rooted s4Area s4Absent s4 s5Slot s5 apartE s6 held covered s7Root s7Given grants s7Inside s7Cover lends undivided s7Whole s7 equals s8Backed s8Apart s8 s9 s10Names s10Once s10 full within s11Within containsBoth oneGrant sameRights s11Equal s11 clauseAt sound receiver givenBy heir deepest trail holdersOf sumOver looksOf inMemory holdersOutcome holdersBytes check need ownOrChild parentOrChild freeEntry create delete prepare vacant collect give returned take cut merge elsewhere load unload regionWord readRegion find switch ungive branch clearOut usable rename moveTo packSlot packed pack sum noRights uses unused regionCall known perform serve serveRead callOn bootOn wordsAfter outcomeOf fits grown widest piecesIn pieces entryPieces regionPieces loadedPieces
 pack-right = refl
 
 shaped-right : right (shapedCases B) ≡ true
-unfolding B carried rest tabFrom climb first header structure regions slot call firstWord recordWord areaWordAt regionsWordAt blankWordAt slotWordAt view viewK entryIn headerArea structureArea areaIn nth named inside parentAt encode slotWord headerWord structureWord regionFor regionsWord partWord wordFor pick upd upd1 both? ℕ-discrete lowest present absent absentChild child hasChild noStructure free holds lookedAt meets apart clear openBit openAt keep settle zeroTo zeroBlanks when has isNowhere long s1 s2Root s2Other s2 blankRegion s3Regions s3First s3 rooted s4Area s4Absent s4 s5Slot s5 apartE s6 held covered s7Root s7Given grants s7Inside s7Cover lends undivided s7Whole s7 equals s8Backed s8Apart s8 s9 s10Names s10Once fits grown widest piecesIn pieces entryPieces regionPieces loadedPieces s10 full within s11Within containsBoth oneGrant sameRights s11Equal s11 clauseAt sound receiver givenBy heir deepest trail holdersOf sumOver looksOf inMemory holdersOutcome holdersBytes check need ownOrChild parentOrChild freeEntry create delete prepare vacant collect give returned take cut merge elsewhere load unload regionWord readRegion find switch ungive branch clearOut sum noRights uses unused regionCall known perform serve serveRead callOn bootOn wordsAfter outcomeOf
+unfolding B carried rest tabFrom climb first header structure regions slot call firstWord recordWord areaWordAt regionsWordAt blankWordAt slotWordAt view viewK entryIn headerArea structureArea areaIn nthRegion named inside parentAt encode slotWord headerWord structureWord regionFor regionsWord partWord wordFor pick upd upd1 both? ℕ-discrete lowest present absent absentChild child hasChild noStructure free holds lookedAt meets apart clear openBit openAt keep settle zeroTo zeroBlanks when has isNowhere long s1 s2Root s2Other s2 blankRegion s3Regions s3First s3 rooted s4Area s4Absent s4 s5Slot s5 apartE s6 held covered s7Root s7Given grants s7Inside s7Cover lends undivided s7Whole s7 equals s8Backed s8Apart s8 s9 s10Names s10Once fits grown widest piecesIn pieces entryPieces regionPieces loadedPieces s10 full within s11Within containsBoth oneGrant sameRights s11Equal s11 clauseAt sound receiver givenBy heir deepest trail holdersOf sumOver looksOf inMemory holdersOutcome holdersBytes check need ownOrChild parentOrChild freeEntry create delete prepare vacant collect give returned take cut merge elsewhere load unload regionWord readRegion find switch ungive branch clearOut sum noRights uses unused regionCall known perform serve serveRead callOn bootOn wordsAfter outcomeOf
 shaped-right = refl
 
 -- ── the statement: in every case, what is computed is what 01 and 02 say ──

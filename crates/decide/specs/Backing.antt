@@ -6,8 +6,8 @@ use Rattle.tables.specs.State.{Opt, Entry, Area}
 use Rattle.sound.specs.Clauses.{has}
 
 -- the lines from a to b
-abbrev pub between : ℕ → ℕ → Area
-between a b = record { lo = a; hi = b }
+abbrev pub areaBetween : ℕ → ℕ → Area
+areaBetween a b = record { lo = a; hi = b }
 
 -- a not-given entry that equals the area
 unfoldable pub backs : Area → Opt Entry → Bool

@@ -4,7 +4,7 @@ use mathlib.Core.List.{List}
 use Prim.Native.Nat.{ℕ, _+_, _*_}
 use lib.Dec.{leb, eqb}
 use lib.ListN.{getD}
-use Rattle.loops.specs.Every.{all}
+use Rattle.loops.specs.Loops.{all}
 use Rattle.shapes.specs.declared.Board.{Board}
 use Rattle.tables.specs.State.{Entry, Table}
 use Rattle.tables.specs.Search.{present, child}

@@ -7,7 +7,7 @@ use lib.ListN.{length, getD, set}
 use Rattle.tables.specs.State.{some, Area, K}
 use Rattle.tables.specs.View.{view}
 use Rattle.shape.specs.AtOnce.{Shaped}
-use Rattle.loops.specs.Scan.{seek}
+use Rattle.loops.specs.Loops.{seek}
 use Rattle.sound.specs.Sound.{Rooted, Equals, S8}
 use Rattle.sound.specs.Laws.Local.{EqualAt}
 use Rattle.decide.specs.Backing.{backs}

@@ -18,8 +18,8 @@ isOpen t p i = isSome (t .k .slot p i) && t .opened p i
 unfoldable pub marked : ℕ → ℕ → Bool
 marked m i = eqb (m / 2 ^ i % 2) 1
 
-unfoldable pub noted : ℕ → Region → ℕ
-noted m x = cond (x .loaded) (bitOr m (2 ^ x .slot .0)) m
+unfoldable pub slotNoted : ℕ → Region → ℕ
+slotNoted m x = cond (x .loaded) (bitOr m (2 ^ x .slot .0)) m
 
 -- what a region weighs, where those before it name the slots of the mask: the pieces of what it names, or 9, which is too much, where S10 says something else of it
 unfoldable pub weight : Board → Table → ℕ → ℕ → Region → ℕ

@@ -14,7 +14,7 @@ use Rattle.decide.specs.Order.{placed, Rows}
 
 -- ── one range lo to hi with rights r ──
 -- e lies inside it, ends by line at, and has no right beyond r
-pub record Piece (e : Entry) (lo hi at : ℕ) (r : Rights) : Type 0 where
+pub record TilePiece (e : Entry) (lo hi at : ℕ) (r : Rights) : Type 0 where
   pub from : lo ≤ e .start
   pub to : e .stop ≤ hi
   pub before : e .stop ≤ at
@@ -24,12 +24,12 @@ pub record Piece (e : Entry) (lo hi at : ℕ) (r : Rights) : Type 0 where
 pub record Tiling (E : ℕ → Entry) (i k lo hi at : ℕ) (r : Rights) : Type 0 where
   pub up : i ≤ k
   pub on : lo ≤ at
-  pub piece : (a : ℕ) → i ≤ a → a < k → Piece (E a) lo hi at r
+  pub piece : (a : ℕ) → i ≤ a → a < k → TilePiece (E a) lo hi at r
   pub cover : (l : ℕ) → lo ≤ l → l < at → (a : ℕ) × (i ≤ a) × (a < k) × In l (E a)
   pub equal : (a : ℕ) → i ≤ a → a < k → E a .rights ≡ E i .rights
 
 -- E k goes on from there
-pub record Fits (E : ℕ → Entry) (n i k hi at : ℕ) (r : Rights) : Type 0 where
+pub record GoesOn (E : ℕ → Entry) (n i k hi at : ℕ) (r : Rights) : Type 0 where
   pub there : k < n
   pub start : E k .start ≡ at
   pub to : E k .stop ≤ hi
@@ -43,7 +43,7 @@ follows first a b = cond first (within a b) (sameRights a b)
 -- x is the place after those that tile it; where they do not, 33, which is beyond all places
 pub data Tiled (E : ℕ → Entry) (n i lo hi : ℕ) (r : Rights) (x : ℕ) : Type 0 where
   fitted : (at : ℕ) → x ≤ n → hi ≤ at → Tiling E i x lo hi at r → Tiled E n i lo hi r x
-  stuck : (k at : ℕ) → n < 33 → x ≡ 33 → at < hi → Tiling E i k lo hi at r → (Fits E n i k hi at r → ⊥) → Tiled E n i lo hi r x
+  stuck : (k at : ℕ) → n < 33 → x ≡ 33 → at < hi → Tiling E i k lo hi at r → (GoesOn E n i k hi at r → ⊥) → Tiled E n i lo hi r x
 
 -- the flags of places i to k - 1 are set
 abbrev pub AllSet : (ℕ → Bool) → ℕ → ℕ → Type 0
@@ -63,8 +63,8 @@ abbrev pub rowOf : List ℕ → List ℕ → ℕ → ℕ → Entry
 rowOf l o p a = entryOr (view l .k .slot p (placed o p a))
 
 -- .. and their open bits
-abbrev pub bitOf : List ℕ → List ℕ → ℕ → ℕ → Bool
-bitOf l o p a = view l .opened p (placed o p a)
+abbrev pub openedBit : List ℕ → List ℕ → ℕ → ℕ → Bool
+openedBit l o p a = view l .opened p (placed o p a)
 
 -- an entry as if it had all rights and no mark; those of p by place
 abbrev pub unranked : Entry → Entry

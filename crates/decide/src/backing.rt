@@ -2,7 +2,7 @@ ghost use mathlib.Core.Path.{_≡_};
 ghost use Prim.Native.Nat.{_<_};
 ghost use Rattle.tables.specs.View.{entryIn, view};
 ghost use Rattle.shape.specs.AtOnce.{Shaped};
-ghost use Rattle.decide.specs.Backing.{between, backs};
+ghost use Rattle.decide.specs.Backing.{areaBetween, backs};
 ghost use Rattle.decide.specs.Marking.{equalSlot};
 use tables::read;
 use words::Line;
@@ -12,7 +12,7 @@ use words::slot_word::SlotFields;
 
 // a not-given entry that equals lo to hi
 fn backs(f: SlotFields, lo: Line, hi: Line) -> bool
-    ensures { λ r. ⌜ r ≡ backs (between (lo .0) (hi .0)) (entryIn f) ⌝ }
+    ensures { λ r. ⌜ r ≡ backs (areaBetween (lo .0) (hi .0)) (entryIn f) ⌝ }
 {
     if !f.present {
         return false;
@@ -29,7 +29,7 @@ fn backs(f: SlotFields, lo: Line, hi: Line) -> bool
 // the slot of q with such an entry, or 32
 pub fn equal_slot(t: &[u64; 641], q: Partition, lo: Line, hi: Line) -> u32
     requires { ⌜ (q .0 < 16) × Shaped (now t) ⌝ }
-    ensures { λ r. ⌜ r ≡ equalSlot (view (now (t .entry)) .k) (q .0) (between (lo .0) (hi .0)) ⌝ }
+    ensures { λ r. ⌜ r ≡ equalSlot (view (now (t .entry)) .k) (q .0) (areaBetween (lo .0) (hi .0)) ⌝ }
 {
     let used = crate::used::used_slots(t, q);
     let mut i = 0u32;

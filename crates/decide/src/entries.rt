@@ -2,7 +2,7 @@ ghost use mathlib.Core.Path.{_≡_};
 ghost use mathlib.Core.Bool.{not, _||_};
 ghost use Prim.Native.Nat.{_<_};
 ghost use lib.ListN.{length};
-ghost use Rattle.loops.specs.Every.{all, any};
+ghost use Rattle.loops.specs.Loops.{all, any};
 ghost use Rattle.tables.specs.View.{entryOf, entryIn, view};
 ghost use Rattle.sound.specs.Clauses.{has, lends, undivided};
 ghost use Rattle.shape.specs.AtOnce.{Shaped};

@@ -2,7 +2,7 @@ ghost use mathlib.Core.Path.{_≡_};
 ghost use mathlib.Core.Bool.{true};
 ghost use Prim.Native.Nat.{_<_};
 ghost use lib.ListN.{length};
-ghost use Rattle.loops.specs.Every.{all};
+ghost use Rattle.loops.specs.Loops.{all};
 ghost use Rattle.tables.specs.View.{view};
 ghost use Rattle.tables.specs.Top.{Top};
 ghost use Rattle.tables.specs.Search.{present};

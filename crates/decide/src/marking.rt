@@ -4,7 +4,7 @@ ghost use lib.ListN.{length};
 ghost use Rattle.tables.specs.View.{view};
 ghost use Rattle.tables.specs.Top.{Top};
 ghost use Rattle.shape.specs.AtOnce.{Shaped};
-ghost use Rattle.decide.specs.Backing.{between};
+ghost use Rattle.decide.specs.Backing.{areaBetween};
 ghost use Rattle.decide.specs.Marking.{Marks, MarkedTo, CanMark, MarkSays};
 use crate::backing::equal_slot;
 use shape::is_rooted;
@@ -15,7 +15,7 @@ use words::Partition;
 // The not-given entry of q that equals lo to hi is marked: 0 where it has none, 2 where it was marked before.
 fn mark_equal(t: &[u64; 641], q: Partition, lo: Line, hi: Line, mark: &mut [u8; 512]) -> u32
     requires { ⌜ (q .0 < 16) × Shaped (now t) × (length (now mark) ≡ 512) ⌝ }
-    ensures { λ r. ⌜ Marks (view (now (t .entry)) .k) (q .0) (between (lo .0) (hi .0)) (now (mark .entry)) r (now (mark .exit)) ⌝ }
+    ensures { λ r. ⌜ Marks (view (now (t .entry)) .k) (q .0) (areaBetween (lo .0) (hi .0)) (now (mark .entry)) r (now (mark .exit)) ⌝ }
 {
     let i = equal_slot(t, q, lo, hi);
     if i >= 32 {

@@ -2,7 +2,7 @@ ghost use mathlib.Core.Path.{_≡_};
 ghost use Prim.Native.Nat.{_≤_, _<_};
 ghost use Rattle.tables.specs.View.{view};
 ghost use Rattle.sound.specs.Clauses.{s10};
-ghost use Rattle.decide.specs.Opening.{someLoaded, isOpen, marked, noted, weight};
+ghost use Rattle.decide.specs.Opening.{someLoaded, isOpen, marked, slotNoted, weight};
 use crate::limit::entry_pieces;
 use shapes::Board;
 use tables::read;
@@ -49,7 +49,7 @@ fn is_marked(mask: u32, i: Slot) -> bool
 // the mask with the slot that a region names
 fn noted(mask: u32, x: Region) -> u32
     requires { ⌜ x .slot .0 < 32 ⌝ }
-    ensures { λ r. ⌜ r ≡ noted mask x ⌝ }
+    ensures { λ r. ⌜ r ≡ slotNoted mask x ⌝ }
 {
     if !x.loaded {
         return mask;

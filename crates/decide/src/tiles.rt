@@ -9,7 +9,7 @@ ghost use Rattle.shape.specs.AtOnce.{Shaped};
 ghost use Rattle.decide.specs.Entries.{exactly};
 ghost use Rattle.decide.specs.Order.{Orders};
 ghost use Rattle.decide.specs.Local.{grantsOpen};
-ghost use Rattle.decide.specs.Tiles.{follows, rowOf, bitOf, plainRow, InOrder, ChildOf, Tiled, TiledAs};
+ghost use Rattle.decide.specs.Tiles.{follows, rowOf, openedBit, plainRow, InOrder, ChildOf, Tiled, TiledAs};
 use crate::entries::full_each;
 use crate::order::entry_at;
 use shape::rights::rights_within;
@@ -64,7 +64,7 @@ fn tile(
     opened: bool,
 ) -> u32
     requires { ⌜ InOrder (now t) (now order) (p .0) n × (i ≤ n) ⌝ }
-    ensures { λ x. ⌜ TiledAs (rowOf (now (t .entry)) (now (order .entry)) (p .0)) (bitOf (now (t .entry)) (now (order .entry)) (p .0)) n i (lo .0) (hi .0) r opened x ⌝ }
+    ensures { λ x. ⌜ TiledAs (rowOf (now (t .entry)) (now (order .entry)) (p .0)) (openedBit (now (t .entry)) (now (order .entry)) (p .0)) n i (lo .0) (hi .0) r opened x ⌝ }
 {
     let mut at = lo;
     let mut k = i;

@@ -10,7 +10,7 @@ use mathlib.Core.Logic.{_↔_}
 use Prim.Native.Nat.{ℕ, suc, _+_, _-_, _/_, _%_, _^_, _≤_, _<_}
 use lib.Dec.{eqb}
 use lib.ListN.{length, getD}
-use Rattle.loops.specs.Count.{count}
+use Rattle.loops.specs.Loops.{count}
 use Rattle.words.specs.Kind.{RoundTrips, fieldsIn}
 use Rattle.words.specs.Words.{first, header, structure, regions, slot, call, boot}
 use Rattle.shapes.specs.declared.Board.{Board}
@@ -19,20 +19,19 @@ use Rattle.tables.specs.View.{view}
 use Rattle.tables.specs.Encode.{encode}
 use Rattle.memory.specs.Bytes.{bytesOf}
 use Rattle.tables.specs.Lines.{In, Holds}
-use Rattle.tables.specs.WayUp.{over}
+use Rattle.tables.specs.WayUp.{namesOver}
 use Rattle.sound.specs.Sound.{Sound}
 use Rattle.sound.specs.Properties.{Isolated}
 use Rattle.sound.specs.Holders.{holdersOf, sumOver, looksOf}
 use Rattle.rules.specs.Rules.{done, bootOn}
 use Rattle.isolation.specs.Ladder.{Ladder, finish, must, there, least, Least, Answers}
-use Rattle.isolation.specs.Boot.{bootLadder}
-use Rattle.isolation.specs.Exact.{callLadder}
+use Rattle.isolation.specs.Ladders.{bootLadder, callLadder}
 use Rattle.runs.specs.declared.Run.{Run}
-use Rattle.runs.specs.Runs.{runsOf, On, Chain, nth as run, over as runsOver}
+use Rattle.runs.specs.Runs.{runsOf, On, Chain, nthRun as run, runsOver}
 use Rattle.ledger.specs.Ledger.{Ledger, opening, Event, nothing, apply, accepted, linesNamed}
-use Rattle.ledger.specs.Lists.{Lists, nth}
-use Rattle.face.specs.Face.{handed, packed, Lent, CallLent, ListLent}
-use Rattle.face.specs.Lists.{Handed}
+use Rattle.ledger.specs.Lists.{Lists, nthName}
+use Rattle.face.specs.Face.{handed, resultPacked, Lent, CallLent, ListLent}
+use Rattle.face.specs.Lists.{RunsLent}
 
 -- ── what is lent, and what C reads out of a result word ──
 abbrev pub Bytes : List ℕ → Type 0
@@ -71,14 +70,14 @@ pub data Applies : Ladder → ℕ → Type 1 where
   of-lowest : {n m k : ℕ} {P : ℕ → Type 0} {c : ℕ → Ladder} (i : ℕ) → Least k P i → Applies (c i) m → Applies (least n k P c) m
 
 -- where several apply, the lowest
-pub record Lowest (l : Ladder) (n : ℕ) : Type 1 where
+pub record LowestRefusal (l : Ladder) (n : ℕ) : Type 1 where
   pub applies : Applies l n
   pub lowest : (m : ℕ) → Applies l m → n ≤ m
 
 -- the result r of a function whose row is l
 pub record Answered (l : Ladder) (r : ℕ) (Unchanged : Type 0) : Type 1 where
   -- refused with n exactly where n is the lowest number that applies, done exactly where none applies
-  pub refuses : (n : ℕ) → 0 < n → (refusalIn r ≡ n) ↔ Lowest l n
+  pub refuses : (n : ℕ) → 0 < n → (refusalIn r ≡ n) ↔ LowestRefusal l n
   pub accepts : Accepted r ↔ ((n : ℕ) → Applies l n → ⊥)
   -- refused, the first value is 0 and all that was lent is as before
   pub unchanged : (Accepted r → ⊥) → (firstIn r ≡ 0) × Unchanged
@@ -97,7 +96,7 @@ pub record LongestRuns (Holder : ℕ → ℕ → Type 0) (up : ℕ → ℕ) (bas
   pub chain : Chain base end rs
   pub same : (i l m : ℕ) → i < length rs → On (run rs i) l → On (run rs i) m → (p : ℕ) → Holder p l ↔ Holder p m
   pub differ : (i l m : ℕ) → suc i < length rs → On (run rs i) l → On (run rs (suc i)) m → ((p : ℕ) → Holder p l ↔ Holder p m) → ⊥
-  pub deepest : (i l : ℕ) → i < length rs → On (run rs i) l → (hs : List ℕ) × Lists (λ p. Holder p l) up hs × (nth hs (length hs - 1) ≡ run rs i .deepest .0)
+  pub deepest : (i l : ℕ) → i < length rs → On (run rs i) l → (hs : List ℕ) × Lists (λ p. Holder p l) up hs × (nthName hs (length hs - 1) ≡ run rs i .deepest .0)
 
 -- those of a table: who has an entry with the line holds it
 abbrev pub TableRuns : List ℕ → List Run → Type 0
@@ -115,7 +114,7 @@ pub record DemandOne (board : Board) : Type 1 where
   pub boot-answers : (base end : ℕ) (b : List ℕ) → (r : ℕ) × (c : List ℕ) × BootLent b base end r c
   pub call-answers : (b : List ℕ) (w s : ℕ) → (r : ℕ) × (c : List ℕ) × (s′ : ℕ) × CallLent board b w s r c s′
   pub holders-answers : (b : List ℕ) (m : ℕ) (list : List ℕ) (s : ℕ) → (r : ℕ) × (after : List ℕ) × (s′ : ℕ) × ListLent board b m list s r after s′
-  pub runs-answers : (b : List ℕ) (list : List Run) → (r : ℕ) × (after : List Run) × Handed board b list r after
+  pub runs-answers : (b : List ℕ) (list : List Run) → (r : ℕ) × (after : List Run) × RunsLent board b list r after
   pub boot : (base end : ℕ) {b : List ℕ} {r : ℕ} {c : List ℕ} → BootLent b base end r c
       → Answered (bootLadder (handed b) base end) r (c ≡ b)
   pub call : {b : List ℕ} {w s r : ℕ} {c : List ℕ} {s′ : ℕ} → Bytes b → CallLent board b w s r c s′
@@ -123,13 +122,13 @@ pub record DemandOne (board : Board) : Type 1 where
   -- holders and runs are lent the table for reading only
   pub holders : {b : List ℕ} {m : ℕ} {list : List ℕ} {s r : ℕ} {after : List ℕ} {s′ : ℕ} → ListLent board b m list s r after s′
       → Answered (holdersLadder board (handed b) m (length list)) r ((after ≡ list) × (s′ ≡ s))
-  pub runs : {b : List ℕ} {list : List Run} {r : ℕ} {after : List Run} → Handed board b list r after
+  pub runs : {b : List ℕ} {list : List Run} {r : ℕ} {after : List Run} → RunsLent board b list r after
       → Answered (runsLadder board (handed b) (length list)) r (after ≡ list)
   -- beside the number of a call stands the caller, as before the call; 0 where refusal 1 is given
   pub caller : {b : List ℕ} {w s r : ℕ} {c : List ℕ} {s′ : ℕ} → Bytes b → CallLent board b w s r c s′
       → (refusalIn r ≡ 1 → callerIn r ≡ 0) × ((refusalIn r ≡ 1 → ⊥) → callerIn r ≡ view (handed b) .k .current)
   -- C reads what was packed into a result
-  pub reads : (n p v : ℕ) → n < 2 ^ 8 → p < 2 ^ 8 → (refusalIn (packed n p v) ≡ n) × (callerIn (packed n p v) ≡ p) × (firstIn (packed n p v) ≡ v)
+  pub reads : (n p v : ℕ) → n < 2 ^ 8 → p < 2 ^ 8 → (refusalIn (resultPacked n p v) ≡ n) × (callerIn (resultPacked n p v) ≡ p) × (firstIn (resultPacked n p v) ≡ v)
 
 -- ── DEMAND 2 ──
 -- Each service changes the tables and answers exactly as 01 says. After every accepted call the four properties of the Pip-MPU paper stand. Packed words
@@ -167,7 +166,7 @@ pub record HoldersWritten (t : List ℕ) (m : ℕ) (Holder : ℕ → Type 0) (up
   pub listing : Lists Holder up names
   pub only : (hs : List ℕ) → Lists Holder up hs → hs ≡ names
   pub number-is : number ≡ length names
-  pub bytes : after ≡ over names list
+  pub bytes : after ≡ namesOver names list
   pub looked : Looked t m names second
 
 -- the runs, written into a list: likewise
@@ -213,7 +212,7 @@ pub record DemandTwo (board : Board) : Type 1 where
       → Isolated (view (handed d))
   pub holders : {b : List ℕ} {m : ℕ} {list : List ℕ} {s r : ℕ} {after : List ℕ} {s′ : ℕ} → ListLent board b m list s r after s′ → Accepted r
       → HoldersWritten (handed b) m (λ p. Holds (view (handed b) .k .slot) p m) (view (handed b) .k .parent) list (firstIn r) s′ after
-  pub runs : {b : List ℕ} {list : List Run} {r : ℕ} {after : List Run} → Handed board b list r after → Accepted r
+  pub runs : {b : List ℕ} {list : List Run} {r : ℕ} {after : List Run} → RunsLent board b list r after → Accepted r
       → RunsWritten (TableRuns (handed b)) list (firstIn r) after
   pub packed-words : PackedWords
 
@@ -233,9 +232,9 @@ pub record Tells (board : Board) (base end : ℕ) (g : Ledger) (d : List ℕ) : 
   pub outside : {m : ℕ} {list : List ℕ} {s r : ℕ} {after : List ℕ} {s′ : ℕ} → ListLent board d m list s r after s′ → ((base ≤ m) × (m < end) → ⊥)
       → (refusalIn r ≡ 7) × (after ≡ list) × (s′ ≡ s)
   -- runs: by the ledger's names, deepest the last of them; refused, with 17, where the list is shorter than those runs
-  pub runs : {list : List Run} {r : ℕ} {after : List Run} → Handed board d list r after → Accepted r
+  pub runs : {list : List Run} {r : ℕ} {after : List Run} → RunsLent board d list r after → Accepted r
       → RunsWritten (LongestRuns (λ p l. g .stands p l ≡ true) (g .parent) base end) list (firstIn r) after
-  pub short : {list : List Run} {r : ℕ} {after : List Run} → Handed board d list r after → (Accepted r → ⊥)
+  pub short : {list : List Run} {r : ℕ} {after : List Run} → RunsLent board d list r after → (Accepted r → ⊥)
       → (refusalIn r ≡ 17) × (after ≡ list) × ((rs : List Run) × LongestRuns (λ p l. g .stands p l ≡ true) (g .parent) base end rs × (length list < length rs))
 
 pub record DemandThree (board : Board) : Type 0 where

@@ -1,5 +1,5 @@
 -- ARMv8-M: "On this one #102's pieces, 19 and the limit of 8 pieces in S10 don't apply, and each loaded entry is one region." What is common is said once, over the
--- pieces of the board (`piecesFor`); of this board the rest follows. The theorem is `plain` (`Laws/PlainProof.antt`).
+-- pieces of the board (`piecesFor`); of this board the rest follows. The theorem is `plain-board` (`Laws/PlainProof.antt`).
 use mathlib.Core.Path.{_≡_}
 use mathlib.Core.List.{List, [], _∷_}
 use Prim.Native.Nat.{ℕ, _-_, _≤_}

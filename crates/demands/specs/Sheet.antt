@@ -36,7 +36,7 @@ pub data CalledBeside (board : Board) : List ℕ → List ℕ → List ℕ → L
   one-call : {b s c s′ d u ws : List ℕ} {w v r v′ : ℕ} → CallSheetLent board b s w v r c s′ v′ → CalledBeside board c s′ ws d u → CalledBeside board b s (w ∷ ws) d u
 
 -- what is so of the table's bytes d and the sheet u beside them, of memory from base to end
-pub record Beside (board : Board) (base end : ℕ) (d u : List ℕ) : Type 0 where
+pub record KeptBeside (board : Board) (base end : ℕ) (d u : List ℕ) : Type 0 where
   pub sound : Sound board (handed d)
   pub sheet : IsSheet d u
   -- so 20 never comes up by itself
@@ -71,7 +71,7 @@ pub record SheetDemand (board : Board) : Type 0 where
   pub pairs : (b : List ℕ) {s : List ℕ} → Bytes b → Sound board (handed b) → IsSheet b s → (p : ℕ) → p < 16 → Pair (view (handed b)) p (wordAt s (2 * p)) (wordAt s (2 * p + 1))
   -- after any list of calls from an accepted boot
   pub session : (base end : ℕ) {b s : List ℕ} {r : ℕ} {c s′ : List ℕ} → BootSheetLent b s base end r c s′ → Accepted r → {ws d u : List ℕ} → CalledBeside board c s′ ws d u
-      → Beside board base end d u
+      → KeptBeside board base end d u
   -- both kinds of word round-trip both ways
   pub masks-trip : RoundTrips masks
   pub lines-trip : RoundTrips lines

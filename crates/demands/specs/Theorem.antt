@@ -12,7 +12,7 @@ use Rattle.memory.specs.Bytes.{bytesOf}
 use Rattle.sound.specs.Sound.{Sound}
 use Rattle.sound.specs.Properties.{Isolated}
 use Rattle.rules.specs.Rules.{done, bootOn}
-use Rattle.isolation.specs.Boot.{bootLadder}
+use Rattle.isolation.specs.Ladders.{bootLadder}
 use Rattle.isolation.specs.Laws.Boot.{boot-exact, boot-right}
 use Rattle.isolation.specs.Laws.Fits.{Good}
 use Rattle.isolation.specs.Ladder.{Answers, Ends}

@@ -8,7 +8,7 @@ use Prim.Native.Nat.{ℕ, _-_, _/_, _%_, _^_, _≤_, _<_}
 use lib.Bits.{bitAnd, bitOr, bitXor}
 use lib.Dec.{leb, ltb, eqb}
 use lib.ListN.{length, getD}
-use Rattle.loops.specs.Rewrite.{tab}
+use Rattle.loops.specs.Loops.{tab}
 
 -- ── a mask ──
 -- bit p, 0 or 1
@@ -29,8 +29,8 @@ abbrev pub joined : ℕ → ℕ → ℕ
 joined w m = bitOr m w
 
 -- those of w go
-abbrev pub struck : ℕ → ℕ → ℕ
-struck w m = bitXor m (bitAnd m w)
+abbrev pub maskStruck : ℕ → ℕ → ℕ
+maskStruck w m = bitXor m (bitAnd m w)
 
 -- start: the root alone holds every line of base to end
 abbrev pub startMasks : List ℕ → ℕ → ℕ → List ℕ
@@ -42,11 +42,11 @@ giveMasks ms base child from to = between (from - base) (to - base) (joined (2 ^
 
 -- take: the child holds the lines no more
 abbrev pub takeMasks : List ℕ → ℕ → ℕ → ℕ → ℕ → List ℕ
-takeMasks ms base child from to = between (from - base) (to - base) (struck (2 ^ child)) ms
+takeMasks ms base child from to = between (from - base) (to - base) (maskStruck (2 ^ child)) ms
 
 -- strike: the members hold no line
 abbrev pub strikeMasks : List ℕ → ℕ → ℕ → ℕ → List ℕ
-strikeMasks ms base end members = between 0 (end - base) (struck members) ms
+strikeMasks ms base end members = between 0 (end - base) (maskStruck members) ms
 
 -- ── when it is refused ──
 -- the memory that the engine takes: base is below end, the lines are at most 2,048, and the n masks no fewer than the lines

@@ -1,7 +1,7 @@
 ghost use mathlib.Core.Path.{_≡_};
 ghost use Prim.Native.Nat.{_≤_};
 ghost use lib.ListN.{length};
-ghost use Rattle.engine.specs.Engine.{between, joined, struck, memoryRight, childRight, membersRight, blockRight, linesRight, strikeRight, StartLent, GiveLent, TakeLent, StrikeLent};
+ghost use Rattle.engine.specs.Engine.{between, joined, maskStruck, memoryRight, childRight, membersRight, blockRight, linesRight, strikeRight, StartLent, GiveLent, TakeLent, StrikeLent};
 
 // The ledger as masks, one a line, bit p for partition p. It knows nothing of slots. Each operation answers 0, or 21 and writes nothing.
 
@@ -33,7 +33,7 @@ fn enter(masks: &mut [u16], a: usize, b: usize, w: u16)
 // Clears the bits of w from mask a to b - 1.
 fn clear(masks: &mut [u16], a: usize, b: usize, w: u16)
     requires { ⌜ (a ≤ b) × (b ≤ length (now masks)) ⌝ }
-    ensures { λ _. ⌜ now (masks .exit) ≡ between a b (struck w) (now (masks .entry)) ⌝ }
+    ensures { λ _. ⌜ now (masks .exit) ≡ between a b (maskStruck w) (now (masks .entry)) ⌝ }
 {
     let mut i = a;
     while i < b {

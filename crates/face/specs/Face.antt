@@ -21,12 +21,12 @@ unfoldable pub handed : List ℕ → List ℕ
 handed b = cond (eqb (length b) 5128) (wordsOf b) []
 
 -- refusal + 2^8 * caller + 2^32 * first
-abbrev pub packed : ℕ → ℕ → ℕ → ℕ
-packed refusal caller first = refusal + (2 ^ 8 * caller + 2 ^ 32 * first)
+abbrev pub resultPacked : ℕ → ℕ → ℕ → ℕ
+resultPacked refusal caller first = refusal + (2 ^ 8 * caller + 2 ^ 32 * first)
 
 -- the refusal number, the caller and the first value
 unfoldable pub resultOf : ℕ → Outcome → ℕ
-resultOf caller o = packed (answered o .refusal) caller (answered o .first)
+resultOf caller o = resultPacked (answered o .refusal) caller (answered o .first)
 
 -- the second value is written only when done
 unfoldable pub secondAfter : ℕ → Outcome → ℕ

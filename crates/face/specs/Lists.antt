@@ -32,7 +32,7 @@ unfoldable pub leftOf : Board → List ℕ → List ℕ
 leftOf b table = cond (eqb (length table) 5128) (marksIn b (wordsOf table)) (replicate 641 0)
 
 -- what the export promises: its answer, and every record of the list
-pub record Handed (b : Board) (table : List ℕ) (before : List Run) (r : ℕ) (after : List Run) : Type 0 where
+pub record RunsLent (b : Board) (table : List ℕ) (before : List Run) (r : ℕ) (after : List Run) : Type 0 where
   pub answer : r ≡ resultOf 0 (runsOutcome b (handed table) (length before))
   pub records : after ≡ runsRecords b (handed table) before
 

@@ -1,5 +1,5 @@
 ghost use mathlib.Core.Path.{_≡_};
-ghost use Rattle.verdict.specs.Verdict.{imageVerdict, checked, Few};
+ghost use Rattle.verdict.specs.Verdict.{imageVerdict, checked, ClauseNamed};
 ghost use Rattle.face.specs.Face.{resultOf};
 use shapes::Board;
 use verdict::Verdict;
@@ -7,7 +7,7 @@ use words::Partition;
 
 // There is no caller here.
 fn verdict_word(v: Verdict) -> u64
-    requires { ⌜ Few v ⌝ }
+    requires { ⌜ ClauseNamed v ⌝ }
     ensures { λ r. ⌜ r ≡ resultOf 0 (checked v) ⌝ }
 {
     match v {

@@ -1,7 +1,7 @@
 ghost use mathlib.Core.Path.{_≡_};
 ghost use Prim.Native.Nat.{_^_, _<_};
 ghost use Rattle.rules.specs.Rules.{bootOn};
-ghost use Rattle.face.specs.Face.{handed, packed, Lent, CallLent, ListLent};
+ghost use Rattle.face.specs.Face.{handed, resultPacked, Lent, CallLent, ListLent};
 
 // What a board's firmware calls, which is C, for every board: the crate of a board has these under the names that include/ulavrepit.h declares.
 pub mod check;
@@ -15,7 +15,7 @@ use words::Partition;
 // What C gets: bits 16 to 31 are zero.
 fn packed(refusal: u64, caller: Partition, first: u64) -> u64
     requires { ⌜ (refusal < 2 ^ 8) × (caller .0 < 16) × (first < 2 ^ 32) ⌝ }
-    ensures { λ r. ⌜ r ≡ packed refusal (caller .0) first ⌝ }
+    ensures { λ r. ⌜ r ≡ resultPacked refusal (caller .0) first ⌝ }
 {
     refusal + (0x100 * caller.0 as u64 + 0x1_0000_0000 * first)
 }

@@ -5,7 +5,7 @@ ghost use Rattle.tables.specs.View.{view};
 ghost use Rattle.tables.specs.Search.{lookFor};
 ghost use Rattle.tables.specs.Top.{Top};
 ghost use Rattle.sound.specs.Core.{Core};
-ghost use Rattle.sound.specs.Holders.{heir, deepest, looksOf, Listed, Writes};
+ghost use Rattle.sound.specs.Holders.{heir, deepest, looksOf, HoldersListed, Writes};
 
 // Who holds a line: listed from the root down; and how many slot words the searches for it looked at. Beside it the pieces of an entry.
 pub mod pieces;
@@ -102,7 +102,7 @@ fn write_holders(t: &[u64; 641], l: Line, list: &mut [u8]) -> Outcome
 // Holders of a line of a table that stands in an array: `holders` without its length and its copy.
 pub fn holders_table(board: Board, t: &[u64; 641], top: u32, line: u64, list: &mut [u8]) -> Outcome
     requires { ⌜ Top (now t) top ⌝ }
-    ensures { λ r. ⌜ Listed board (now (t .entry)) line (now (list .entry)) r (now (list .exit)) ⌝ }
+    ensures { λ r. ⌜ HoldersListed board (now (t .entry)) line (now (list .entry)) r (now (list .exit)) ⌝ }
 {
     if !is_sound(board, t, top) {
         return Outcome::Refused(1);
@@ -124,7 +124,7 @@ pub fn holders_table(board: Board, t: &[u64; 641], top: u32, line: u64, list: &m
 // sum over them of the slot words that the search of each looked at, at most 512.
 // Refused: 1 not a sound table of 641 words, 7 a line outside base to end, 17 a list under 16 bytes.
 pub fn holders(board: Board, t: &[u64], line: u64, list: &mut [u8]) -> Outcome
-    ensures { λ r. ⌜ Listed board (now (t .entry)) line (now (list .entry)) r (now (list .exit)) ⌝ }
+    ensures { λ r. ⌜ HoldersListed board (now (t .entry)) line (now (list .entry)) r (now (list .exit)) ⌝ }
 {
     if t.len() != 641 {
         return Outcome::Refused(1);

@@ -1,4 +1,5 @@
--- A service's checks as conditions, one after another: the answer is refused with the number of the first that fails, and done where none does.
+-- A service's checks as conditions, one after another: the answer is refused with the number of the first that fails, and done where none does. The numbers
+-- rise along each ladder, so the first that fails is the lowest that applies (`Answered` in `demands`).
 use mathlib.Core.Path.{_≡_}
 use Prim.Native.Nat.{ℕ, _<_}
 use Rattle.tables.specs.State.{Opt, none, some, Table}

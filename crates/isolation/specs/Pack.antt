@@ -8,12 +8,7 @@ use Rattle.sound.specs.Holders.{holdersOf, looksOf}
 use Rattle.rules.specs.Pack.{packed}
 use Rattle.rules.specs.Rules.{packK, packRegion}
 use Rattle.isolation.specs.Ladder.{Ladder, finish, must}
-use Rattle.isolation.specs.Checks.{OwnOrChild, FreeSlot}
-
-abbrev pub packLadder : Table → ℕ → Ladder
-packLadder t p =
-    must 3 (OwnOrChild (t .k) p)
-    (finish (packed t p .moved) 0 (settle (packK t p) (packRegion t p)))
+use Rattle.isolation.specs.Ladders.{OwnOrChild, FreeSlot}
 
 -- ── what pack leaves ──
 -- the entry of a slot, if it has one

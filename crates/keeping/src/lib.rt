@@ -1,7 +1,7 @@
 ghost use mathlib.Core.Path.{_≡_};
 ghost use Prim.Native.Nat.{_≤_};
 ghost use lib.ListN.{length, getD};
-ghost use Rattle.keeping.specs.Keeping.{kept, Kept};
+ghost use Rattle.keeping.specs.Keeping.{kept, NumberAt};
 
 // Numbers of 32 bits in the place of words that nobody reads any more: an array of their own is then needed only while they are made.
 
@@ -25,7 +25,7 @@ pub fn keep(numbers: &[u32; 513], n: usize, words: &mut [u64; 641])
 
 // Number i.
 pub fn number(words: &[u64; 641], i: usize) -> u32
-    requires { ⌜ Kept (now words) i ⌝ }
+    requires { ⌜ NumberAt (now words) i ⌝ }
     ensures { λ r. ⌜ r ≡ getD (now (words .entry)) i 0 ⌝ }
 {
     words[i] as u32

@@ -4,7 +4,7 @@ use mathlib.Core.Bool.{Bool, cond, not, _&&_, _||_}
 use mathlib.Core.List.{List, [], _∷_}
 use Prim.Native.Nat.{ℕ, _+_, _-_}
 use lib.Dec.{leb, ltb, eqb}
-use Rattle.loops.specs.Every.{all}
+use Rattle.loops.specs.Loops.{all}
 use Rattle.words.specs.Kind.{fieldsIn}
 use Rattle.words.specs.Words.{call}
 use Rattle.words.specs.declared.call_word.CallFields.{CallFields}
@@ -15,7 +15,7 @@ use Rattle.tables.specs.View.{view}
 use Rattle.tables.specs.Search.{lowest}
 use Rattle.tables.specs.declared.Outcome.{Outcome}
 use Rattle.tables.specs.declared.Outcome.the-variants.{Done, Refused}
-use Rattle.rules.specs.Rules.{zeroed, branch, callOn, wordsAfter}
+use Rattle.rules.specs.Rules.{recordsZero, branch, callOn, wordsAfter}
 use Rattle.rules.specs.Ran.{outcomeOf}
 use Rattle.rules.specs.Calls.{callerOf}
 use Rattle.rules.specs.Reads.{standsAfter}
@@ -54,7 +54,7 @@ unfoldable pub apply : Event → Ledger → Ledger
 apply (adopt c p) g = record { stands = g .stands; parent = upd1 (g .parent) c p }
 apply (enter c r) g = record { stands = λ p l. g .stands p l || (eqb p c && among l r); parent = g .parent }
 apply (strike c r) g = record { stands = λ p l. g .stands p l && not (eqb p c && among l r); parent = g .parent }
-apply (strikeAll m) g = record { stands = λ p l. g .stands p l && not (m p); parent = zeroed m 0 (g .parent) }
+apply (strikeAll m) g = record { stands = λ p l. g .stands p l && not (m p); parent = recordsZero m 0 (g .parent) }
 apply nothing g = g
 
 -- ── which event a call is ──
@@ -94,13 +94,13 @@ abbrev pub answerOn : Board → List ℕ → ℕ → Answer
 answerOn b l w = record { caller = record { 0 = callerOf b l }; outcome = outcomeOf (callOn b l w); stands = standsAfter b l w }
 
 -- no entry has no line
-unfoldable pub linesOf : Opt Entry → Lines
-linesOf none = record { start = 0; stop = 0 }
-linesOf (some e) = record { start = e .start; stop = e .stop }
+unfoldable pub linesIn : Opt Entry → Lines
+linesIn none = record { start = 0; stop = 0 }
+linesIn (some e) = record { start = e .start; stop = e .stop }
 
 -- what is read of the table: the lines of the caller's entry that the call names
 abbrev pub linesNamed : Board → List ℕ → ℕ → Lines
-linesNamed b l w = linesOf (view l .k .slot (callerOf b l) (fieldsIn call w .slot .0))
+linesNamed b l w = linesIn (view l .k .slot (callerOf b l) (fieldsIn call w .slot .0))
 
 -- the ledger g of the table of words l, kept on over the calls of these words, in order
 unfoldable pub keptOn : Board → List ℕ → Ledger → List ℕ → Ledger

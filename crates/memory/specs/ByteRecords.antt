@@ -3,7 +3,7 @@ use mathlib.Core.Path.{_≡_}
 use mathlib.Core.List.{List}
 use Prim.Native.Nat.{ℕ, _+_, _*_, _≤_, _<_}
 use lib.ListN.{length, getD, replicate}
-use Rattle.loops.specs.Rewrite.{Filling}
+use Rattle.loops.specs.Loops.{Filling}
 use Rattle.tables.specs.View.{areaWordAt}
 use Rattle.tables.specs.Spelling.{ZeroWords}
 use Rattle.memory.specs.Bytes.{wordFrom, wordAt}

@@ -2,9 +2,8 @@
 use mathlib.Core.List.{List, [], _∷_}
 use Prim.Native.Nat.{ℕ, _+_, _*_, _/_, _%_}
 use lib.ListN.{getD, set}
-use Rattle.loops.specs.Carry.{done}
-use Rattle.loops.specs.Rewrite.{tab}
-use Rattle.words.specs.Parts.{Part, bits, pack, unpack}
+use Rattle.loops.specs.Loops.{carried, tab}
+use Rattle.words.specs.Parts.{Part, bits, packParts, unpack}
 
 -- the parts of a word: eight bytes, most significant first
 abbrev pub octets : List Part
@@ -12,7 +11,7 @@ octets = bits 8 ∷ bits 8 ∷ bits 8 ∷ bits 8 ∷ bits 8 ∷ bits 8 ∷ bits 
 
 -- the word in the eight bytes of b from byte i on
 abbrev pub wordFrom : List ℕ → ℕ → ℕ
-wordFrom b i = pack octets (tab 8 (λ j. getD b (i + j) 0))
+wordFrom b i = packParts octets (tab 8 (λ j. getD b (i + j) 0))
 
 -- word k of the bytes b, from their bytes 8k to 8k + 7
 unfoldable pub wordAt : List ℕ → ℕ → ℕ
@@ -36,7 +35,7 @@ bytesOf l = tab 5128 (byteOf l)
 
 -- the bytes b with w put from byte i on, one byte after the other
 abbrev pub putWord : List ℕ → ℕ → ℕ → List ℕ
-putWord b i w = done (λ j s. set s (i + j) (byteAt w j)) b 8
+putWord b i w = carried (λ j s. set s (i + j) (byteAt w j)) b 8
 
 -- byte n of the 320 of partition p
 unfoldable pub recordByte : List ℕ → ℕ → ℕ → ℕ

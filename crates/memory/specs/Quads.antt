@@ -5,7 +5,7 @@ use mathlib.Core.List.{List}
 use Prim.Native.Nat.{ℕ, _+_, _*_, _/_, _%_}
 use lib.Dec.{eqb}
 use lib.ListN.{getD, set}
-use Rattle.loops.specs.Every.{all}
+use Rattle.loops.specs.Loops.{all}
 
 -- the number that the four bytes of b from byte i on are
 unfoldable pub quadAt : List ℕ → ℕ → ℕ

@@ -58,12 +58,12 @@ fair f = f .enabled && (eqb (f .access % 2) 1 && (leb (f .base .0) (f .limit .0)
 abbrev pub pairOf : Entry → ℕ
 pairOf e = wordOf pair (fieldsOf e)
 
-unfoldable pub entryIn : ℕ → Opt Entry
-entryIn w = cond (zeroed pair w && fair (fieldsIn pair w)) (some (saidBy (fieldsIn pair w))) none
+unfoldable pub entryOfPair : ℕ → Opt Entry
+entryOfPair w = cond (zeroed pair w && fair (fieldsIn pair w)) (some (saidBy (fieldsIn pair w))) none
 
 -- ── as two registers ──
-abbrev pub joined : ℕ → ℕ → ℕ
-joined rbar rlar = rbar * 2 ^ 32 + rlar
+abbrev pub oneWord : ℕ → ℕ → ℕ
+oneWord rbar rlar = rbar * 2 ^ 32 + rlar
 
 abbrev pub halves : ℕ → Registers
 halves w = record { rbar = w / 2 ^ 32; rlar = w % 2 ^ 32 }
@@ -78,7 +78,7 @@ openWord none = NotWritten 22
 openWord (some e) = Word (slotWord (some e) true)
 
 abbrev pub reads : ℕ → ℕ → Written
-reads rbar rlar = openWord (entryIn (joined rbar rlar))
+reads rbar rlar = openWord (entryOfPair (oneWord rbar rlar))
 
 -- ── what the code hands on ──
 -- lines and rights as an entry that is neither given nor whole

@@ -4,7 +4,7 @@ use mathlib.Core.Logic.{_⊎_, inl, inr}
 use Prim.Native.Nat.{ℕ}
 use lib.ListN.{getD}
 use lib.Dec.{eqb}
-use Rattle.loops.specs.Bit.{bitOf}
+use Rattle.loops.specs.Loops.{bitOf}
 use Rattle.words.specs.Parts.{bits, zeros}
 use Rattle.words.specs.Kind.{Kind}
 use Rattle.pairs.specs.declared.pair_word.PairFields.{PairFields}

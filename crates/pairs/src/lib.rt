@@ -2,7 +2,7 @@ ghost use mathlib.Core.Path.{_≡_};
 ghost use mathlib.Core.Bool.{cond};
 ghost use Rattle.words.specs.Kind.{zeroed};
 ghost use Rattle.pairs.specs.Word.{pair};
-ghost use Rattle.pairs.specs.Pair.{joined, halves, plain, parted, writes, reads};
+ghost use Rattle.pairs.specs.Pair.{oneWord, halves, plain, parted, writes, reads};
 // A region's register pair on ARMv8-M, written from an entry and read back.
 pub mod pair_word;
 
@@ -28,7 +28,7 @@ pub enum PairWritten {
 
 // The two registers as one word, and back.
 fn join(rbar: u32, rlar: u32) -> u64
-    ensures { λ r. ⌜ r ≡ joined rbar rlar ⌝ }
+    ensures { λ r. ⌜ r ≡ oneWord rbar rlar ⌝ }
 {
     rbar as u64 * 0x1_0000_0000 + rlar as u64
 }

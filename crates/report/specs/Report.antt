@@ -11,7 +11,7 @@ unfoldable pub decimal : ℕ → List ℕ
 decimal n = cond (ltb n 10) ((48 + n) ∷ []) ((48 + n / 10) ∷ (48 + n % 10) ∷ [])
 
 -- "sound", or "S" with the clause, a space and the partition, or "length"
-unfoldable pub printed : Verdict → List ℕ
-printed Accepted = 115 ∷ 111 ∷ 117 ∷ 110 ∷ 100 ∷ 10 ∷ []
-printed (Fails n p) = 83 ∷ (decimal n ++ (32 ∷ (decimal (p .0) ++ (10 ∷ []))))
-printed Length = 108 ∷ 101 ∷ 110 ∷ 103 ∷ 116 ∷ 104 ∷ 10 ∷ []
+unfoldable pub printedLine : Verdict → List ℕ
+printedLine Accepted = 115 ∷ 111 ∷ 117 ∷ 110 ∷ 100 ∷ 10 ∷ []
+printedLine (Fails n p) = 83 ∷ (decimal n ++ (32 ∷ (decimal (p .0) ++ (10 ∷ []))))
+printedLine Length = 108 ∷ 101 ∷ 110 ∷ 103 ∷ 116 ∷ 104 ∷ 10 ∷ []

@@ -1,9 +1,9 @@
 ghost use mathlib.Core.Path.{_≡_};
 ghost use Prim.Native.Nat.{_+_, _<_};
 ghost use lib.ListN.{take};
-ghost use Rattle.verdict.specs.Verdict.{Few};
+ghost use Rattle.verdict.specs.Verdict.{ClauseNamed};
 ghost use Rattle.verdict.specs.declared.Verdict.the-variants.{Fails};
-ghost use Rattle.report.specs.Report.{printed};
+ghost use Rattle.report.specs.Report.{printedLine};
 use verdict::Verdict;
 use words::Partition;
 
@@ -26,7 +26,7 @@ fn digit(n: u32) -> u8
 // S, the clause, a space and the partition: each number has a digit, or a 1 and a digit.
 fn of_clause(n: u32, p: Partition) -> Line
     requires { ⌜ (n < 12) × (p .0 < 16) ⌝ }
-    ensures { λ r. ⌜ take (r .len) (r .bytes) ≡ printed (Fails n p) ⌝ }
+    ensures { λ r. ⌜ take (r .len) (r .bytes) ≡ printedLine (Fails n p) ⌝ }
 {
     if n < 10 {
         if p.0 < 10 {
@@ -62,8 +62,8 @@ fn of_clause(n: u32, p: Partition) -> Line
 }
 
 pub fn of_verdict(v: Verdict) -> Line
-    requires { ⌜ Few v ⌝ }
-    ensures { λ r. ⌜ take (r .len) (r .bytes) ≡ printed v ⌝ }
+    requires { ⌜ ClauseNamed v ⌝ }
+    ensures { λ r. ⌜ take (r .len) (r .bytes) ≡ printedLine v ⌝ }
 {
     match v {
         Verdict::Accepted => Line {

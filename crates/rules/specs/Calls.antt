@@ -16,7 +16,7 @@ unfoldable pub callerOf : Board → List ℕ → ℕ
 callerOf b l = cond (sound b l) (view l .k .current) 0
 
 -- the answer: the caller beside the outcome of the rule, and whether it stands; and every word afterwards
-pub record Answers (b : Board) (before : List ℕ) (w : ℕ) (r : Answer) (after : List ℕ) : Type 0 where
+pub record CallAnswers (b : Board) (before : List ℕ) (w : ℕ) (r : Answer) (after : List ℕ) : Type 0 where
   pub caller : r .caller .0 ≡ callerOf b before
   pub ran : Ran (callOn b before w) before (r .outcome) after
   pub stands : r .stands ≡ standsAfter b before w

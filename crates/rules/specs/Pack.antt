@@ -2,7 +2,7 @@
 use mathlib.Core.Bool.{Bool, cond, _&&_}
 use Prim.Native.Nat.{ℕ, _+_, _/_}
 use lib.Dec.{eqb}
-use Rattle.loops.specs.Carry.{done}
+use Rattle.loops.specs.Loops.{carried}
 use Rattle.tables.specs.State.{Opt, none, some, Entry, K, Table}
 use Rattle.tables.specs.Update.{upd1}
 use Rattle.tables.specs.Search.{lowest, isSome, isNone}
@@ -49,4 +49,4 @@ packingOf t p n = record { slot = t .k .slot p; region = t .region p; moved = n 
 
 -- slots 0 to 31 in turn
 unfoldable pub packed : Table → ℕ → Packing
-packed t p = done (packSlot (usable (t .k) p)) (packingOf t p 0) 32
+packed t p = carried (packSlot (usable (t .k) p)) (packingOf t p 0) 32

@@ -4,9 +4,7 @@ use mathlib.Core.List.{List}
 use Prim.Native.Nat.{ℕ, _+_, _*_, _^_}
 use lib.ListN.{length}
 use lib.Dec.{leb, ltb, eqb}
-use Rattle.loops.specs.Every.{any, all}
-use Rattle.loops.specs.Count.{count}
-use Rattle.loops.specs.Climb.{climb}
+use Rattle.loops.specs.Loops.{any, all, count, climb}
 use Rattle.words.specs.Kind.{reading}
 use Rattle.words.specs.Words.{call}
 use Rattle.words.specs.declared.Rights.{Rights}
@@ -81,8 +79,8 @@ ungive p none = none
 ungive p (some e) = some (cond (eqb (e .given) p) (givenTo e 0) e)
 
 -- the records of m are zero
-abbrev pub zeroed : {A : Type 0} → (ℕ → Bool) → A → (ℕ → A) → ℕ → A
-zeroed m zero f q = cond (m q) zero (f q)
+abbrev pub recordsZero : {A : Type 0} → (ℕ → Bool) → A → (ℕ → A) → ℕ → A
+recordsZero m zero f q = cond (m q) zero (f q)
 
 -- .. and what the caller gave to p is given to nobody
 abbrev pub removeK : K → ℕ → (ℕ → Bool) → K
@@ -90,13 +88,13 @@ removeK k p m = record {
   base = k .base;
   stop = k .stop;
   current = k .current;
-  parent = zeroed m 0 (k .parent);
-  area = zeroed m (λ j. none) (k .area);
-  slot = zeroed m (λ i. none) (upd1 (k .slot) (k .current) (λ i. ungive p (k .slot (k .current) i)));
+  parent = recordsZero m 0 (k .parent);
+  area = recordsZero m (λ j. none) (k .area);
+  slot = recordsZero m (λ i. none) (upd1 (k .slot) (k .current) (λ i. ungive p (k .slot (k .current) i)));
 }
 
 abbrev pub remove : Table → ℕ → (ℕ → Bool) → Table
-remove t p m = settle (removeK (t .k) p m) (zeroed m (λ r. none) (t .region))
+remove t p m = settle (removeK (t .k) p m) (recordsZero m (λ r. none) (t .region))
 
 unfoldable pub delete : Table → ℕ → Result
 delete t p =

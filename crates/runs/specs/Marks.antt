@@ -5,12 +5,12 @@ use mathlib.Core.List.{List}
 use Prim.Native.Nat.{ℕ, _+_, _<_}
 use lib.Dec.{eqb, ltb}
 use lib.ListN.{length, getD, set}
-use Rattle.loops.specs.Rewrite.{tab}
+use Rattle.loops.specs.Loops.{tab}
 use Rattle.words.specs.Kinds.{markFor}
-use Rattle.keeping.specs.Keeping.{Kept}
+use Rattle.keeping.specs.Keeping.{NumberAt}
 use Rattle.tables.specs.State.{K}
 use Rattle.runs.specs.declared.Run.{Run}
-use Rattle.runs.specs.Runs.{runOf, runsOf, nth}
+use Rattle.runs.specs.Runs.{runOf, runsOf, nthRun}
 use Rattle.runs.specs.Ways.{lowAt, whoAt}
 
 -- run i: from its mark to the next
@@ -20,7 +20,7 @@ runAt w i = runOf (lowAt w i) (lowAt w (i + 1)) (whoAt w i)
 -- the marks of the runs, over the numbers that stood there; what is past them stays
 unfoldable pub markOf : K → List ℕ → ℕ → ℕ
 markOf k b i =
-    cond (ltb i (length (runsOf k))) (markFor (nth (runsOf k) i .start .0) (nth (runsOf k) i .deepest .0))
+    cond (ltb i (length (runsOf k))) (markFor (nthRun (runsOf k) i .start .0) (nthRun (runsOf k) i .deepest .0))
     (cond (eqb i (length (runsOf k))) (markFor (k .stop) 0) (getD b i 0))
 
 -- .. over m numbers
@@ -30,8 +30,8 @@ marksOver m k b = tab m (markOf k b)
 -- two marks, at i and behind it, are kept in words
 pub record MarksAt (w : List ℕ) (i : ℕ) : Type 0 where
   pub below : i < 512
-  pub here : Kept w i
-  pub next : Kept w (i + 1)
+  pub here : NumberAt w i
+  pub next : NumberAt w (i + 1)
 
 -- ── the loop ──
 -- what the code does with a piece that begins at l and has deepest holder d

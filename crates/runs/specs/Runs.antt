@@ -22,22 +22,22 @@ abbrev pub runOf : ℕ → ℕ → ℕ → Run
 runOf s e d = record { start = record { 0 = s }; end = record { 0 = e }; deepest = record { 0 = d } }
 
 -- line l before the runs that begin after it: it joins the first of them if they have the same holders, and if not it begins a run of its own
-unfoldable pub joined : K → ℕ → List Run → List Run
-joined k l [] = runOf l (l + 1) (deepestAt k l) ∷ []
-joined k l (r ∷ rs) = cond (eqb (deepestAt k l) (r .deepest .0)) (runOf l (r .end .0) (r .deepest .0) ∷ rs) (runOf l (l + 1) (deepestAt k l) ∷ r ∷ rs)
+unfoldable pub joinedRuns : K → ℕ → List Run → List Run
+joinedRuns k l [] = runOf l (l + 1) (deepestAt k l) ∷ []
+joinedRuns k l (r ∷ rs) = cond (eqb (deepestAt k l) (r .deepest .0)) (runOf l (r .end .0) (r .deepest .0) ∷ rs) (runOf l (l + 1) (deepestAt k l) ∷ r ∷ rs)
 
 -- the runs of the n lines from l on
 unfoldable pub runsFrom : K → ℕ → ℕ → List Run
 runsFrom k l zero = []
-runsFrom k l (suc n) = joined k l (runsFrom k (l + 1) n)
+runsFrom k l (suc n) = joinedRuns k l (runsFrom k (l + 1) n)
 
 unfoldable pub runsOf : K → List Run
 runsOf k = runsFrom k (k .base) (k .stop - k .base)
 
 -- ── what they are ──
 -- run i of a list
-abbrev pub nth : List Run → ℕ → Run
-nth rs i = getD rs i (runOf 0 0 0)
+abbrev pub nthRun : List Run → ℕ → Run
+nthRun rs i = getD rs i (runOf 0 0 0)
 
 -- a line of a run
 abbrev pub On : Run → ℕ → Type 0
@@ -46,30 +46,30 @@ On r l = (r .start .0 ≤ l) × (l < r .end .0)
 -- records of the lines l to m in rising order: the first starts at l, the last ends at m, each begins where the one before ended
 pub record Chain (l m : ℕ) (rs : List Run) : Type 0 where
   pub some : 0 < length rs
-  pub from : nth rs 0 .start .0 ≡ l
-  pub to : nth rs (length rs - 1) .end .0 ≡ m
-  pub next : (i : ℕ) → suc i < length rs → nth rs (suc i) .start .0 ≡ nth rs i .end .0
-  pub long : (i : ℕ) → i < length rs → nth rs i .start .0 < nth rs i .end .0
+  pub from : nthRun rs 0 .start .0 ≡ l
+  pub to : nthRun rs (length rs - 1) .end .0 ≡ m
+  pub next : (i : ℕ) → suc i < length rs → nthRun rs (suc i) .start .0 ≡ nthRun rs i .end .0
+  pub long : (i : ℕ) → i < length rs → nthRun rs i .start .0 < nthRun rs i .end .0
 
 -- The longest runs: every line of a run has that run's holders, and neighbours differ in theirs.
 -- `runs-longest` says that the runs are so, `longest-one` that nothing else is.
 pub record Longest (k : K) (rs : List Run) : Type 0 where
   pub chain : Chain (k .base) (k .stop) rs
-  pub same : (i l : ℕ) → i < length rs → On (nth rs i) l → holdersOf k l ≡ trail k (nth rs i .deepest .0) 15
-  pub differ : (i l m : ℕ) → suc i < length rs → On (nth rs i) l → On (nth rs (suc i)) m → holdersOf k l ≡ holdersOf k m → ⊥
+  pub same : (i l : ℕ) → i < length rs → On (nthRun rs i) l → holdersOf k l ≡ trail k (nthRun rs i .deepest .0) 15
+  pub differ : (i l m : ℕ) → suc i < length rs → On (nthRun rs i) l → On (nthRun rs (suc i)) m → holdersOf k l ≡ holdersOf k m → ⊥
 
 -- ── what is answered where they are listed, and the records after it ──
 unfoldable pub runsOutcome : Board → List ℕ → ℕ → Outcome
 runsOutcome b t size = cond (sound b t) (cond (leb (length (runsOf (view t .k))) size) (Done (length (runsOf (view t .k))) 0) (Refused 17)) (Refused 1)
 
 -- the first records are the runs, the rest stay
-abbrev pub over : List Run → List Run → List Run
-over rs list = rs ++ drop (length rs) list
+abbrev pub runsOver : List Run → List Run → List Run
+runsOver rs list = rs ++ drop (length rs) list
 
 unfoldable pub runsRecords : Board → List ℕ → List Run → List Run
-runsRecords b t list = cond (sound b t) (cond (leb (length (runsOf (view t .k))) (length list)) (over (runsOf (view t .k)) list) list) list
+runsRecords b t list = cond (sound b t) (cond (leb (length (runsOf (view t .k))) (length list)) (runsOver (runsOf (view t .k)) list) list) list
 
 -- what their one writer promises of the words that it was handed (`handed-listed` of board): its outcome, and every record of the list
-pub record Listed (b : Board) (t : List ℕ) (before : List Run) (r : Outcome) (after : List Run) : Type 0 where
+pub record RunsListed (b : Board) (t : List ℕ) (before : List Run) (r : Outcome) (after : List Run) : Type 0 where
   pub outcome : r ≡ runsOutcome b t (length before)
   pub records : after ≡ runsRecords b t before

@@ -17,9 +17,9 @@ abbrev pub Short : Written → Type 0
 Short (Word m) = m < 2 ^ 32
 Short (Refused why) = Unit {0}
 
-abbrev pub kept : Written → ℕ
-kept (Word m) = m
-kept (Refused why) = 0
+abbrev pub wordWritten : Written → ℕ
+wordWritten (Word m) = m
+wordWritten (Refused why) = 0
 
 -- a step of the way is a mark: the lowest end above it, and the partition
 abbrev pub lowAt : List ℕ → ℕ → ℕ

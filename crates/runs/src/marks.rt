@@ -1,7 +1,7 @@
 ghost use mathlib.Core.Path.{_≡_};
 ghost use Prim.Native.Nat.{_<_, _^_};
 ghost use Rattle.words.specs.Kinds.{markFor};
-ghost use Rattle.runs.specs.Ways.{Short, kept};
+ghost use Rattle.runs.specs.Ways.{Short, wordWritten};
 use words::Line;
 use words::Partition;
 use words::Written;
@@ -11,7 +11,7 @@ use words::mark_word::MarkFields;
 // The word of a mark, in 32 bits. A refusal keeps nothing: no caller here meets one.
 fn short(word: Written) -> u32
     requires { ⌜ Short word ⌝ }
-    ensures { λ r. ⌜ r ≡ kept word ⌝ }
+    ensures { λ r. ⌜ r ≡ wordWritten word ⌝ }
 {
     match word {
         Written::Word(m) => m as u32,

@@ -4,7 +4,7 @@ ghost use Rattle.tables.specs.View.{view};
 ghost use Rattle.tables.specs.Lines.{Holds};
 ghost use Rattle.sound.specs.Core.{Core};
 ghost use Rattle.runs.specs.Pieces.{Hopped};
-ghost use Rattle.runs.specs.Places.{InOrder, Passed};
+ghost use Rattle.runs.specs.Places.{AllInOrder, Passed};
 ghost use Rattle.runs.specs.Ways.{Climbs, Climbed, Standing, Pieced};
 use crate::marks::mark_of;
 use decide::order::entry_at;
@@ -27,7 +27,7 @@ pub struct Piece {
 
 // One step of the descent, at a partition that holds the line. All its entries before its place end by the line: the place moves on to the first that does not.
 fn hop_at(t: &[u64; 641], order: &[u8; 512], places: &mut [u32; 16], l: Line, p: Partition) -> Hop
-    requires { ⌜ Core (view (now t) .k) × InOrder (view (now t) .k) (now order) × Passed (view (now t) .k) (now order) (l .0) (now places) × Holds (view (now t) .k .slot) (p .0) (l .0) ⌝ }
+    requires { ⌜ Core (view (now t) .k) × AllInOrder (view (now t) .k) (now order) × Passed (view (now t) .k) (now order) (l .0) (now places) × Holds (view (now t) .k .slot) (p .0) (l .0) ⌝ }
     ensures { λ r. ⌜ Hopped (view (now (t .entry)) .k) (l .0) (p .0) r × Passed (view (now (t .entry)) .k) (now (order .entry)) (l .0) (now (places .exit)) ⌝ }
 {
     let at = p.0 as usize;
@@ -81,7 +81,7 @@ pub fn piece_at(
     depth: usize,
     l: Line,
 ) -> Piece
-    requires { ⌜ Core (view (now t) .k) × InOrder (view (now t) .k) (now order) × Standing (view (now t) .k) (now order) (l .0) depth (now places) (now way) ⌝ }
+    requires { ⌜ Core (view (now t) .k) × AllInOrder (view (now t) .k) (now order) × Standing (view (now t) .k) (now order) (l .0) depth (now places) (now way) ⌝ }
     ensures { λ r. ⌜ Pieced (view (now (t .entry)) .k) (now (order .entry)) (l .0) r (now (places .exit)) (now (way .exit)) ⌝ }
 {
     let mut d = climb(way, depth, l);

@@ -4,7 +4,7 @@ ghost use lib.ListN.{length};
 ghost use Rattle.tables.specs.View.{view};
 ghost use Rattle.sound.specs.Core.{Core};
 ghost use Rattle.runs.specs.Runs.{runsOf};
-ghost use Rattle.runs.specs.Places.{InOrder};
+ghost use Rattle.runs.specs.Places.{AllInOrder};
 ghost use Rattle.runs.specs.Marks.{Marked, marksOver};
 use crate::marks::mark_of;
 use crate::pieces::piece_at;
@@ -25,7 +25,7 @@ fn mark(marks: &mut [u32; 513], n: usize, last: Partition, start: Line, deepest:
 
 // The number of runs, and their marks; after the last, one of the end of memory, with the root, which the way begins with too. Before the first run no partition is the deepest holder.
 fn mark_runs(t: &[u64; 641], order: &[u8; 512], marks: &mut [u32; 513]) -> usize
-    requires { ⌜ Core (view (now t) .k) × InOrder (view (now t) .k) (now order) × (length (now marks) ≡ 513) ⌝ }
+    requires { ⌜ Core (view (now t) .k) × AllInOrder (view (now t) .k) (now order) × (length (now marks) ≡ 513) ⌝ }
     ensures { λ r. ⌜ (r ≡ length (runsOf (view (now (t .entry)) .k))) × (now (marks .exit) ≡ marksOver 513 (view (now (t .entry)) .k) (now (marks .entry))) ⌝ }
 {
     let f = tables::read::first(t);
@@ -52,7 +52,7 @@ fn mark_runs(t: &[u64; 641], order: &[u8; 512], marks: &mut [u32; 513]) -> usize
 // The number of runs; their marks are left in place of the table's first words. So the array that the walk fills is not there
 // while the table is decided, nor while the runs are written: the deepest stack has it beside the words alone.
 pub fn leave_marks(t: &mut [u64; 641], order: &[u8; 512]) -> usize
-    requires { ⌜ Core (view (now t) .k) × InOrder (view (now t) .k) (now order) ⌝ }
+    requires { ⌜ Core (view (now t) .k) × AllInOrder (view (now t) .k) (now order) ⌝ }
     ensures { λ r. ⌜ (r ≡ length (runsOf (view (now (t .entry)) .k))) × (now (t .exit) ≡ marksOver 641 (view (now (t .entry)) .k) (now (t .entry))) ⌝ }
 {
     tables::sized(t);

@@ -4,7 +4,7 @@ use mathlib.Core.Bool.{Bool}
 use mathlib.Core.List.{List}
 use Prim.Native.Nat.{ℕ}
 use lib.Dec.{eqb}
-use Rattle.loops.specs.Count.{count}
+use Rattle.loops.specs.Loops.{count}
 use Rattle.tables.specs.State.{Table}
 use Rattle.tables.specs.View.{view}
 use Rattle.tables.specs.Encode.{Is}

@@ -1,7 +1,8 @@
 pub mod Zeroed
 pub mod Unsettled
 pub mod Who
-pub mod AreaExits
+pub mod CreateExits
+pub mod CollectExits
 pub mod DeleteExits
 pub mod ClearExits
 pub mod Boot

@@ -2,7 +2,7 @@
 use mathlib.Core.Bool.{Bool, false}
 use Prim.Native.Nat.{ℕ}
 use Rattle.tables.specs.State.{none, Table}
-use Rattle.rules.specs.Rules.{zeroed}
+use Rattle.rules.specs.Rules.{recordsZero}
 
 -- the records of m are zero
 abbrev pub zeroRecords : Table → (ℕ → Bool) → Table
@@ -11,10 +11,10 @@ zeroRecords t m = record {
     base = t .k .base;
     stop = t .k .stop;
     current = t .k .current;
-    parent = zeroed m 0 (t .k .parent);
-    area = zeroed m (λ j. none) (t .k .area);
-    slot = zeroed m (λ i. none) (t .k .slot);
+    parent = recordsZero m 0 (t .k .parent);
+    area = recordsZero m (λ j. none) (t .k .area);
+    slot = recordsZero m (λ i. none) (t .k .slot);
   };
-  opened = zeroed m (λ i. false) (t .opened);
-  region = zeroed m (λ r. none) (t .region);
+  opened = recordsZero m (λ i. false) (t .opened);
+  region = recordsZero m (λ r. none) (t .region);
 }

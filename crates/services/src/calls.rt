@@ -8,7 +8,7 @@ ghost use Rattle.sound.specs.Clauses.{sound};
 ghost use Rattle.sound.specs.Whole.{Right};
 ghost use Rattle.rules.specs.Rules.{noRights, unused, regionCall, known, numbered, perform, serve};
 ghost use Rattle.rules.specs.Ran.{Ran};
-ghost use Rattle.rules.specs.Calls.{Answers};
+ghost use Rattle.rules.specs.Calls.{CallAnswers};
 use rules::Answer;
 use shapes::Board;
 use tables::Outcome;
@@ -122,18 +122,18 @@ fn perform(board: Board, t: &mut [u64; 641], f: CallFields) -> Outcome
 {
     let service = f.service;
     match service {
-        1 => crate::area_services::create(t, f.slot),
+        1 => crate::create_service::create(t, f.slot),
         2 => crate::delete_service::delete(t, f.partition),
-        3 => crate::area_services::prepare(t, f.partition, f.slot),
-        4 => crate::area_services::collect(t, f.partition, f.other),
-        5 => blocks::slot_services::give(t, f.partition, f.slot, f.rights, f.whole),
+        3 => crate::prepare_service::prepare(t, f.partition, f.slot),
+        4 => crate::collect_service::collect(t, f.partition, f.other),
+        5 => blocks::give_service::give(t, f.partition, f.slot, f.rights, f.whole),
         6 => blocks::take_service::take(t, f.slot),
-        7 => blocks::slot_services::cut(t, f.slot, f.line),
+        7 => blocks::cut_service::cut(t, f.slot, f.line),
         8 => blocks::merge_service::merge(t, f.slot, Slot(f.other)),
         9 => region(board, t, f),
         11 => crate::region_services::read_region(t, f.partition, f.other),
-        12 => crate::looks::find(t, f.partition, f.line),
-        13 => crate::looks::switch(t, f.partition),
+        12 => crate::find_service::find(t, f.partition, f.line),
+        13 => crate::switch_service::switch(t, f.partition),
         14 => crate::clear_service::clear_out(t, f.partition),
         15 => crate::pack::pack(t, f.partition),
         _ => Outcome::Refused(2),
@@ -154,7 +154,7 @@ fn serve(board: Board, t: &mut [u64; 641], f: CallFields) -> Outcome
 // A call on the words of a sound table: its service, or 2 where it is none. Find and read region leave every word as it was.
 pub fn serve_word(board: Board, t: &mut [u64; 641], word: u64) -> Answer
     requires { ⌜ sound board (now t) ≡ true ⌝ }
-    ensures { λ r. ⌜ Answers board (now (t .entry)) word r (now (t .exit)) ⌝ }
+    ensures { λ r. ⌜ CallAnswers board (now (t .entry)) word r (now (t .exit)) ⌝ }
 {
     tables::fits(t);
     let first = tables::read::first(t);
@@ -181,7 +181,7 @@ pub fn serve_word(board: Board, t: &mut [u64; 641], word: u64) -> Answer
 // A call on the words of a table that stands in an array: `call` without its length and its copies.
 pub fn call_table(board: Board, t: &mut [u64; 641], top: u32, word: u64) -> Answer
     requires { ⌜ Top (now t) top ⌝ }
-    ensures { λ r. ⌜ Answers board (now (t .entry)) word r (now (t .exit)) ⌝ }
+    ensures { λ r. ⌜ CallAnswers board (now (t .entry)) word r (now (t .exit)) ⌝ }
 {
     if !decide::is_sound(board, t, top) {
         return Answer {

@@ -1,16 +1,19 @@
 ghost use Rattle.rules.specs.Rules.{bootOn};
 ghost use Rattle.rules.specs.Ran.{Ran};
-ghost use Rattle.rules.specs.Calls.{Answers};
+ghost use Rattle.rules.specs.Calls.{CallAnswers};
 
 // The services in code but for those on a block, each proved equal to its rule; a call and a boot.
-pub mod area_services;
 pub mod boot_service;
 pub mod calls;
 pub mod clear_service;
+pub mod collect_service;
+pub mod create_service;
 pub mod delete_service;
-pub mod looks;
+pub mod find_service;
 pub mod pack;
+pub mod prepare_service;
 pub mod region_services;
+pub mod switch_service;
 pub mod who;
 
 use rules::Answer;
@@ -21,7 +24,7 @@ use words::Partition;
 // Carries out a call word. Any words, of any number and content, and any call word get an answer.
 // Refused: 1 not a sound table of 641 words; 2 not a call word; then as its service says. A refusal changes no word.
 pub fn call(board: Board, t: &mut [u64], word: u64) -> Answer
-    ensures { λ r. ⌜ Answers board (now (t .entry)) word r (now (t .exit)) ⌝ }
+    ensures { λ r. ⌜ CallAnswers board (now (t .entry)) word r (now (t .exit)) ⌝ }
 {
     if t.len() != 641 {
         return Answer {

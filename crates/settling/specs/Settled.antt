@@ -17,7 +17,7 @@ pub record Housed (k : K) : Type 0 where
   pub at : (p i : ℕ) (e : Entry) → k .slot p i ≡ some e → (a : Area) × (k .area p (1 + i / 8) ≡ some a)
 
 -- each region names an open slot
-pub record Named (t : Table) : Type 0 where
+pub record RegionsNamed (t : Table) : Type 0 where
   pub at : (p r i : ℕ) → t .region p r ≡ some i → t .opened p i ≡ true
 
 -- an entry is there, and shares no line with a to b
@@ -28,18 +28,18 @@ offEntry a b (some e) = off a b (e .start) (e .stop)
 -- The area a to b has come: by S9 an entry is open exactly if it was and shares no line with a to b.
 pub record Came (a b : ℕ) (t : Table) : Type 0 where
   pub housed : Housed (t .k)
-  pub named : Named t
+  pub named : RegionsNamed t
   pub bits : (p i : ℕ) → openAt (t .k) p i ≡ t .opened p i && offEntry a b (t .k .slot p i)
 
 -- Areas have gone: by S9 an entry that was open is open.
 pub record Gone (t : Table) : Type 0 where
   pub housed : Housed (t .k)
-  pub named : Named t
+  pub named : RegionsNamed t
   pub stays : (p i : ℕ) → t .opened p i ≡ true → openAt (t .k) p i ≡ true
 
 -- ── the way there ──
 -- n slots of p: those up to the end of its last structure
-pub record Ends (k : K) (p n : ℕ) : Type 0 where
+pub record UsedEnd (k : K) (p n : ℕ) : Type 0 where
   pub j : ℕ
   pub is : n ≡ 8 * j
   pub within : j ≤ 4

@@ -4,7 +4,7 @@ ghost use Rattle.tables.specs.View.{named, view};
 ghost use Rattle.tables.specs.Encode.{regionFor, regionsFor, Canon, Is};
 ghost use Rattle.tables.specs.Settle.{keep};
 ghost use Rattle.tables.specs.Kept.{keepRegions};
-ghost use Rattle.settling.specs.Settled.{Ends};
+ghost use Rattle.settling.specs.Settled.{UsedEnd};
 
 // Which entries are open, and the regions that follow: settled again where areas have come or gone.
 pub mod areas;
@@ -21,7 +21,7 @@ use words::regions_word::RegionsFields;
 // So many slots of p can be in use: those up to the end of its last structure. An absent partition has none.
 fn used_slots(t: &[u64; 641], p: Partition) -> u32
     requires { ⌜ p .0 < 16 ⌝ }
-    ensures { λ r. ⌜ Ends (view (now (t .entry)) .k) (p .0) r ⌝ }
+    ensures { λ r. ⌜ UsedEnd (view (now (t .entry)) .k) (p .0) r ⌝ }
 {
     let mut j = 4u32;
     while j > 0 {

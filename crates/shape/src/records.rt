@@ -1,8 +1,8 @@
 ghost use mathlib.Core.Path.{_≡_};
 ghost use mathlib.Core.Bool.{_&&_};
 ghost use Prim.Native.Nat.{_/_, _^_, _<_};
-ghost use Rattle.loops.specs.Every.{all};
-ghost use Rattle.tables.specs.View.{nth, view};
+ghost use Rattle.loops.specs.Loops.{all};
+ghost use Rattle.tables.specs.View.{nthRegion, view};
 ghost use Rattle.sound.specs.Clauses.{isNowhere, s1, s2Root, s2, blankRegion, s3Regions, s3First, s3, s4, s5Slot, s5};
 ghost use Rattle.shape.specs.Records.{areaTest, headerTest, structureTest, slotsTest, HasStructure};
 use crate::is_rooted;
@@ -144,7 +144,7 @@ fn is_blank(x: Region) -> bool
 
 // .. all eight do so
 fn all_blank(f: RegionsFields) -> bool
-    ensures { λ r. ⌜ r ≡ all 8 (λ i. blankRegion (nth f i)) ⌝ }
+    ensures { λ r. ⌜ r ≡ all 8 (λ i. blankRegion (nthRegion f i)) ⌝ }
 {
     let mut i = 0u32;
     while i < 8 {

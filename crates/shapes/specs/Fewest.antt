@@ -7,7 +7,7 @@ use Rattle.shapes.specs.declared.Board.the-variants.{V7, V8}
 use Rattle.shapes.specs.Pieces.{Piece, piece, piecesFor}
 
 -- "a power-of-two size of 32 bytes or more and a base aligned to the size": a line is 32 bytes
-pub record Shaped (p : Piece) : Type 0 where
+pub record OfShape (p : Piece) : Type 0 where
   pub power : ℕ
   pub lines : p .lines ≡ 2 ^ power
   pub times : ℕ
@@ -19,30 +19,30 @@ pub record InPiece (l : ℕ) (p : Piece) : Type 0 where
   pub to : l < p .start + p .lines
 
 -- the i-th piece of a list
-abbrev pub nth : List Piece → ℕ → Piece
-nth ps i = getD ps i (piece 0 0)
+abbrev pub nthPiece : List Piece → ℕ → Piece
+nthPiece ps i = getD ps i (piece 0 0)
 
 -- such pieces that cover a to b exactly: none has a line outside, and each line is in one, or in several
 pub record Covers (a b : ℕ) (ps : List Piece) : Type 0 where
-  pub shaped : (i : ℕ) → i < length ps → Shaped (nth ps i)
-  pub low : (i : ℕ) → i < length ps → a ≤ nth ps i .start
-  pub high : (i : ℕ) → i < length ps → nth ps i .start + nth ps i .lines ≤ b
-  pub every : (l : ℕ) → a ≤ l → l < b → (i : ℕ) × (i < length ps) × InPiece l (nth ps i)
+  pub shaped : (i : ℕ) → i < length ps → OfShape (nthPiece ps i)
+  pub low : (i : ℕ) → i < length ps → a ≤ nthPiece ps i .start
+  pub high : (i : ℕ) → i < length ps → nthPiece ps i .start + nthPiece ps i .lines ≤ b
+  pub every : (l : ℕ) → a ≤ l → l < b → (i : ℕ) × (i < length ps) × InPiece l (nthPiece ps i)
 
 -- in rising order
-pub record Rising (ps : List Piece) : Type 0 where
-  pub next : (i : ℕ) → suc i < length ps → nth ps i .start ≤ nth ps (suc i) .start
+pub record PiecesRising (ps : List Piece) : Type 0 where
+  pub next : (i : ℕ) → suc i < length ps → nthPiece ps i .start ≤ nthPiece ps (suc i) .start
 
 -- each begins where the one before ended
 pub record Joined (ps : List Piece) : Type 0 where
-  pub next : (i : ℕ) → suc i < length ps → nth ps i .start + nth ps i .lines ≡ nth ps (suc i) .start
+  pub next : (i : ℕ) → suc i < length ps → nthPiece ps i .start + nthPiece ps i .lines ≡ nthPiece ps (suc i) .start
 
 -- the fewest pieces that cover a to b exactly, in rising order: no cover has fewer, and none but this that has as few is in rising order
 pub record Fewest (a b : ℕ) (ps : List Piece) : Type 0 where
   pub covers : Covers a b ps
   pub joined : Joined ps
   pub none-fewer : (cs : List Piece) → Covers a b cs → length ps ≤ length cs
-  pub only : (cs : List Piece) → Covers a b cs → Rising cs → length cs ≡ length ps → cs ≡ ps
+  pub only : (cs : List Piece) → Covers a b cs → PiecesRising cs → length cs ≡ length ps → cs ≡ ps
 
 -- what is proved of the pieces of every block
 pub record Shapes : Type 0 where

@@ -67,6 +67,6 @@ pub record CanList (board : Board) (s b : ℕ) (list : List ℕ) : Type 0 where
   pub room : length (piecesFor board s b) ≤ length list
 
 -- .. and what it promises: their number, and every word of the list
-pub record Listed (ps : List Piece) (before : List ℕ) (r : ℕ) (after : List ℕ) : Type 0 where
+pub record ShapesListed (ps : List Piece) (before : List ℕ) (r : ℕ) (after : List ℕ) : Type 0 where
   pub number : r ≡ length ps
   pub words : after ≡ pieceWords ps before

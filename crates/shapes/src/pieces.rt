@@ -2,7 +2,7 @@ ghost use mathlib.Core.Path.{_≡_};
 ghost use Prim.Native.Nat.{_+_, _*_, _^_, _≤_, _<_};
 ghost use lib.ListN.{length};
 ghost use Rattle.shapes.specs.declared.Board.the-variants.{V7, V8};
-ghost use Rattle.shapes.specs.Pieces.{widest, commonZeros, pieces, piecesFor, CanList, Listed};
+ghost use Rattle.shapes.specs.Pieces.{widest, commonZeros, pieces, piecesFor, CanList, ShapesListed};
 use crate::Board;
 
 // The lines of the largest piece at start that ends by end: they double as long as that fits. start is `rest` times their number.
@@ -71,7 +71,7 @@ fn piece_word(start: u32, lines: u32) -> u64
 // The largest piece at start, then the largest at its end, and so on.
 fn write_shaped(start: u32, end: u32, list: &mut [u64]) -> usize
     requires { ⌜ CanList V7 start end (now list) ⌝ }
-    ensures { λ r. ⌜ Listed (piecesFor V7 start end) (now (list .entry)) r (now (list .exit)) ⌝ }
+    ensures { λ r. ⌜ ShapesListed (piecesFor V7 start end) (now (list .entry)) r (now (list .exit)) ⌝ }
 {
     let mut n = 0usize;
     let mut at = start;
@@ -87,7 +87,7 @@ fn write_shaped(start: u32, end: u32, list: &mut [u64]) -> usize
 // The block is one piece.
 fn write_plain(start: u32, end: u32, list: &mut [u64]) -> usize
     requires { ⌜ CanList V8 start end (now list) ⌝ }
-    ensures { λ r. ⌜ Listed (piecesFor V8 start end) (now (list .entry)) r (now (list .exit)) ⌝ }
+    ensures { λ r. ⌜ ShapesListed (piecesFor V8 start end) (now (list .entry)) r (now (list .exit)) ⌝ }
 {
     list[0] = piece_word(start, end - start);
     1
@@ -96,7 +96,7 @@ fn write_plain(start: u32, end: u32, list: &mut [u64]) -> usize
 // Writes the pieces that the block from start to end needs on this board, a word each in rising order, and tells how many; the words past them stay.
 pub fn write_pieces(board: Board, start: u32, end: u32, list: &mut [u64]) -> usize
     requires { ⌜ CanList board start end (now list) ⌝ }
-    ensures { λ r. ⌜ Listed (piecesFor board start end) (now (list .entry)) r (now (list .exit)) ⌝ }
+    ensures { λ r. ⌜ ShapesListed (piecesFor board start end) (now (list .entry)) r (now (list .exit)) ⌝ }
 {
     match board {
         Board::V7 => write_shaped(start, end, list),

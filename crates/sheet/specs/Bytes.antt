@@ -4,7 +4,7 @@ use mathlib.Core.List.{List, []}
 use Prim.Native.Nat.{ℕ, _+_, _*_}
 use lib.Dec.{eqb}
 use lib.ListN.{length}
-use Rattle.loops.specs.Rewrite.{tab}
+use Rattle.loops.specs.Loops.{tab}
 use Rattle.memory.specs.Bytes.{wordAt, byteOf, putWord}
 use Rattle.tables.specs.State.{Table}
 use Rattle.rules.specs.Rules.{Result, done, refused}

@@ -4,10 +4,7 @@ use mathlib.Core.List.{List}
 use Prim.Native.Nat.{ℕ, _+_, _-_, _/_, _%_}
 use lib.Dec.{eqb}
 use lib.ListN.{length, getD}
-use Rattle.loops.specs.Every.{all}
-use Rattle.loops.specs.Count.{sum}
-use Rattle.loops.specs.Map.{mapOf}
-use Rattle.loops.specs.Rewrite.{tab}
+use Rattle.loops.specs.Loops.{all, sum, mapOf, tab}
 use Rattle.words.specs.Kind.{wordOf, reading}
 use Rattle.words.specs.Words.{call, masks, lines}
 use Rattle.words.specs.declared.masks_word.MasksFields.{MasksFields}
@@ -32,13 +29,13 @@ abbrev pub masksOf : K → ℕ → MasksFields
 masksOf k p = record { children = mapOf 16 (child k p); slots = mapOf 32 (occupied k p); structures = mapOf 4 (structured k p) }
 
 -- the lines of an entry
-unfoldable pub linesOf : Opt Entry → ℕ
-linesOf none = 0
-linesOf (some e) = e .stop - e .start
+unfoldable pub numberOfLines : Opt Entry → ℕ
+numberOfLines none = 0
+numberOfLines (some e) = e .stop - e .start
 
 -- those that slot i of p holds, and those of them that are open
 abbrev pub heldAt : K → ℕ → ℕ → ℕ
-heldAt k p i = linesOf (k .slot p i)
+heldAt k p i = numberOfLines (k .slot p i)
 
 abbrev pub openedAt : Table → ℕ → ℕ → ℕ
 openedAt t p i = cond (t .opened p i) (heldAt (t .k) p i) 0

@@ -3,8 +3,7 @@ use mathlib.Core.Path.{_≡_}
 use mathlib.Core.List.{List}
 use Prim.Native.Nat.{ℕ, _+_, _*_, _≤_, _<_}
 use lib.ListN.{length, getD}
-use Rattle.loops.specs.Count.{sum}
-use Rattle.loops.specs.Map.{mapOf}
+use Rattle.loops.specs.Loops.{sum, mapOf}
 use Rattle.loops.specs.Laws.Map.{Mapping}
 use Rattle.words.specs.declared.Written.{Written}
 use Rattle.words.specs.declared.Written.the-variants.{Word, Refused}

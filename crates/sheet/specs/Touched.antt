@@ -4,7 +4,7 @@ use mathlib.Core.Bool.{cond, _||_}
 use mathlib.Core.List.{List}
 use Prim.Native.Nat.{ℕ, _*_, _<_}
 use lib.Dec.{eqb}
-use Rattle.loops.specs.Map.{mapOf}
+use Rattle.loops.specs.Loops.{mapOf}
 use Rattle.words.specs.Kind.{fieldsIn, wordOf}
 use Rattle.words.specs.Words.{call, masks}
 use Rattle.words.specs.declared.Partition.{Partition}

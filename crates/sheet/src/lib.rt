@@ -1,7 +1,7 @@
 ghost use mathlib.Core.Path.{_≡_};
 ghost use Prim.Native.Nat.{_^_, _<_};
 ghost use lib.ListN.{length};
-ghost use Rattle.loops.specs.Every.{all};
+ghost use Rattle.loops.specs.Loops.{all};
 ghost use Rattle.tables.specs.View.{view};
 ghost use Rattle.sound.specs.Whole.{Right};
 ghost use Rattle.sheet.specs.Sheet.{linesWord, sheetOf, matches};

@@ -1,8 +1,7 @@
 ghost use mathlib.Core.Path.{_≡_};
 ghost use Prim.Native.Nat.{_+_, _^_, _≤_, _<_};
 ghost use lib.ListN.{length, replicate};
-ghost use Rattle.loops.specs.Bit.{bitOf};
-ghost use Rattle.loops.specs.Map.{mapOf};
+ghost use Rattle.loops.specs.Loops.{bitOf, mapOf};
 ghost use Rattle.tables.specs.View.{view};
 ghost use Rattle.sound.specs.Whole.{Right};
 ghost use Rattle.sheet.specs.Sheet.{structured, linesWord};

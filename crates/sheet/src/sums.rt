@@ -3,7 +3,7 @@ ghost use mathlib.Core.Bool.{cond};
 ghost use Prim.Native.Nat.{_-_, _+_, _*_, _≤_, _<_};
 ghost use Rattle.tables.specs.View.{view, entryIn};
 ghost use Rattle.sound.specs.Whole.{Right};
-ghost use Rattle.sheet.specs.Sheet.{linesOf};
+ghost use Rattle.sheet.specs.Sheet.{numberOfLines};
 ghost use Rattle.sheet.specs.Sums.{Adding};
 use tables::read;
 use words::Partition;
@@ -19,7 +19,7 @@ pub struct Sums {
 
 // the lines of an entry
 fn lines(f: SlotFields) -> u32
-    ensures { λ r. ⌜ r ≡ linesOf (entryIn f) ⌝ }
+    ensures { λ r. ⌜ r ≡ numberOfLines (entryIn f) ⌝ }
 {
     if !f.present {
         return 0;
@@ -32,7 +32,7 @@ fn lines(f: SlotFields) -> u32
 
 // .. of an open one
 fn open_lines(f: SlotFields) -> u32
-    ensures { λ r. ⌜ r ≡ cond (f .opened) (linesOf (entryIn f)) 0 ⌝ }
+    ensures { λ r. ⌜ r ≡ cond (f .opened) (numberOfLines (entryIn f)) 0 ⌝ }
 {
     if !f.opened {
         return 0;

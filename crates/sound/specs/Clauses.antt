@@ -4,15 +4,14 @@ use mathlib.Core.List.{List}
 use Prim.Native.Nat.{ℕ, _+_, _*_, _/_, _%_}
 use lib.ListN.{length}
 use lib.Dec.{leb, ltb, eqb}
-use Rattle.loops.specs.Every.{all, any}
-use Rattle.loops.specs.Climb.{reaches}
+use Rattle.loops.specs.Loops.{all, any, reaches}
 use Rattle.words.specs.Kind.{zeroed}
 use Rattle.words.specs.Words.{first, header, structure, regions}
 use Rattle.words.specs.declared.Rights.{Rights}
 use Rattle.words.specs.declared.regions_word.Region.{Region}
 use Rattle.shapes.specs.declared.Board.{Board}
 use Rattle.tables.specs.State.{Opt, none, some, Entry, Area, K, Table}
-use Rattle.tables.specs.View.{firstWord, areaWordAt, regionsWordAt, slotWordAt, nth, regionsAt, view}
+use Rattle.tables.specs.View.{firstWord, areaWordAt, regionsWordAt, slotWordAt, nthRegion, regionsAt, view}
 use Rattle.tables.specs.Search.{isSome, present, child, holds}
 use Rattle.tables.specs.Settle.{meets, apart, openAt}
 use Rattle.tables.specs.ZeroRecord.{zeroBlanks, zeroRecord}
@@ -55,7 +54,7 @@ unfoldable pub blankRegion : Region → Bool
 blankRegion r = r .loaded || eqb (r .slot .0) 0
 
 unfoldable pub s3Regions : List ℕ → ℕ → Bool
-s3Regions l p = zeroed regions (regionsWordAt l p) && all 8 (λ r. blankRegion (nth (regionsAt l p) r))
+s3Regions l p = zeroed regions (regionsWordAt l p) && all 8 (λ r. blankRegion (nthRegion (regionsAt l p) r))
 
 unfoldable pub s3First : List ℕ → Bool
 s3First l = zeroed first (firstWord l)
@@ -101,7 +100,7 @@ s6 k p = all 32 (λ i. all i (λ j. apartE (k .slot p i) (k .slot p j)))
 unfoldable pub held : K → ℕ → ℕ → Bool
 held k p l = any 32 (λ i. holds l (k .slot p i))
 
--- each entry of p that ends inside lo to hi, ends where another line is held; and lo is held: so is all of lo to hi
+-- lo is held; wherever an entry of p ends before hi, the next line is held too: so is all of lo to hi
 unfoldable pub covered : K → ℕ → ℕ → ℕ → Bool
 covered k p lo hi = not (ltb lo hi) || (held k p lo && all 32 (λ i. when (λ e. not (ltb lo (e .stop)) || not (ltb (e .stop) hi) || held k p (e .stop)) (k .slot p i)))
 

@@ -3,7 +3,7 @@ use mathlib.Core.Path.{_≡_}
 use mathlib.Core.Bool.{true}
 use mathlib.Core.Logic.{_⊎_, _↔_}
 use Prim.Native.Nat.{ℕ, _+_, _/_, _≤_, _<_}
-use Rattle.loops.specs.Climb.{Reaches}
+use Rattle.loops.specs.Loops.{Reaches}
 use Rattle.tables.specs.State.{Opt, none, some, Entry, Area, nowhere, K, allRights}
 use Rattle.tables.specs.Lines.{In, InA, Holds, Clear}
 use Rattle.sound.specs.Sound.{Present, Rooted, Sub}

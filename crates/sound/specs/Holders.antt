@@ -9,7 +9,7 @@ use Rattle.shapes.specs.declared.Board.{Board}
 use Rattle.tables.specs.State.{Opt, none, some, Entry, K}
 use Rattle.tables.specs.View.{view}
 use Rattle.tables.specs.Search.{lookFor}
-use Rattle.tables.specs.WayUp.{wayUp, over}
+use Rattle.tables.specs.WayUp.{wayUp, namesOver}
 use Rattle.tables.specs.declared.Outcome.{Outcome}
 use Rattle.tables.specs.declared.Outcome.the-variants.{Done, Refused}
 use Rattle.sound.specs.Clauses.{sound}
@@ -58,14 +58,14 @@ holdersOutcome b t l size =
 
 unfoldable pub holdersBytes : Board → List ℕ → ℕ → List ℕ → List ℕ
 holdersBytes b t l bytes =
-    cond (sound b t) (cond (inMemory (view t .k) l) (cond (leb 16 (length bytes)) (over (holdersOf (view t .k) l) bytes) bytes) bytes) bytes
+    cond (sound b t) (cond (inMemory (view t .k) l) (cond (leb 16 (length bytes)) (namesOver (holdersOf (view t .k) l) bytes) bytes) bytes) bytes
 
 -- the holders of line l, written
 pub record Writes (k : K) (l : ℕ) (before : List ℕ) (r : Outcome) (after : List ℕ) : Type 0 where
   pub outcome : r ≡ Done (length (holdersOf k l)) (looksOf k l)
-  pub bytes : after ≡ over (holdersOf k l) before
+  pub bytes : after ≡ namesOver (holdersOf k l) before
 
 -- what holders promises: its outcome, and every byte of the list
-pub record Listed (b : Board) (t : List ℕ) (l : ℕ) (before : List ℕ) (r : Outcome) (after : List ℕ) : Type 0 where
+pub record HoldersListed (b : Board) (t : List ℕ) (l : ℕ) (before : List ℕ) (r : Outcome) (after : List ℕ) : Type 0 where
   pub outcome : r ≡ holdersOutcome b t l (length before)
   pub bytes : after ≡ holdersBytes b t l before

@@ -1,7 +1,7 @@
 -- How many pieces the loaded entries of a partition need on a board: 02's limit is 8.
 use Prim.Native.Nat.{ℕ}
 use lib.ListN.{length}
-use Rattle.loops.specs.Count.{sum}
+use Rattle.loops.specs.Loops.{sum}
 use Rattle.shapes.specs.declared.Board.{Board}
 use Rattle.shapes.specs.Pieces.{piecesFor}
 use Rattle.tables.specs.State.{Opt, none, some, Entry}

@@ -6,13 +6,13 @@ use mathlib.Core.Logic.{_⊎_, _↔_}
 use Prim.Native.Nat.{ℕ, _+_, _/_, _≤_, _<_}
 use lib.ListN.{length}
 use lib.Dec.{eqb}
-use Rattle.loops.specs.Climb.{Reaches}
+use Rattle.loops.specs.Loops.{Reaches}
 use Rattle.words.specs.Kind.{Zeroed}
 use Rattle.words.specs.Words.{first, header, structure, regions}
 use Rattle.words.specs.declared.Rights.{Rights}
 use Rattle.shapes.specs.declared.Board.{Board}
 use Rattle.tables.specs.State.{none, some, Entry, allRights, Area, nowhere, K, Table}
-use Rattle.tables.specs.View.{firstWord, areaWordAt, regionsWordAt, blankWordAt, slotWordAt, nth, regionsAt, view}
+use Rattle.tables.specs.View.{firstWord, areaWordAt, regionsWordAt, blankWordAt, slotWordAt, nthRegion, regionsAt, view}
 use Rattle.tables.specs.Spelling.{ZeroWords}
 use Rattle.tables.specs.Lines.{In, InA, Holds, Clear}
 use Rattle.sound.specs.Limit.{loadedPieces}
@@ -90,7 +90,7 @@ pub record S3 (l : List ℕ) (p : ℕ) : Type 0 where
   pub header-bits : Zeroed header (areaWordAt l p 0)
   pub structure-bits : (j : ℕ) → j < 4 → Zeroed structure (areaWordAt l p (1 + j))
   pub region-bits : Zeroed regions (regionsWordAt l p)
-  pub unloaded : (r : ℕ) → r < 8 → nth (regionsAt l p) r .loaded ≡ false → nth (regionsAt l p) r .slot .0 ≡ 0
+  pub unloaded : (r : ℕ) → r < 8 → nthRegion (regionsAt l p) r .loaded ≡ false → nthRegion (regionsAt l p) r .slot .0 ≡ 0
   pub blank : (o : ℕ) → o < 2 → blankWordAt l p o ≡ 0
 
 -- S4 absent structures are zero words; root structure 0 is present with area 0, 0; any other present structure has an area; 0, 0 counts as no area, and

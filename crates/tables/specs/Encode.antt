@@ -4,7 +4,7 @@ use mathlib.Core.Bool.{Bool, true, cond}
 use mathlib.Core.List.{List}
 use lib.Dec.{eqb, ltb}
 use Prim.Native.Nat.{ℕ, _-_, _/_, _%_}
-use Rattle.loops.specs.Rewrite.{tab}
+use Rattle.loops.specs.Loops.{tab}
 use Rattle.words.specs.Kind.{wordOf}
 use Rattle.words.specs.Words.{first, header, structure, regions, slot}
 use Rattle.words.specs.Fields.{noRegion}

@@ -3,8 +3,7 @@ use mathlib.Core.Path.{_≡_}
 use mathlib.Core.Bool.{Bool, true, false, not, _&&_}
 use Prim.Native.Nat.{ℕ, _+_, _/_, _<_}
 use lib.Dec.{leb, ltb, eqb}
-use Rattle.loops.specs.Scan.{seek, NoneBelow}
-use Rattle.loops.specs.Every.{any}
+use Rattle.loops.specs.Loops.{seek, NoneBelow, any}
 use Rattle.tables.specs.State.{Opt, none, some, Entry, K}
 
 abbrev pub isSome : {A : Type 0} → Opt A → Bool

@@ -9,7 +9,7 @@ use Rattle.words.specs.declared.header_word.HeaderFields.{HeaderFields}
 use Rattle.words.specs.declared.regions_word.RegionsFields.{RegionsFields}
 use Rattle.words.specs.declared.slot_word.SlotFields.{SlotFields}
 use Rattle.words.specs.declared.structure_word.StructureFields.{StructureFields}
-use Rattle.tables.specs.View.{entryIn, headerArea, structureArea, nth, named, slotAt, headerAt, structureAt, regionsAt, view}
+use Rattle.tables.specs.View.{entryIn, headerArea, structureArea, nthRegion, named, slotAt, headerAt, structureAt, regionsAt, view}
 use Rattle.tables.specs.Encode.{Canon}
 
 -- ── base, end and current ──
@@ -49,8 +49,8 @@ pub record SeenStructure (l : List ℕ) (p j : ℕ) (f : StructureFields) : Type
 -- ── the regions of p ──
 pub record SeenRegions (l : List ℕ) (p : ℕ) (f : RegionsFields) : Type 0 where
   pub is : f ≡ regionsAt l p
-  pub region : (r : ℕ) → r < 8 → view l .region p r ≡ named (nth f r)
-  pub small : (r : ℕ) → nth f r .slot .0 < 32
+  pub region : (r : ℕ) → r < 8 → view l .region p r ≡ named (nthRegion f r)
+  pub small : (r : ℕ) → nthRegion f r .slot .0 < 32
 
 -- ── area j of p: the header's, or that of structure j - 1 ──
 abbrev pub areaFields : List ℕ → ℕ → ℕ → StructureFields

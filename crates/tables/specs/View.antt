@@ -66,8 +66,8 @@ structureArea f = cond (f .present) (some (record { lo = f .start .0; hi = f .en
 unfoldable pub areaIn : ℕ → ℕ → Opt Area
 areaIn j w = cond (eqb j 0) (headerArea (fieldsIn header w)) (structureArea (fieldsIn structure w))
 
-unfoldable pub nth : RegionsFields → ℕ → Region
-nth f r = getD (f .region0 ∷ f .region1 ∷ f .region2 ∷ f .region3 ∷ f .region4 ∷ f .region5 ∷ f .region6 ∷ f .region7 ∷ []) r noRegion
+unfoldable pub nthRegion : RegionsFields → ℕ → Region
+nthRegion f r = getD (f .region0 ∷ f .region1 ∷ f .region2 ∷ f .region3 ∷ f .region4 ∷ f .region5 ∷ f .region6 ∷ f .region7 ∷ []) r noRegion
 
 -- the slot that a loaded region names
 unfoldable pub named : Region → Opt ℕ
@@ -93,7 +93,7 @@ abbrev pub areaAt : List ℕ → ℕ → ℕ → Opt Area
 areaAt l p j = areaIn j (areaWordAt l p j)
 
 abbrev pub regionAt : List ℕ → ℕ → ℕ → Opt ℕ
-regionAt l p r = named (nth (regionsAt l p) r)
+regionAt l p r = named (nthRegion (regionsAt l p) r)
 
 -- only what the table has: z outside n by m
 unfoldable pub inside : {A : Type 0} → A → ℕ → ℕ → (ℕ → ℕ → A) → ℕ → ℕ → A

@@ -6,7 +6,7 @@ use mathlib.Core.List.{List, [], _∷_, _++_}
 use lib.ListN.{length, drop}
 use lib.Dec.{eqb}
 use Prim.Native.Nat.{ℕ, zero, suc, _+_, _-_, _*_, _/_, _%_, _^_, _≤_, _<_}
-use Rattle.loops.specs.Climb.{climb, reaches}
+use Rattle.loops.specs.Loops.{climb, reaches}
 
 -- who stands on the way from p up to the root, root first; where the steps end before it, those who had a step left
 abbrev pub wayUp : (ℕ → ℕ) → ℕ → ℕ → List ℕ
@@ -27,8 +27,8 @@ abbrev pub wayIn : ℕ → List ℕ
 wayIn w = digitsOf 16 w
 
 -- the first bytes are hs, the rest stay
-abbrev pub over : List ℕ → List ℕ → List ℕ
-over hs bytes = hs ++ drop (length hs) bytes
+abbrev pub namesOver : List ℕ → List ℕ → List ℕ
+namesOver hs bytes = hs ++ drop (length hs) bytes
 
 -- ── what the climb asks and promises ──
 -- w has room for those on n more steps, and for the root
@@ -45,4 +45,4 @@ pub record WentUp (up : ℕ → ℕ) (p n w : ℕ) (r : Bool) (v : ℕ) : Type 0
 -- what writing out the way that w tells promises: how many names there are, and every byte
 pub record WayWritten (w : ℕ) (before : List ℕ) (r : ℕ) (after : List ℕ) : Type 0 where
   pub number : r ≡ length (wayIn w)
-  pub bytes : after ≡ over (wayIn w) before
+  pub bytes : after ≡ namesOver (wayIn w) before

@@ -1,7 +1,7 @@
 ghost use mathlib.Core.Path.{_≡_};
 ghost use mathlib.Core.Bool.{cond};
 ghost use Prim.Native.Nat.{_<_};
-ghost use Rattle.tables.specs.View.{nth};
+ghost use Rattle.tables.specs.View.{nthRegion};
 ghost use Rattle.tables.specs.Regions.{withRegion};
 use words::regions_word::Region;
 use words::regions_word::RegionsFields;
@@ -9,7 +9,7 @@ use words::regions_word::RegionsFields;
 // region r of eight
 pub fn nth(f: RegionsFields, r: u32) -> Region
     requires { ⌜ r < 8 ⌝ }
-    ensures { λ x. ⌜ x ≡ nth f r ⌝ }
+    ensures { λ x. ⌜ x ≡ nthRegion f r ⌝ }
 {
     match r {
         0 => f.region0,

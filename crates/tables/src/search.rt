@@ -1,7 +1,6 @@
 ghost use mathlib.Core.Path.{_≡_};
 ghost use Prim.Native.Nat.{_*_, _≤_, _<_};
-ghost use Rattle.loops.specs.Bit.{bitOf};
-ghost use Rattle.loops.specs.Map.{mapFrom, mapOf};
+ghost use Rattle.loops.specs.Loops.{bitOf, mapFrom, mapOf};
 ghost use Rattle.tables.specs.View.{view};
 ghost use Rattle.tables.specs.Search.{lowest, present, child, hasChild, absentChild, noStructure, isNone, free, holds, lookFor};
 ghost use Rattle.tables.specs.Answers.{foundOf, lookedOf, whichOf, structureOf};

@@ -22,7 +22,7 @@ use Rattle.rules.specs.Rules.{done, bootOn}
 use Rattle.isolation.specs.Whole.{afterAll, after-sound, from-boot-sound}
 use Rattle.verdict.specs.declared.Verdict.{Verdict}
 use Rattle.verdict.specs.declared.Verdict.the-variants.{Accepted, Fails, Length}
-use Rattle.verdict.specs.Verdict.{failsAt, failing, verdict, imageVerdict, Names, Few}
+use Rattle.verdict.specs.Verdict.{failsAt, failing, verdict, imageVerdict, Names, ClauseNamed}
 use Rattle.verdict.specs.Laws.Names.{accepted-not, length-not, length-names, fails-same, verdict-names, accepted-lower, lower-accepted}
 
 module _ (b : Board) (l : List ℕ) where
@@ -74,7 +74,7 @@ image-names b i {n} {p} = (
     go (yes z) e = (z, verdict-means b (wordsOf i) .0 (rw (eq-eqb (length i) 5128 z) at e))
     go (no z) e = absurd (length-names (rw (ne-eqb (length i) 5128 z) at e))
 
-pub image-few : (b : Board) (i : List ℕ) → Few (imageVerdict b i)
+pub image-few : (b : Board) (i : List ℕ) → ClauseNamed (imageVerdict b i)
 image-few b i = record { fails = λ n p e. let (_, h) = image-names b i .0 e in (h .to, h .partition) }
 
 -- another length, and nothing else, is said to be one

@@ -5,7 +5,7 @@ use mathlib.Core.List.{List}
 use Prim.Native.Nat.{ℕ, _+_, _*_, _/_, _%_, _≤_, _<_}
 use lib.Dec.{eqb}
 use lib.ListN.{length}
-use Rattle.loops.specs.Scan.{seek}
+use Rattle.loops.specs.Loops.{seek}
 use Rattle.shapes.specs.declared.Board.{Board}
 use Rattle.words.specs.declared.Partition.{Partition}
 use Rattle.tables.specs.declared.Outcome.{Outcome}
@@ -48,5 +48,5 @@ pub record Names (b : Board) (l : List ℕ) (n p : ℕ) : Type 0 where
   pub fails : Clause b l n p → ⊥
 
 -- what is named is a clause and a partition
-pub record Few (v : Verdict) : Type 0 where
+pub record ClauseNamed (v : Verdict) : Type 0 where
   pub fails : (n : ℕ) (p : Partition) → v ≡ Fails n p → (n < 12) × (p .0 < 16)

@@ -1,10 +1,10 @@
 ghost use mathlib.Core.Path.{_≡_};
 ghost use Prim.Native.Nat.{_<_};
-ghost use Rattle.loops.specs.Every.{all};
+ghost use Rattle.loops.specs.Loops.{all};
 ghost use Rattle.tables.specs.View.{view};
 ghost use Rattle.sound.specs.Clauses.{equals, s8Backed};
 ghost use Rattle.shape.specs.AtOnce.{Shaped};
-ghost use Rattle.decide.specs.Backing.{between};
+ghost use Rattle.decide.specs.Backing.{areaBetween};
 use shape::is_rooted;
 use tables::read;
 use words::Line;
@@ -13,7 +13,7 @@ use words::Partition;
 // q has a not-given entry that equals lo to hi
 fn has_equal(t: &[u64; 641], q: Partition, lo: Line, hi: Line) -> bool
     requires { ⌜ (q .0 < 16) × Shaped (now t) ⌝ }
-    ensures { λ r. ⌜ r ≡ equals (view (now (t .entry)) .k) (q .0) (between (lo .0) (hi .0)) ⌝ }
+    ensures { λ r. ⌜ r ≡ equals (view (now (t .entry)) .k) (q .0) (areaBetween (lo .0) (hi .0)) ⌝ }
 {
     decide::backing::equal_slot(t, q, lo, hi) < 32
 }

@@ -2,7 +2,7 @@ ghost use mathlib.Core.Path.{_≡_};
 ghost use mathlib.Core.Bool.{not, _||_};
 ghost use Prim.Native.Nat.{_/_, _%_, _<_};
 ghost use lib.Dec.{ltb};
-ghost use Rattle.loops.specs.Every.{all};
+ghost use Rattle.loops.specs.Loops.{all};
 ghost use Rattle.tables.specs.View.{view};
 ghost use Rattle.tables.specs.Settle.{meets, apart};
 ghost use Rattle.sound.specs.Clauses.{s8Apart, s8};

@@ -6,7 +6,7 @@ use lib.ListN.{length}
 use lib.Dec.{eqb, leb}
 use native.Mathlib.Omega.{arith}
 use borrow.Author.Tests.{leb-true, leb-false}
-use Rattle.loops.specs.Every.{any}
+use Rattle.loops.specs.Loops.{any}
 use Rattle.shapes.specs.declared.Board.{Board}
 use Rattle.shapes.specs.Pieces.{piecesFor}
 use Rattle.tables.specs.State.{none, some, Entry, Table}
@@ -17,11 +17,11 @@ use Rattle.tables.specs.Settle.{settle}
 use Rattle.sound.specs.Limit.{entryPieces, regionPieces, loadedPieces}
 use Rattle.sound.specs.Whole.{Right}
 use Rattle.rules.specs.Rules.{done, load}
-use Rattle.isolation.specs.Checks.{OwnOrChild}
+use Rattle.isolation.specs.Ladders.{OwnOrChild}
 use Rattle.isolation.specs.Ladder.{finished, holds, found}
 use Rattle.isolation.specs.Laws.Ladder.{answer-one}
 use Rattle.isolation.specs.Laws.Regions.{load-exact, load-done}
-use Rattle.who.specs.Who.{named, canWrite}
+use Rattle.who.specs.Who.{namesIt, canWrite}
 use Rattle.who.specs.Laws.Pieces.{sum-at, sum-only, number, is-0, is-2, is-3}
 
 -- of the entry e in slot s of p, in a right table, as every sound one is (`sound-right`)
@@ -30,7 +30,7 @@ module _ (b : Board) {t : Table} (h : Right t) (p s : ℕ) {e : Entry} (at : t .
   tested : (A : Bool → Bool → Type 0) {n : ℕ} → ((o w x c f : Bool) → number o w x c f ≡ n → A o f) → canWrite b t p s e (t .opened p s) ≡ n
       → A (t .opened p s) (leb (length (piecesFor b (e .start) (e .stop))) 8)
   unfolding canWrite
-  tested A law q = law (t .opened p s) (e .rights .write) (any 8 (named t p s)) (eqb (t .k .current) p) (leb (length (piecesFor b (e .start) (e .stop))) 8) q
+  tested A law q = law (t .opened p s) (e .rights .write) (any 8 (namesIt t p s)) (eqb (t .k .current) p) (leb (length (piecesFor b (e .start) (e .stop))) 8) q
 
   -- what region r needs once it names the slot
   needed : (r : ℕ) → regionPieces b (t .k .slot p) (upd (t .region) p r (some s) p r) ≡ length (piecesFor b (e .start) (e .stop))

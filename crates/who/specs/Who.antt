@@ -4,8 +4,7 @@ use mathlib.Core.List.{List, [], _∷_}
 use Prim.Native.Nat.{ℕ}
 use lib.ListN.{length}
 use lib.Dec.{eqb, leb}
-use Rattle.loops.specs.Bit.{bitOf}
-use Rattle.loops.specs.Every.{any}
+use Rattle.loops.specs.Loops.{bitOf, any}
 use Rattle.shapes.specs.declared.Board.{Board}
 use Rattle.shapes.specs.Pieces.{piecesFor}
 use Rattle.tables.specs.State.{Opt, none, some, Entry, Area, K, Table}
@@ -21,14 +20,14 @@ entryNumbers b p s e o =
     ∷ length (piecesFor b (e .start) (e .stop)) ∷ []
 
 -- region r of p names slot s
-unfoldable pub named : Table → ℕ → ℕ → ℕ → Bool
-named t p s r = has (λ i. eqb i s) (t .region p r)
+unfoldable pub namesIt : Table → ℕ → ℕ → ℕ → Bool
+namesIt t p s r = has (λ i. eqb i s) (t .region p r)
 
 -- can: whether p can write into its entry e, in slot s. 0: it is closed. 1: it has no write right. 2: it has more pieces than can be loaded.
 -- 3: it can, if it loads it. 4: it has it loaded, and can when it is current. 5: .. and is current.
 unfoldable pub canWrite : Board → Table → ℕ → ℕ → Entry → Bool → ℕ
 canWrite b t p s e o =
-    cond o (cond (e .rights .write) (cond (any 8 (named t p s)) (cond (eqb (t .k .current) p) 5 4) (cond (leb (length (piecesFor b (e .start) (e .stop))) 8) 3 2)) 1) 0
+    cond o (cond (e .rights .write) (cond (any 8 (namesIt t p s)) (cond (eqb (t .k .current) p) 5 4) (cond (leb (length (piecesFor b (e .start) (e .stop))) 8) 3 2)) 1) 0
 
 -- shut: an area, or none, shares a line with a to b
 unfoldable pub shared : Opt Area → ℕ → ℕ → Bool
@@ -36,13 +35,13 @@ shared none a b = false
 shared (some x) a b = meets (x .lo) (x .hi) a b
 
 -- ── holder: in which slot p has line l, and where the entry there ends ──
-unfoldable pub endOf : ℕ → Opt Entry → ℕ
-endOf l none = l
-endOf l (some e) = e .stop
+unfoldable pub entryEnd : ℕ → Opt Entry → ℕ
+entryEnd l none = l
+entryEnd l (some e) = e .stop
 
 unfoldable pub placeIn : K → ℕ → ℕ → Opt ℕ → Place
 placeIn k p l none = record { slot = record { 0 = 32 }; end = record { 0 = l } }
-placeIn k p l (some i) = record { slot = record { 0 = i }; end = record { 0 = endOf l (k .slot p i) } }
+placeIn k p l (some i) = record { slot = record { 0 = i }; end = record { 0 = entryEnd l (k .slot p i) } }
 
 -- .. by the search that find makes
 unfoldable pub placeOf : K → ℕ → ℕ → Place

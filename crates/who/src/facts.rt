@@ -1,9 +1,8 @@
 ghost use mathlib.Core.Path.{_≡_};
 ghost use Prim.Native.Nat.{_<_, _^_};
-ghost use Rattle.loops.specs.Bit.{bitOf};
-ghost use Rattle.loops.specs.Every.{any};
+ghost use Rattle.loops.specs.Loops.{bitOf, any};
 ghost use Rattle.tables.specs.View.{view, entryOf};
-ghost use Rattle.who.specs.Who.{entryNumbers, named, canWrite, shared, placeOf};
+ghost use Rattle.who.specs.Who.{entryNumbers, namesIt, canWrite, shared, placeOf};
 use shapes::Board;
 use tables::Found;
 use words::Line;
@@ -42,7 +41,7 @@ pub fn entry(board: Board, p: Partition, s: Slot, f: SlotFields) -> [u32; 11]
 // region r of p names slot s
 pub fn names(t: &[u64; 641], p: Partition, s: Slot, r: u32) -> bool
     requires { ⌜ (p .0 < 16) × (r < 8) ⌝ }
-    ensures { λ b. ⌜ b ≡ named (view (now (t .entry))) (p .0) (s .0) r ⌝ }
+    ensures { λ b. ⌜ b ≡ namesIt (view (now (t .entry))) (p .0) (s .0) r ⌝ }
 {
     let f = tables::read::regions(t, p);
     let x = tables::regions::nth(f, r);
@@ -56,7 +55,7 @@ pub fn names(t: &[u64; 641], p: Partition, s: Slot, r: u32) -> bool
 // .. one of them does
 fn loaded(t: &[u64; 641], p: Partition, s: Slot) -> bool
     requires { ⌜ p .0 < 16 ⌝ }
-    ensures { λ b. ⌜ b ≡ any 8 (named (view (now (t .entry))) (p .0) (s .0)) ⌝ }
+    ensures { λ b. ⌜ b ≡ any 8 (namesIt (view (now (t .entry))) (p .0) (s .0)) ⌝ }
 {
     let mut r = 0u32;
     while r < 8 {

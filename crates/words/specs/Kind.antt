@@ -1,14 +1,9 @@
 -- A kind of word: its parts and the struct that has its fields. What a reader and a writer answer, and both round trips, once for every kind.
-use mathlib.Core.Path.{_≡_, refl, sym, _∙_}
-use mathlib.Core.Bool.{Bool, true, cond}
+use mathlib.Core.Path.{_≡_}
+use mathlib.Core.Bool.{Bool, cond}
 use mathlib.Core.List.{List}
-use mathlib.Core.Logic.{_↔_}
 use Prim.Native.Nat.{ℕ, _^_, _<_}
-use lib.Dec.{eqb}
-use borrow.Author.Tests.{eqb-true, eq-eqb}
-use Rattle.loops.specs.Laws.Every.{bool-ext}
-use Rattle.words.specs.Parts.{Part, width, unpack, pack, clean, fit, Clean, Fit, zeroSum}
-use Rattle.words.specs.Laws.Parts.{clean-true, clean-says, clean-false, sum-clean, clean-sum, zero-clean, fit-true, fit-false}
+use Rattle.words.specs.Parts.{Part, width, unpack, packParts, clean, fit, Clean, FieldsFit}
 use Rattle.words.specs.declared.Written.{Written}
 use Rattle.words.specs.declared.Written.the-variants.{Word, Refused}
 
@@ -27,7 +22,7 @@ module _ {A R : Type 0} (k : Kind A R) where
 
   -- the word that has these fields
   abbrev pub wordOf : A → ℕ
-  wordOf f = pack (k .parts) (k .list f)
+  wordOf f = packParts (k .parts) (k .list f)
 
   -- no zero bit of the word is set, as a test
   abbrev pub zeroed : ℕ → Bool
@@ -46,34 +41,7 @@ module _ {A R : Type 0} (k : Kind A R) where
   Zeroed w = Clean (k .parts) w
 
   abbrev pub InRange : A → Type 0
-  InRange f = Fit (k .parts) (k .list f)
-
-  pub zeroed-means : (w : ℕ) → (zeroed w ≡ true) ↔ Zeroed w
-  zeroed-means w = (clean-says (k .parts) w, clean-true (k .parts) w)
-
-  -- none is set exactly if they add up to 0
-  pub zeroed-sum : (w : ℕ) {z : ℕ} → z ≡ zeroSum (k .parts) w → eqb z 0 ≡ zeroed w
-  zeroed-sum w e =
-      bool-ext _ _
-      (λ q. clean-true (k .parts) w (sum-clean (k .parts) w (sym e ∙ eqb-true _ 0 q)))
-      (λ q. eq-eqb _ 0 (e ∙ clean-sum (k .parts) w (clean-says (k .parts) w q)))
-
-  -- the zero word has none set
-  pub zero-zeroed : Zeroed 0
-  zero-zeroed = zero-clean (k .parts)
-
-  -- ── the exits of a reader and of a writer ──
-  pub read-done : (w : ℕ) → zeroSum (k .parts) w ≡ 0 → reading w ≡ k .fields (fieldsIn w)
-  read-done w h = rw (clean-true (k .parts) w (sum-clean (k .parts) w h)) refl
-
-  pub read-refused : (w : ℕ) → (zeroSum (k .parts) w ≡ 0 → ⊥) → reading w ≡ k .refused 2
-  read-refused w h = rw (clean-false (k .parts) w (λ c. h (clean-sum (k .parts) w c))) refl
-
-  pub write-done : (f : A) → InRange f → writing f ≡ Word (wordOf f)
-  write-done f h = rw (fit-true (k .parts) (k .list f) h) refl
-
-  pub write-refused : (f : A) → (InRange f → ⊥) → writing f ≡ Refused 2
-  write-refused f h = rw (fit-false (k .parts) (k .list f) h) refl
+  InRange f = FieldsFit (k .parts) (k .list f)
 
 -- ── both round trips ──
 -- the parts fill a word; the struct has the fields of the list, and no other

@@ -22,11 +22,11 @@ unpack (bits b ∷ ps) w = w / 2 ^ width ps % 2 ^ b ∷ unpack ps w
 unpack (zeros b ∷ ps) w = unpack ps w
 
 -- the word that has these fields, and its zero bits zero
-abbrev pub pack : List Part → List ℕ → ℕ
-pack [] fs = 0
-pack (bits b ∷ ps) [] = 0
-pack (bits b ∷ ps) (f ∷ fs) = f * 2 ^ width ps + pack ps fs
-pack (zeros b ∷ ps) fs = pack ps fs
+abbrev pub packParts : List Part → List ℕ → ℕ
+packParts [] fs = 0
+packParts (bits b ∷ ps) [] = 0
+packParts (bits b ∷ ps) (f ∷ fs) = f * 2 ^ width ps + packParts ps fs
+packParts (zeros b ∷ ps) fs = packParts ps fs
 
 -- every zero bit is zero
 abbrev pub clean : List Part → ℕ → Bool
@@ -48,12 +48,12 @@ Clean [] w = Unit {0}
 Clean (bits b ∷ ps) w = Clean ps w
 Clean (zeros b ∷ ps) w = (w / 2 ^ width ps % 2 ^ b ≡ 0) × Clean ps w
 
-abbrev pub Fit : List Part → List ℕ → Type 0
-Fit [] [] = Unit {0}
-Fit [] (f ∷ fs) = ⊥
-Fit (bits b ∷ ps) [] = ⊥
-Fit (bits b ∷ ps) (f ∷ fs) = (f < 2 ^ b) × Fit ps fs
-Fit (zeros b ∷ ps) fs = Fit ps fs
+abbrev pub FieldsFit : List Part → List ℕ → Type 0
+FieldsFit [] [] = Unit {0}
+FieldsFit [] (f ∷ fs) = ⊥
+FieldsFit (bits b ∷ ps) [] = ⊥
+FieldsFit (bits b ∷ ps) (f ∷ fs) = (f < 2 ^ b) × FieldsFit ps fs
+FieldsFit (zeros b ∷ ps) fs = FieldsFit ps fs
 
 -- what stands in the zero bits, added up: none is set exactly if that is 0
 abbrev pub zeroSum : List Part → ℕ → ℕ

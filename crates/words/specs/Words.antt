@@ -4,7 +4,7 @@ use mathlib.Core.Logic.{_⊎_, inl, inr}
 use Prim.Native.Nat.{ℕ, _+_, _*_}
 use lib.ListN.{getD}
 use lib.Dec.{eqb}
-use Rattle.loops.specs.Bit.{bitOf}
+use Rattle.loops.specs.Loops.{bitOf}
 use Rattle.words.specs.Parts.{Part, bits, zeros}
 use Rattle.words.specs.Kind.{Kind}
 use Rattle.words.specs.declared.boot_word.BootFields.{BootFields}

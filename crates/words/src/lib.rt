@@ -1,6 +1,6 @@
 ghost use mathlib.Core.Path.{_≡_};
 ghost use Prim.Native.Nat.{_≤_};
-ghost use Rattle.loops.specs.Bit.{bitOf};
+ghost use Rattle.loops.specs.Loops.{bitOf};
 
 // A packed word has fields and zero bits. Here, and nowhere above, it is known which bits they are.
 // One module a kind of word: its fields, a reader, a writer.

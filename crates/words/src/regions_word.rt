@@ -1,6 +1,6 @@
 ghost use mathlib.Core.Path.{_≡_};
 ghost use Prim.Native.Nat.{_+_, _*_, _≤_, _<_};
-ghost use Rattle.loops.specs.Bit.{bitOf};
+ghost use Rattle.loops.specs.Loops.{bitOf};
 ghost use Rattle.words.specs.Kind.{fieldsIn, reading, writing};
 ghost use Rattle.words.specs.Parts.{zeroSum};
 ghost use Rattle.words.specs.Words.{regions, halfWord};

@@ -11,7 +11,7 @@ use Rattle.words.specs.declared.regions_word.RegionsFields.{RegionsFields}
 use Rattle.words.specs.declared.slot_word.SlotFields.{SlotFields}
 use Rattle.shapes.specs.declared.Board.{Board}
 use Rattle.tables.specs.State.{none, some, Table}
-use Rattle.tables.specs.View.{view, nth, named, entryOf, entryIn}
+use Rattle.tables.specs.View.{view, nthRegion, named, entryOf, entryIn}
 use Rattle.tables.specs.Update.{upd}
 use Rattle.tables.specs.Encode.{slotWord}
 use Rattle.tables.specs.Seen.{Seen, SeenRegions}
@@ -30,7 +30,7 @@ pub region-low : (r : ℕ) → r ≤ 7 → ltb r 8 ≡ true
 region-low r h = lt-ltb r 8 (omega arith)
 
 -- ── the region x that was read ──
-module _ {l : List ℕ} {p : ℕ} {f : RegionsFields} {x : Region} (v : SeenRegions l p f) (r : ℕ) (h : r < 8) (is : x ≡ nth f r) where
+module _ {l : List ℕ} {p : ℕ} {f : RegionsFields} {x : Region} (v : SeenRegions l p f) (r : ℕ) (h : r < 8) (is : x ≡ nthRegion f r) where
   pub region-small : x .slot .0 < 32
   region-small = rw is (v .small r)
 

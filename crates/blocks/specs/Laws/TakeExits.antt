@@ -21,7 +21,7 @@ use Rattle.rules.specs.Ran.{Ran}
 use Rattle.rules.specs.Laws.Ran.{ran-refused, ran-done, pass, fail, there, missing}
 use Rattle.blocks.specs.Laws.Pick.{at-caller}
 use Rattle.writing.specs.CanWrite.{CanEntry}
-use Rattle.blocks.specs.Laws.SlotExits.{can-put}
+use Rattle.blocks.specs.Laws.FreeExits.{can-put}
 use Rattle.blocks.specs.Laws.RegionExits.{entry-none, entry-there}
 use Rattle.blocks.specs.TakeExits.{takenBack, CanTake}
 

@@ -17,7 +17,7 @@ use Rattle.sound.specs.Sound.{Present}
 use Rattle.sound.specs.Laws.Core.{sound-core}
 use Rattle.sound.specs.Laws.List.{sound-means}
 use Rattle.face.specs.Face.{handed}
-use Rattle.pairs.specs.Pair.{Readable, pairOf, entryIn, joined, halves, writes, openWord, reads}
+use Rattle.pairs.specs.Pair.{Readable, pairOf, entryOfPair, oneWord, halves, writes, openWord, reads}
 use Rattle.pairs.specs.Exactly.{registers}
 use Rattle.pairs.specs.Laws.Answers.{writes-done, writes-unread}
 use Rattle.pairs.specs.Laws.Exactly.{pairs}
@@ -118,7 +118,7 @@ module _ (rbar rlar word : ℕ) {r word′ : ℕ} (h : rbar < 2 ^ 32) (k : rlar 
         told = λ n. (z, (e, y, g, o, lent .word ∙ ap (entryAfter word) q ∙ x, v));
       }
   either (NotRead n) q =
-      let u : reads rbar rlar ≡ NotRead 22 = q ∙ ap NotRead (one-number (entryIn (joined rbar rlar)) n q) in
+      let u : reads rbar rlar ≡ NotRead 22 = q ∙ ap NotRead (one-number (entryOfPair (oneWord rbar rlar)) n q) in
       record {
         refused = (λ z. pairs .unwritten rbar rlar h k .0 u, λ z. lent .answer ∙ ap readAnswer u);
         stays = λ z. lent .word ∙ ap (entryAfter word) u;

@@ -1,3 +1,4 @@
+-- src/lib.rt, partition_sound: r ≡ localWhere board (view t) mark (p .0)
 use mathlib.Core.Path.{sym, _∙_}
 use borrow.Author.Tests.{not-true}
 use Rattle.decide.specs.Laws.Decide.{passed}

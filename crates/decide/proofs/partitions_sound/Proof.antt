@@ -1,3 +1,4 @@
+-- src/lib.rt, partitions_sound: r ≡ all 16 (localWhere board (view t) mark)
 use Prim.Native.Nat.{_-_}
 use mathlib.Core.Path.{sym, ap, _∙_}
 use mathlib.Core.Bool.{not}

@@ -1,3 +1,4 @@
+-- src/lib.rt, present_sound: r ≡ localAt board (view t) mark (p .0)
 use Rattle.decide.specs.Laws.Local.{no-entries, no-cover, local-last}
 use borrow.Author.Needs.{needs}
 use Rattle.decide.proofs.present_sound.Statement.{statement}

@@ -1,3 +1,4 @@
+-- src/lib.rt, shape_sound: r ≡ shapeAt t (p .0)
 use mathlib.Core.Path.{sym, _∙_}
 use borrow.Author.Tests.{not-true}
 use Rattle.sound.specs.Laws.Tests.{and-says}

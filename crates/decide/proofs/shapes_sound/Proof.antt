@@ -1,3 +1,4 @@
+-- src/lib.rt, shapes_sound: r ≡ all 16 (shapeAt t)
 use Prim.Native.Nat.{_-_}
 use mathlib.Core.Path.{sym, ap, _∙_}
 use mathlib.Core.Bool.{not}

@@ -6,7 +6,7 @@ use Prim.Native.Nat.{ℕ, _<_}
 use lib.Dec.{eqb}
 use lib.ListN.{length, getD}
 use borrow.Author.Tests.{eq-eqb, not-true, not-false}
-use Rattle.loops.specs.Every.{all}
+use Rattle.loops.specs.Loops.{all}
 use Rattle.loops.specs.Laws.Every.{all-at, all-of, bool-ext}
 use Rattle.shapes.specs.declared.Board.{Board}
 use Rattle.tables.specs.State.{some, Entry, K}
@@ -20,7 +20,7 @@ use Rattle.sound.specs.Laws.Sound.{s7-of, s8-of, s9-of}
 use Rattle.sound.specs.Laws.List.{sound-means}
 use Rattle.sound.specs.Laws.Core.{sound-core, backed-s8}
 use Rattle.sound.specs.Laws.Grants.{core-grants}
-use Rattle.sound.specs.Laws.Local.{Marked, LocalOpen, marked-apart, s9-local, local-s9}
+use Rattle.sound.specs.Laws.Local.{MarkedOnce, LocalOpen, marked-apart, s9-local, local-s9}
 use Rattle.sound.specs.Laws.MeansEntries.{else-true, present-means, child-means}
 use Rattle.sound.specs.Laws.MeansAreas.{s8-means}
 use Rattle.sound.specs.Laws.MeansRegions.{s9-means}
@@ -44,7 +44,7 @@ module _ (board : Board) {l m : List ℕ} (size : length l ≡ 641) (first : s1 
   slot-few : (p i : ℕ) (e : Entry) → k .slot p i ≡ some e → i < 32
   slot-few p i e u = slot-bounds l p i e u .1
 
-  marks : Marked k (λ x. not (eqb (getD m x 0) 0))
+  marks : MarkedOnce k (λ x. not (eqb (getD m x 0) 0))
   marks = all-marked (area-bounds l) marked
 
   -- ── they pass: the table is sound ──

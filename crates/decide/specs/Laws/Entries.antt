@@ -4,7 +4,7 @@ use mathlib.Core.Bool.{Bool, true, false, not, _&&_, _||_, and-false}
 use mathlib.Core.List.{List}
 use Prim.Native.Nat.{ℕ, _≤_, _<_}
 use borrow.Author.Tests.{eq-eqb, ne-eqb}
-use Rattle.loops.specs.Every.{all}
+use Rattle.loops.specs.Loops.{all}
 use Rattle.tables.specs.State.{Entry, K, Table}
 use Rattle.tables.specs.View.{view}
 use Rattle.tables.specs.Search.{present}

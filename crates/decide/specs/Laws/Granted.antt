@@ -7,7 +7,7 @@ use native.Mathlib.Decide.{ℕ-discrete}
 use native.Mathlib.Omega.{arith}
 use lib.Dec.{eqb}
 use borrow.Author.Tests.{ne-eqb, eqb-true}
-use Rattle.loops.specs.Every.{all}
+use Rattle.loops.specs.Loops.{all}
 use Rattle.loops.specs.Laws.Every.{all-at}
 use Rattle.tables.specs.State.{some, Entry, K}
 use Rattle.tables.specs.View.{view}

@@ -17,7 +17,7 @@ use Rattle.shapes.specs.Pieces.{piecesFor}
 use Rattle.tables.specs.State.{Opt, some, Entry}
 use Rattle.tables.specs.Update.{upd}
 use Rattle.tables.specs.Laws.Update.{upd-same, upd-other}
-use Rattle.tables.specs.View.{entryIn, nth, named, view}
+use Rattle.tables.specs.View.{entryIn, nthRegion, named, view}
 use Rattle.tables.specs.Regions.{withRegion}
 use Rattle.tables.specs.Seen.{Seen, SeenRegions}
 use Rattle.sound.specs.Limit.{entryPieces, regionPieces, loadedPieces}
@@ -44,12 +44,12 @@ module _ (b : Board) (slot : ℕ → Opt Entry) (x : Region) where
   region-counted q e = rw q e
 
 -- ── all that is loaded ──
-pub counted-small : {p : ℕ} {f : RegionsFields} {x : Region} → CanCount p f → (r : ℕ) → x ≡ nth f r → x .slot .0 < 32
+pub counted-small : {p : ℕ} {f : RegionsFields} {x : Region} → CanCount p f → (r : ℕ) → x ≡ nthRegion f r → x .slot .0 < 32
 counted-small h r is = rw is (h .slots r)
 
 -- ── region r with another value ──
-nth-with : (f : RegionsFields) (r : ℕ) (x : Region) (q : ℕ) → q < 8 → nth (withRegion f r x) q ≡ cond (eqb r q) x (nth f q)
-unfolding nth
+nth-with : (f : RegionsFields) (r : ℕ) (x : Region) (q : ℕ) → q < 8 → nthRegion (withRegion f r x) q ≡ cond (eqb r q) x (nthRegion f q)
+unfolding nthRegion
 nth-with f r x zero h = refl
 nth-with f r x (suc zero) h = refl
 nth-with f r x (suc (suc zero)) h = refl
@@ -64,11 +64,11 @@ abbrev pub loadedWith : ℕ → Region
 loadedWith s = record { loaded = true; slot = record { 0 = s } }
 
 module _ {l : List ℕ} {p : ℕ} {f : RegionsFields} (v : SeenRegions l p f) (r s : ℕ) where
-  region-after : (q : ℕ) → q < 8 → named (nth (withRegion f r (loadedWith s)) q) ≡ upd (view l .region) p r (some s) p q
+  region-after : (q : ℕ) → q < 8 → named (nthRegion (withRegion f r (loadedWith s)) q) ≡ upd (view l .region) p r (some s) p q
   unfolding named
   region-after q h = ap named (nth-with f r (loadedWith s) q h) ∙ go (ℕ-discrete q r)
     where
-      go : Dec (q ≡ r) → named (cond (eqb r q) (loadedWith s) (nth f q)) ≡ upd (view l .region) p r (some s) p q
+      go : Dec (q ≡ r) → named (cond (eqb r q) (loadedWith s) (nthRegion f q)) ≡ upd (view l .region) p r (some s) p q
       go (yes z) = rw (eq-eqb r q (sym z)) (sym (upd-same (view l .region) p r (some s) p q (refl, z)))
       go (no z) = rw (ne-eqb r q (λ y. z (sym y))) (sym (upd-other (view l .region) p r (some s) p q (λ w. z (w .1)) ∙ v .region q h))
 
@@ -78,14 +78,14 @@ module _ {l : List ℕ} {p : ℕ} {f : RegionsFields} (v : SeenRegions l p f) (r
   pieces-after b = sum-ext 8 _ _ (λ q h. ap (regionPieces b (view l .k .slot p)) (region-after q h))
 
   pub can-count-after : p < 16 → s < 32 → CanCount p (withRegion f r (loadedWith s))
-  unfolding nth
+  unfolding nthRegion
   can-count-after h w = record { inP = h; slots = small }
     where
       pick : (y : Bool) (x : Region) → x .slot .0 < 32 → cond y (loadedWith s) x .slot .0 < 32
       pick true x u = w
       pick false x u = u
 
-      small : (q : ℕ) → nth (withRegion f r (loadedWith s)) q .slot .0 < 32
+      small : (q : ℕ) → nthRegion (withRegion f r (loadedWith s)) q .slot .0 < 32
       small zero = pick (eqb r 0) (f .region0) (v .small 0)
       small (suc zero) = pick (eqb r 1) (f .region1) (v .small 1)
       small (suc (suc zero)) = pick (eqb r 2) (f .region2) (v .small 2)

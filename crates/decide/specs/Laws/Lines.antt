@@ -7,7 +7,7 @@ use native.Mathlib.Decide.{ℕ-discrete, decLt}
 use native.Mathlib.Omega.{arith}
 use lib.Dec.{eqb}
 use borrow.Author.Tests.{eq-eqb, ne-eqb}
-use Rattle.loops.specs.Every.{all}
+use Rattle.loops.specs.Loops.{all}
 use Rattle.words.specs.declared.slot_word.SlotFields.{SlotFields}
 use Rattle.tables.specs.State.{Entry, allRights}
 use Rattle.tables.specs.View.{view}
@@ -20,7 +20,7 @@ use Rattle.decide.specs.Local.{grantsOpen}
 use Rattle.decide.specs.Laws.Local.{root-open}
 use Rattle.decide.specs.Laws.Decide.{never, failed, passed}
 use Rattle.decide.specs.Order.{placed}
-use Rattle.decide.specs.Tiles.{Tiling, Fits, Tiled, stuck, rowOf, unranked, plainRow, InOrder}
+use Rattle.decide.specs.Tiles.{Tiling, GoesOn, Tiled, stuck, rowOf, unranked, plainRow, InOrder}
 use Rattle.decide.specs.Laws.Tiles.{TwoRows, Lies, Exact, tile-on, exact-start, exact-short, exact-on, exact-stuck, row-seen, row-line, row-ends, whole, root-lies, lies-root}
 
 -- ── rights apart ──
@@ -42,7 +42,7 @@ module _ {E : ℕ → Entry} {n : ℕ} {F : ℕ → Entry} {m p : ℕ} where
 
 -- ── the walk along one range, as the code reads the entries ──
 module _ {l o : List ℕ} {p n i k lo hi at : ℕ} (h : InOrder l o p n) (inv : Tiling (plainRow l o p) i k lo hi at allRights) where
-  no-place : at < hi → (Fits (plainRow l o p) n i k hi at allRights → ⊥) → Tiled (plainRow l o p) n i lo hi allRights 33
+  no-place : at < hi → (GoesOn (plainRow l o p) n i k hi at allRights → ⊥) → Tiled (plainRow l o p) n i lo hi allRights 33
   no-place c no-fit = stuck k at (omega (arith, h .rows .ordered .few)) refl c inv no-fit
 
   pub line-none : at < hi → n ≤ k → Tiled (plainRow l o p) n i lo hi allRights 33
@@ -59,7 +59,7 @@ module _ {l o : List ℕ} {p n i k lo hi at : ℕ} (h : InOrder l o p n) (inv : 
     unfolding within
     line-next start to =
         let e = row-seen h b v in
-        let fits : Fits (plainRow l o p) n i k hi at allRights = record { there = b; start = e .start ∙ start; to = omega (arith, e .stop); rights = refl; equal = refl } in
+        let fits : GoesOn (plainRow l o p) n i k hi at allRights = record { there = b; start = e .start ∙ start; to = omega (arith, e .stop); rights = refl; equal = refl } in
         rw (← e .stop) (tile-on inv (row-line h k b) fits)
 
 -- ── the root's entries, and base to end as one that it was given ──

@@ -29,11 +29,11 @@ use Rattle.sound.specs.Sound.{Rooted, Equals}
 use Rattle.sound.specs.Clauses.{has, rooted}
 use Rattle.sound.specs.Laws.Tests.{and-says, and-true}
 use Rattle.sound.specs.Laws.MeansAreas.{rooted-means}
-use Rattle.sound.specs.Laws.Local.{EqualAt, Marked}
+use Rattle.sound.specs.Laws.Local.{EqualAt, MarkedOnce}
 use Rattle.shape.specs.AtOnce.{Shaped}
 use Rattle.shape.specs.Laws.AtOnce.{shaped-s2, shaped-record}
 use Rattle.decide.specs.Laws.Decide.{absent-zero, solid}
-use Rattle.decide.specs.Backing.{between, backs}
+use Rattle.decide.specs.Backing.{areaBetween, backs}
 use Rattle.decide.specs.Marking.{There, MarkedTo, equalSlot, Marks, nobody, marked, before, CanMark, EachS8, MarkSays}
 
 -- what passes backs
@@ -194,7 +194,7 @@ module _ {k : K} where
         omega (arith, g .below)
 
   -- ── all have marked ──
-  pub all-marked : {m : List ℕ} → ((p j : ℕ) (a : Area) → k .area p j ≡ some a → (p < 16) × (j < 5)) → MarkedTo k 80 m → Marked k (λ x. not (eqb (getD m x 0) 0))
+  pub all-marked : {m : List ℕ} → ((p j : ℕ) (a : Area) → k .area p j ≡ some a → (p < 16) × (j < 5)) → MarkedTo k 80 m → MarkedOnce k (λ x. not (eqb (getD m x 0) 0))
   all-marked {m} range inv = record {
     at = λ p j. inv .at (5 * p + j);
     equal = λ p j a u n. inv .equal p j a (there p j a u n);
@@ -297,10 +297,10 @@ module _ (l : List ℕ) (shaped : Shaped l) where
     unfolding headerArea
     header-absent q = says-absent p 0 (omega arith) inv (v .area ∙ rw q refl)
 
-    pub header-marks : {r : ℕ} {m′ : List ℕ} → rooted p 0 ≡ false → f .present ≡ true → Marks k (f .parent .0) (between (f .start .0) (f .end .0)) m r m′ → MarkSays k (5 * p + 1) (eqb r 1) m′
+    pub header-marks : {r : ℕ} {m′ : List ℕ} → rooted p 0 ≡ false → f .present ≡ true → Marks k (f .parent .0) (areaBetween (f .start .0) (f .end .0)) m r m′ → MarkSays k (5 * p + 1) (eqb r 1) m′
     unfolding headerArea
     header-marks q here t =
-        let u : k .area p 0 ≡ some (between (f .start .0) (f .end .0)) = v .area ∙ rw here refl in
+        let u : k .area p 0 ≡ some (areaBetween (f .start .0) (f .end .0)) = v .area ∙ rw here refl in
         let n : Rooted p 0 → ⊥ = λ z. false≢true (sym q ∙ rooted-means p 0 .1 z) in
         says-marks p 0 (omega arith) inv inP u n (v .parent-small) (inl (sym (v .parent))) t (λ s8. rw (v .parent) at (s8 p inP .header (λ z. n (z, omega arith)) _ u))
 
@@ -313,8 +313,8 @@ module _ (l : List ℕ) (shaped : Shaped l) where
     unfolding structureArea
     structure-absent q = says-absent p j few inv (is ∙ rw q refl)
 
-    module _ {own : ℕ} {m₁ : List ℕ} (q : rooted p j ≡ false) (here : f .present ≡ true) (t : Marks k p (between (f .start .0) (f .end .0)) m own m₁) where
-      area : k .area p j ≡ some (between (f .start .0) (f .end .0))
+    module _ {own : ℕ} {m₁ : List ℕ} (q : rooted p j ≡ false) (here : f .present ≡ true) (t : Marks k p (areaBetween (f .start .0) (f .end .0)) m own m₁) where
+      area : k .area p j ≡ some (areaBetween (f .start .0) (f .end .0))
       unfolding structureArea
       area = is ∙ rw here refl
 
@@ -325,18 +325,18 @@ module _ (l : List ℕ) (shaped : Shaped l) where
       structure-own found = says-found p j few inv inP area other inP (inr (refl, from)) t found
 
       -- it is not its own: nothing was marked
-      pub kept : own ≡ 0 → (m₁ ≡ m) × (Equals k p (between (f .start .0) (f .end .0)) → ⊥)
+      pub kept : own ≡ 0 → (m₁ ≡ m) × (Equals k p (areaBetween (f .start .0) (f .end .0)) → ⊥)
       kept z = go t
         where
-          go : Marks k p (between (f .start .0) (f .end .0)) m own m₁ → (m₁ ≡ m) × (Equals k p (between (f .start .0) (f .end .0)) → ⊥)
+          go : Marks k p (areaBetween (f .start .0) (f .end .0)) m own m₁ → (m₁ ≡ m) × (Equals k p (areaBetween (f .start .0) (f .end .0)) → ⊥)
           go (nobody _ e no-entry) = (e, no-entry)
           go (marked i c w y free e) = absurd (omega arith)
           go (before i c w y taken e) = absurd (omega arith)
 
-      pub structure-parent : {g : HeaderFields} {r : ℕ} {m₂ : List ℕ} → own ≡ 0 → SeenHeader l p g → Marks k (g .parent .0) (between (f .start .0) (f .end .0)) m₁ r m₂ → MarkSays k (5 * p + (j + 1)) (eqb r 1) m₂
+      pub structure-parent : {g : HeaderFields} {r : ℕ} {m₂ : List ℕ} → own ≡ 0 → SeenHeader l p g → Marks k (g .parent .0) (areaBetween (f .start .0) (f .end .0)) m₁ r m₂ → MarkSays k (5 * p + (j + 1)) (eqb r 1) m₂
       structure-parent {g} {r} {m₂} z w s =
           let (e, no-entry) = kept z in
-          let x : Marks k (g .parent .0) (between (f .start .0) (f .end .0)) m r m₂ = rw (← e) s in
+          let x : Marks k (g .parent .0) (areaBetween (f .start .0) (f .end .0)) m r m₂ = rw (← e) s in
           let y : 1 + (j - 1) ≡ j = omega arith in
           says-marks p j few inv inP area other (w .parent-small) (inl (sym (w .parent))) x (λ s8.
           ⊎-elim (λ o. absurd (no-entry o)) (λ o. rw (w .parent) at o) (s8 p inP .structure (j - 1) _ (rw y area) (λ b. other (rw (← y) b))))

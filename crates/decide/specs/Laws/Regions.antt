@@ -10,18 +10,15 @@ use lib.Bits.{bitOr, or-shr, or-mod}
 use lib.Dec.{leb, eqb}
 use lib.Pow.{pow-add, pow-lt, pow-pos, high, shl-exact, shl-shr}
 use borrow.Author.Tests.{not-true, eq-eqb, ne-eqb, leb-true, le-leb}
-use Rattle.loops.specs.Bit.{bitOf}
+use Rattle.loops.specs.Loops.{bitOf, sum, carried, all}
 use Rattle.loops.specs.Laws.Bit.{flag-bit, bit-flag}
-use Rattle.loops.specs.Count.{sum}
-use Rattle.loops.specs.Carry.{done}
 use Rattle.loops.specs.Laws.Count.{Summing, sum-start, sum-on, sum-end, sum-ext}
-use Rattle.loops.specs.Every.{all}
 use Rattle.loops.specs.Laws.Every.{all-at, all-of, fail-at, all-ext, all-true, all-zero, all-more}
 use Rattle.words.specs.declared.regions_word.Region.{Region}
 use Rattle.words.specs.declared.regions_word.RegionsFields.{RegionsFields}
 use Rattle.shapes.specs.declared.Board.{Board}
 use Rattle.tables.specs.State.{Table}
-use Rattle.tables.specs.View.{nth, named, view}
+use Rattle.tables.specs.View.{nthRegion, named, view}
 use Rattle.tables.specs.Seen.{SeenRegions}
 use Rattle.sound.specs.Clauses.{when, s10Names, s10Once, s10}
 use Rattle.sound.specs.Limit.{entryPieces, regionPieces, loadedPieces}
@@ -29,7 +26,7 @@ use Rattle.sound.specs.Laws.Limit.{none-loaded}
 use Rattle.sound.specs.Laws.Tests.{and-true, not-of, all-and}
 use Rattle.decide.specs.Laws.Decide.{never}
 use Rattle.decide.specs.Laws.Limit.{region-empty, region-counted}
-use Rattle.decide.specs.Opening.{isOpen, marked, noted, weight, someLoaded}
+use Rattle.decide.specs.Opening.{isOpen, marked, slotNoted, weight, someLoaded}
 
 -- ── a mask of slots, bit by bit ──
 flagged : (m i : ℕ) → m / 2 ^ i % 2 ≡ bitOf (marked m i)
@@ -86,25 +83,25 @@ unfoldable pub other : ℕ → Region → Bool
 other i x = when (λ j. not (eqb i j)) (named x)
 
 unfoldable pub others : RegionsFields → ℕ → ℕ → Bool
-others f r i = all r (λ q. other i (nth f q))
+others f r i = all r (λ q. other i (nthRegion f q))
 
--- the exits of noted
+-- the exits of `noted` of the code
 module _ (m : ℕ) (x : Region) where
-  pub noted-none : x .loaded ≡ false → m ≡ noted m x
-  unfolding noted
+  pub noted-none : x .loaded ≡ false → m ≡ slotNoted m x
+  unfolding slotNoted
   noted-none q = rw q refl
 
-  pub noted-loaded : x .loaded ≡ true → x .slot .0 < 32 → bitOr m (1 * 2 ^ x .slot .0 % 2 ^ 32) ≡ noted m x
-  unfolding noted
+  pub noted-loaded : x .loaded ≡ true → x .slot .0 < 32 → bitOr m (1 * 2 ^ x .slot .0 % 2 ^ 32) ≡ slotNoted m x
+  unfolding slotNoted
   noted-loaded q h =
       let e : 1 * 2 ^ x .slot .0 ≡ 2 ^ x .slot .0 = omega arith in
       rw q (ap (bitOr m) (shl-exact 1 (x .slot .0) 32 (omega arith) (omega arith) ∙ e))
 
-marked-noted : (m : ℕ) (x : Region) (i : ℕ) → marked (noted m x) i ≡ marked m i || not (other i x)
-unfolding noted other when named
+marked-noted : (m : ℕ) (x : Region) (i : ℕ) → marked (slotNoted m x) i ≡ marked m i || not (other i x)
+unfolding slotNoted other when named
 marked-noted m x i = go (x .loaded) refl
   where
-    go : (y : Bool) → x .loaded ≡ y → marked (noted m x) i ≡ marked m i || not (other i x)
+    go : (y : Bool) → x .loaded ≡ y → marked (slotNoted m x) i ≡ marked m i || not (other i x)
     go true q = rw q (marked-or m (2 ^ x .slot .0) i ∙ ap (λ (y : Bool). marked m i || y) (marked-one (x .slot .0) i ∙ sym (Bool·not-not _)))
     go false q = rw q (sym (or-false (marked m i)))
 
@@ -113,7 +110,7 @@ unfoldable pub regionRight : Table → ℕ → ℕ → Bool
 regionRight t p r = s10Names t p r && all r (s10Once t p r)
 
 -- region r, which the code read as x
-module _ {l : List ℕ} {p r : ℕ} {f : RegionsFields} {x : Region} (v : SeenRegions l p f) (h : r < 8) (e : x ≡ nth f r) where
+module _ {l : List ℕ} {p r : ℕ} {f : RegionsFields} {x : Region} (v : SeenRegions l p f) (h : r < 8) (e : x ≡ nthRegion f r) where
   read : view l .region p r ≡ named x
   read = v .region r h ∙ ap named (sym e)
 
@@ -155,7 +152,7 @@ module _ (b : Board) (t : Table) (p m : ℕ) (x : Region) where
       weight-pieces a e = rw (q, o, a) e
 
 -- .. with the slots of those before it in the mask
-module _ (b : Board) {l : List ℕ} {p r : ℕ} {f : RegionsFields} {x : Region} (v : SeenRegions l p f) (h : r < 8) (e : x ≡ nth f r) (m : ℕ) (marks : (i : ℕ) → marked m i ≡ not (others f r i)) where
+module _ (b : Board) {l : List ℕ} {p r : ℕ} {f : RegionsFields} {x : Region} (v : SeenRegions l p f) (h : r < 8) (e : x ≡ nthRegion f r) (m : ℕ) (marks : (i : ℕ) → marked m i ≡ not (others f r i)) where
   weighs : weight b (view l) p m x ≡ weightAt b (view l) p r
   unfolding weight weightAt
   weighs = go (x .loaded) refl
@@ -174,7 +171,7 @@ module _ (b : Board) {l : List ℕ} {p r : ℕ} {f : RegionsFields} {x : Region}
 
 -- ── all of them ──
 sum-has : (n k : ℕ) (f : ℕ → ℕ) → k < n → f k ≤ sum n f
-unfolding sum done
+unfolding sum carried
 sum-has zero k f h = absurd (omega arith)
 sum-has (suc n) k f h = go (ℕ-discrete k n) (sum-has n k f)
   where
@@ -207,13 +204,13 @@ pub record Weighing (b : Board) (t : Table) (p : ℕ) (f : RegionsFields) (m n r
 
 pub weigh-start : {b : Board} {t : Table} {p : ℕ} {f : RegionsFields} → Weighing b t p f 0 0 0
 unfolding others
-weigh-start {f = f} = record { sums = sum-start; marks = λ i. marked-none i ∙ sym (ap not (all-zero (λ q. other i (nth f q)))) }
+weigh-start {f = f} = record { sums = sum-start; marks = λ i. marked-none i ∙ sym (ap not (all-zero (λ q. other i (nthRegion f q)))) }
 
-pub weigh-on : {b : Board} {l : List ℕ} {p : ℕ} {f : RegionsFields} {m n r : ℕ} {x : Region} {y m′ : ℕ} → Weighing b (view l) p f m n r → SeenRegions l p f → r < 8 → x ≡ nth f r → y ≡ weight b (view l) p m x → y ≤ 52 → m′ ≡ noted m x → Weighing b (view l) p f m′ (n + y) (r + 1)
+pub weigh-on : {b : Board} {l : List ℕ} {p : ℕ} {f : RegionsFields} {m n r : ℕ} {x : Region} {y m′ : ℕ} → Weighing b (view l) p f m n r → SeenRegions l p f → r < 8 → x ≡ nthRegion f r → y ≡ weight b (view l) p m x → y ≤ 52 → m′ ≡ slotNoted m x → Weighing b (view l) p f m′ (n + y) (r + 1)
 unfolding others
 weigh-on {b} {f = f} {m} {r = r} {x} inv v h e w few z = record {
   sums = sum-on (inv .sums) h (w ∙ weighs b v h e m (inv .marks)) few;
-  marks = λ i. ap (λ (k : ℕ). marked k i) z ∙ marked-noted m x i ∙ ap₂ _||_ (inv .marks i) (ap (λ (y : Region). not (other i y)) e) ∙ either (others f r i) (other i (nth f r)) ∙ sym (ap not (all-more r (λ q. other i (nth f q))));
+  marks = λ i. ap (λ (k : ℕ). marked k i) z ∙ marked-noted m x i ∙ ap₂ _||_ (inv .marks i) (ap (λ (y : Region). not (other i y)) e) ∙ either (others f r i) (other i (nthRegion f r)) ∙ sym (ap not (all-more r (λ q. other i (nthRegion f q))));
 }
   where
     either : (a c : Bool) → not a || not c ≡ not (a && c)
@@ -224,8 +221,8 @@ pub weigh-end : {b : Board} {t : Table} {p : ℕ} {f : RegionsFields} {m n r : �
 weigh-end {b} {t} {p} inv h = ap (λ (k : ℕ). leb k 8) (sum-end (inv .sums) h) ∙ s10-weighed b t p
 
 -- ── no region is loaded ──
-loaded-at : (f : RegionsFields) (r : ℕ) → nth f r .loaded ≡ true → someLoaded f ≡ true
-unfolding nth
+loaded-at : (f : RegionsFields) (r : ℕ) → nthRegion f r .loaded ≡ true → someLoaded f ≡ true
+unfolding nthRegion
 loaded-at f zero q = rw q refl
 loaded-at f (suc zero) q = rw (q, or-true) refl
 loaded-at f (suc (suc zero)) q = rw (q, or-true) refl
@@ -243,5 +240,5 @@ s10-none board {l} {p} {f} v q =
     (all-of 8 _ (λ r h. sym (region-none v h refl (unloaded r))))
     (le-leb _ 8 (none-loaded board (view l .k .slot) (view l .region) p (λ r h. v .region r h ∙ rw (unloaded r) refl))))
   where
-    unloaded : (r : ℕ) → nth f r .loaded ≡ false
-    unloaded r = not-true _ (not-of (nth f r .loaded) (λ x. false≢true (sym q ∙ loaded-at f r x)))
+    unloaded : (r : ℕ) → nthRegion f r .loaded ≡ false
+    unloaded r = not-true _ (not-of (nthRegion f r .loaded) (λ x. false≢true (sym q ∙ loaded-at f r x)))

@@ -9,7 +9,7 @@ use native.Mathlib.Omega.{arith}
 use lib.ListN.{getD}
 use lib.Dec.{eqb}
 use borrow.Author.Tests.{eq-eqb, ne-eqb}
-use Rattle.loops.specs.Every.{all}
+use Rattle.loops.specs.Loops.{all}
 use Rattle.loops.specs.Laws.Every.{bool-ext}
 use Rattle.words.specs.declared.Rights.{Rights}
 use Rattle.words.specs.declared.slot_word.SlotFields.{SlotFields}
@@ -35,7 +35,7 @@ use Rattle.shape.specs.Laws.AtOnce.{shaped-s2, shaped-record}
 use Rattle.decide.specs.Laws.Decide.{never, solid}
 use Rattle.decide.specs.Order.{linesOf, placed, Orders}
 use Rattle.decide.specs.Laws.Order.{held-of, lines-of}
-use Rattle.decide.specs.Tiles.{Piece, Tiling, Fits, follows, Tiled, fitted, stuck, AllSet, TiledAs, alike, unlike, entryOr, rowOf, bitOf, plainRow, InOrder, ChildOf}
+use Rattle.decide.specs.Tiles.{TilePiece, Tiling, GoesOn, follows, Tiled, fitted, stuck, AllSet, TiledAs, alike, unlike, entryOr, rowOf, openedBit, plainRow, InOrder, ChildOf}
 
 -- ── two rows: n entries E, and m entries F, some of them given to p ──
 -- each of E has a line; in both, each ends by the start of those after it
@@ -71,7 +71,7 @@ module _ {E : ℕ → Entry} {n i lo hi : ℕ} {r : Rights} (line : (a : ℕ) �
       omega (arith, v .to, ends a x b (omega arith))
 
   -- where they tile the range, the walk is not stuck
-  no-stop : {x k at at′ : ℕ} → x ≤ n → hi ≤ at → Tiling E i x lo hi at r → at′ < hi → Tiling E i k lo hi at′ r → Fits E n i k hi at′ r
+  no-stop : {x k at at′ : ℕ} → x ≤ n → hi ≤ at → Tiling E i x lo hi at r → at′ < hi → Tiling E i k lo hi at′ r → GoesOn E n i k hi at′ r
   no-stop {x} {k} {at} {at′} few far t c u =
       let (a, from, b, v) = t .cover at′ (u .on) (omega arith) in
       go a b v (reached a from v (decLt a k))
@@ -88,7 +88,7 @@ module _ {E : ℕ → Entry} {n i lo hi : ℕ} {r : Rights} (line : (a : ℕ) �
       at-least b from (yes h) = let (a, _, d, v) = u .cover (E k .start) from h in absurd (omega (arith, v .to, ends a k d b))
       at-least b from (no h) = omega arith
 
-      go : (a : ℕ) → a < x → In at′ (E a) → k ≤ a → Fits E n i k hi at′ r
+      go : (a : ℕ) → a < x → In at′ (E a) → k ≤ a → GoesOn E n i k hi at′ r
       go a b v h =
           let e = t .piece k (u .up) (omega arith) in
           let low = starts a h (omega arith) v (ℕ-discrete k a) in
@@ -116,11 +116,11 @@ module _ {E : ℕ → Entry} {n i lo hi : ℕ} {r : Rights} (line : (a : ℕ) �
 
 -- ── what the rights of the next entry are compared with ──
 -- s: the range's before the first, those of the first after it
-pub record Compared (E : ℕ → Entry) (i k : ℕ) (r s : Rights) : Type 0 where
+pub record ComparedWith (E : ℕ → Entry) (i k : ℕ) (r s : Rights) : Type 0 where
   pub before : k ≡ i → s ≡ r
   pub after : i < k → s ≡ E i .rights
 
-pub compare-start : {E : ℕ → Entry} {i : ℕ} {r : Rights} → Compared E i i r r
+pub compare-start : {E : ℕ → Entry} {i : ℕ} {r : Rights} → ComparedWith E i i r r
 compare-start = record { before = λ _. refl; after = λ h. absurd (omega arith) }
 
 -- after an entry the next is not the first: the flag that the walk carries
@@ -159,7 +159,7 @@ module _ {E : ℕ → Entry} {i lo hi : ℕ} {r : Rights} where
     equal = λ a b c. absurd (omega arith);
   }
 
-  pub tile-on : {n k at : ℕ} → Tiling E i k lo hi at r → E k .start < E k .stop → Fits E n i k hi at r → Tiling E i (k + 1) lo hi (E k .stop) r
+  pub tile-on : {n k at : ℕ} → Tiling E i k lo hi at r → E k .start < E k .stop → GoesOn E n i k hi at r → Tiling E i (k + 1) lo hi (E k .stop) r
   tile-on {n} {k} {at} inv line f = record {
     up = omega (arith, inv .up);
     on = omega (arith, inv .on, f .start);
@@ -172,7 +172,7 @@ module _ {E : ℕ → Entry} {i lo hi : ℕ} {r : Rights} where
       equal a b c (yes z) = rw z (f .equal)
       equal a b c (no z) = inv .equal a b (omega arith)
 
-      piece : (a : ℕ) → i ≤ a → a < k + 1 → Dec (a ≡ k) → Piece (E a) lo hi (E k .stop) r
+      piece : (a : ℕ) → i ≤ a → a < k + 1 → Dec (a ≡ k) → TilePiece (E a) lo hi (E k .stop) r
       piece a b c (yes z) = rw z (record { from = omega (arith, inv .on, f .start); to = f .to; before = omega arith; rights = f .rights })
       piece a b c (no z) = let e = inv .piece a b (omega arith) in record { from = e .from; to = e .to; before = omega (arith, e .before, f .start); rights = e .rights }
 
@@ -394,7 +394,7 @@ pub record Walked (l o : List ℕ) (p q n m i j : ℕ) : Type 0 where
   pub few : i ≤ n
   pub far : j ≤ m
   pub exact : Exact (rowOf l o p) i (rowOf l o q) j p
-  pub bits : Bits (rowOf l o p) (bitOf l o p) i (rowOf l o q) (bitOf l o q) j p
+  pub bits : Bits (rowOf l o p) (openedBit l o p) i (rowOf l o q) (openedBit l o q) j p
 
 module _ {l o : List ℕ} {p n : ℕ} (h : InOrder l o p n) where
   -- what stands at place a
@@ -444,14 +444,14 @@ module _ {l o : List ℕ} {p n : ℕ} (h : InOrder l o p n) where
 
 -- ── the walk along one range, as the code reads the entries ──
 pub tile-one : {l o : List ℕ} {p n i lo hi : ℕ} {r : Rights} {b : Bool} {x y : ℕ} → InOrder l o p n
-    → TiledAs (rowOf l o p) (bitOf l o p) n i lo hi r b x → TiledAs (rowOf l o p) (bitOf l o p) n i lo hi r b y → x ≡ y
+    → TiledAs (rowOf l o p) (openedBit l o p) n i lo hi r b x → TiledAs (rowOf l o p) (openedBit l o p) n i lo hi r b y → x ≡ y
 tile-one h = as-one (row-line h) (row-ends h)
 
 pub line-one : {l o : List ℕ} {p n i lo hi : ℕ} {r : Rights} {x y : ℕ} → InOrder l o p n → Tiled (plainRow l o p) n i lo hi r x → Tiled (plainRow l o p) n i lo hi r y → x ≡ y
 line-one h = row-one (row-line h) (row-ends h)
 
 module _ {l o : List ℕ} {p n i k lo hi at : ℕ} {r : Rights} (h : InOrder l o p n) (inv : Tiling (rowOf l o p) i k lo hi at r) where
-  no-place : at < hi → (Fits (rowOf l o p) n i k hi at r → ⊥) → Tiled (rowOf l o p) n i lo hi r 33
+  no-place : at < hi → (GoesOn (rowOf l o p) n i k hi at r → ⊥) → Tiled (rowOf l o p) n i lo hi r 33
   no-place c no-fit = stuck k at (omega (arith, h .rows .ordered .few)) refl c inv no-fit
 
   pub tile-none : at < hi → n ≤ k → Tiled (rowOf l o p) n i lo hi r 33
@@ -464,16 +464,16 @@ module _ {l o : List ℕ} {p n i k lo hi at : ℕ} {r : Rights} (h : InOrder l o
     pub tile-over : hi < f .end .0 → Tiled (rowOf l o p) n i lo hi r 33
     tile-over d = no-place c (λ u. omega (arith, u .to, row-seen h b v .stop))
 
-    module _ {s : Rights} (w : Compared (rowOf l o p) i k r s) where
+    module _ {s : Rights} (w : ComparedWith (rowOf l o p) i k r s) where
       pub tile-unlike : follows (eqb k i) (f .rights) s ≡ false → Tiled (rowOf l o p) n i lo hi r 33
       tile-unlike q = no-place c (λ u. false≢true (sym q ∙ go u (ℕ-discrete k i)))
         where
-          go : Fits (rowOf l o p) n i k hi at r → Dec (k ≡ i) → follows (eqb k i) (f .rights) s ≡ true
+          go : GoesOn (rowOf l o p) n i k hi at r → Dec (k ≡ i) → follows (eqb k i) (f .rights) s ≡ true
           go u (yes z) = first-follows k i (f .rights) s (rw (← row-seen h b v .rights, w .before z) (u .rights)) z
           go u (no z) = later-follows k i (f .rights) s (sym (row-seen h b v .rights) ∙ u .equal ∙ sym (w .after (omega (arith, inv .up)))) z
 
       module _ (start : f .start .0 ≡ at) (to : f .end .0 ≤ hi) (q : follows (eqb k i) (f .rights) s ≡ true) where
-        fits : Fits (rowOf l o p) n i k hi at r
+        fits : GoesOn (rowOf l o p) n i k hi at r
         fits =
             let e = row-seen h b v in
             let (x, y) = go (ℕ-discrete k i) in
@@ -489,7 +489,7 @@ module _ {l o : List ℕ} {p n i k lo hi at : ℕ} {r : Rights} (h : InOrder l o
         pub tile-next : Tiling (rowOf l o p) i (k + 1) lo hi (f .end .0) r
         tile-next = rw (← row-seen h b v .stop) (tile-on inv (row-line h k b) fits)
 
-        pub compare-next : Compared (rowOf l o p) i (k + 1) r (f .rights)
+        pub compare-next : ComparedWith (rowOf l o p) i (k + 1) r (f .rights)
         compare-next = record { before = λ z. absurd (omega (arith, inv .up)); after = λ _. sym (row-seen h b v .rights) ∙ fits .equal }
 
 -- ── a child's entries and its parent's ──
@@ -568,11 +568,11 @@ module _ {l o : List ℕ} {p q n m : ℕ} (h : ChildOf l o p q n m) where
       }))
 
   -- the open bits of the grants, as a test
-  bits-child : grantsOpen (view l) p ≡ true → Bits (rowOf l o p) (bitOf l o p) n (rowOf l o q) (bitOf l o q) m p
+  bits-child : grantsOpen (view l) p ≡ true → Bits (rowOf l o p) (openedBit l o p) n (rowOf l o q) (openedBit l o q) m p
   bits-child w = record {
     says = λ b c g.
         let (to, back) = grants-open-means l p (h .other) .0 w _ _ (of-q _ _ (row-at (h .above) b c)) g in
-        let is : view l .opened (view l .k .parent p) (placed o q b) ≡ bitOf l o q b = ap (λ (q′ : ℕ). view l .opened q′ (placed o q b)) (h .up) in (
+        let is : view l .opened (view l .k .parent p) (placed o q b) ≡ openedBit l o q b = ap (λ (q′ : ℕ). view l .opened q′ (placed o q b)) (h .up) in (
           λ z a d u. to (is ∙ z) _ _ (row-at (h .own) a d) u,
           λ f. sym is ∙ back (λ i e v u.
               let (a, d, z) = row-every-at (h .own) i e v in
@@ -580,11 +580,11 @@ module _ {l o : List ℕ} {p q n m : ℕ} (h : ChildOf l o p q n m) where
         );
   }
 
-  child-bits : Bits (rowOf l o p) (bitOf l o p) n (rowOf l o q) (bitOf l o q) m p → grantsOpen (view l) p ≡ true
+  child-bits : Bits (rowOf l o p) (openedBit l o p) n (rowOf l o q) (openedBit l o q) m p → grantsOpen (view l) p ≡ true
   child-bits bits = grants-open-means l p (h .other) .1 (λ j f u g.
       let (b, c, z) = row-every-at (h .above) j f (to-q j f u) in
       let (to, back) = bits .says b c (subst (λ (f : Entry). f .given ≡ p) (sym (z .0)) g) in
-      let is : view l .opened (view l .k .parent p) j ≡ bitOf l o q b = ap (λ (q′ : ℕ). view l .opened q′ j) (h .up) ∙ ap (view l .opened q) (sym (z .1)) in (
+      let is : view l .opened (view l .k .parent p) j ≡ openedBit l o q b = ap (λ (q′ : ℕ). view l .opened q′ j) (h .up) ∙ ap (view l .opened q) (sym (z .1)) in (
         λ w i e v x.
             let (a, d, y) = row-every-at (h .own) i e v in
             ap (view l .opened p) (sym (y .1)) ∙ to (sym is ∙ w) a d (subst (λ (f : Entry). Around (rowOf l o p a) f) (sym (z .0)) (subst (λ (e : Entry). Around e f) (sym (y .0)) x)),
@@ -623,14 +623,14 @@ module _ {l o : List ℕ} {p q n m : ℕ} (h : ChildOf l o p q n m) where
         bits = bits-skip (inv .bits) (λ g. no-grant (sym (read .given) ∙ g));
       }
 
-      module _ {x : ℕ} (given : f .given .0 ≡ p) (t : TiledAs (rowOf l o p) (bitOf l o p) n i (f .start .0) (f .end .0) (f .rights) (f .opened) x) where
-        tiled : TiledAs (rowOf l o p) (bitOf l o p) n i (rowOf l o q j .start) (rowOf l o q j .stop) (rowOf l o q j .rights) (bitOf l o q j) x
+      module _ {x : ℕ} (given : f .given .0 ≡ p) (t : TiledAs (rowOf l o p) (openedBit l o p) n i (f .start .0) (f .end .0) (f .rights) (f .opened) x) where
+        tiled : TiledAs (rowOf l o p) (openedBit l o p) n i (rowOf l o q j .start) (rowOf l o q j .stop) (rowOf l o q j .rights) (openedBit l o q j) x
         tiled = rw (read .start, read .stop, read .rights, v .opened) t
 
         pub walk-on : x ≤ n → Walked l o p q n m x (j + 1)
         walk-on few = go tiled
           where
-            go : TiledAs (rowOf l o p) (bitOf l o p) n i (rowOf l o q j .start) (rowOf l o q j .stop) (rowOf l o q j .rights) (bitOf l o q j) x → Walked l o p q n m x (j + 1)
+            go : TiledAs (rowOf l o p) (openedBit l o p) n i (rowOf l o q j .start) (rowOf l o q j .stop) (rowOf l o q j .rights) (openedBit l o q j) x → Walked l o p q n m x (j + 1)
             go (alike u f) = record {
               few = few;
               far = omega arith;
@@ -642,7 +642,7 @@ module _ {l o : List ℕ} {p q n m : ℕ} (h : ChildOf l o p q n m) where
         pub walk-stuck : n < x → false ≡ exactly (view l .k) p && s11 (view l .k) p && grantsOpen (view l) p
         walk-stuck beyond = never _ (λ w. go tiled (says w))
           where
-            go : TiledAs (rowOf l o p) (bitOf l o p) n i (rowOf l o q j .start) (rowOf l o q j .stop) (rowOf l o q j .rights) (bitOf l o q j) x
+            go : TiledAs (rowOf l o p) (openedBit l o p) n i (rowOf l o q j .start) (rowOf l o q j .stop) (rowOf l o q j .rights) (openedBit l o q j) x
                 → (exactly (view l .k) p && s11 (view l .k) p ≡ true) × (grantsOpen (view l) p ≡ true) → ⊥
             go (alike u _) (w, _) = exact-stuck two-rows (inv .exact) (inv .few) next (read .given ∙ given) beyond u (child-exact w)
             go (unlike k at b z le far u differs) (_, w) = bits-unlike two-rows (inv .exact) (inv .few) next (read .given ∙ given) le far u differs (bits-child w)

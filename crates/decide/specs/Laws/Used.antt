@@ -5,7 +5,7 @@ use mathlib.Core.List.{List}
 use Prim.Native.Nat.{ℕ, zero, suc, _+_, _-_, _*_, _/_, _≤_, _<_}
 use native.Mathlib.Decide.{ℕ-discrete}
 use native.Mathlib.Omega.{arith}
-use Rattle.loops.specs.Scan.{seek}
+use Rattle.loops.specs.Loops.{seek}
 use Rattle.loops.specs.Laws.Scan.{Seeking, seek-on, seek-end}
 use Rattle.words.specs.declared.structure_word.StructureFields.{StructureFields}
 use Rattle.tables.specs.State.{none, some, Area}
@@ -25,12 +25,12 @@ pub used-one : {l : List ℕ} {q r s : ℕ} → Used l q r → Used l q s → r 
 used-one x y = x .is ∙ sym (y .is)
 
 -- the structures of q from j on are absent
-pub record Absent (l : List ℕ) (q j : ℕ) : Type 0 where
+pub record AbsentFrom (l : List ℕ) (q j : ℕ) : Type 0 where
   pub within : j ≤ 4
   pub none-from : (i : ℕ) → j ≤ i → i < 4 → view l .k .area q (1 + i) ≡ none
   pub last : lastStructure (view l .k) q ≡ lastOf j (λ i. isSome (view l .k .area q (1 + i)))
 
-pub absent-start : {l : List ℕ} {q : ℕ} → Absent l q 4
+pub absent-start : {l : List ℕ} {q : ℕ} → AbsentFrom l q 4
 unfolding lastStructure
 absent-start = record { within = omega arith; none-from = λ i a b. absurd (omega arith); last = refl }
 
@@ -45,7 +45,7 @@ unfolding lastOf
 last-before zero f h q = absurd (omega arith)
 last-before (suc n) f h q = let z : suc n - 1 ≡ n = omega arith in rw z (rw (rw z at q) refl)
 
-module _ {l : List ℕ} {q j : ℕ} {f : StructureFields} (inv : Absent l q j) (h : 0 < j) (v : SeenStructure l q (j - 1) f) where
+module _ {l : List ℕ} {q j : ℕ} {f : StructureFields} (inv : AbsentFrom l q j) (h : 0 < j) (v : SeenStructure l q (j - 1) f) where
   there : isSome (view l .k .area q (1 + (j - 1))) ≡ f .present
   unfolding structureArea
   there = rw (v .area) (go (f .present))
@@ -54,7 +54,7 @@ module _ {l : List ℕ} {q j : ℕ} {f : StructureFields} (inv : Absent l q j) (
       go true = refl
       go false = refl
 
-  pub absent-more : f .present ≡ false → Absent l q (j - 1)
+  pub absent-more : f .present ≡ false → AbsentFrom l q (j - 1)
   unfolding structureArea
   absent-more n = record {
     within = omega (arith, inv .within);
@@ -78,7 +78,7 @@ module _ {l : List ℕ} {q : ℕ} (shaped : Shaped l) (in16 : q < 16) where
   empty-closed i b n = not-open l q i (λ _ _. s5 .other i b n)
 
   -- .. so the slots behind the last structure are
-  absent-bound : {j : ℕ} → Absent l q j → Bound l q (8 * j)
+  absent-bound : {j : ℕ} → AbsentFrom l q j → Bound l q (8 * j)
   absent-bound {j} inv = record { within = omega (arith, inv .within); empty = empty; closed = λ i a b. empty-closed i b (empty i a b) }
     where
       empty : (i : ℕ) → 8 * j ≤ i → i < 32 → view l .k .slot q i ≡ none
@@ -87,10 +87,10 @@ module _ {l : List ℕ} {q : ℕ} (shaped : Shaped l) (in16 : q < 16) where
           not-none (view l .k .area q (1 + i / 8)) (inv .none-from (i / 8) (omega arith) (omega arith)) v)
 
   -- structure j - 1 is the last; there is none
-  pub used-here : {j : ℕ} {f : StructureFields} → Absent l q j → 0 < j → SeenStructure l q (j - 1) f → f .present ≡ true → Used l q (8 * j)
+  pub used-here : {j : ℕ} {f : StructureFields} → AbsentFrom l q j → 0 < j → SeenStructure l q (j - 1) f → f .present ≡ true → Used l q (8 * j)
   used-here {j} inv h v n = record { is = ap (λ (m : ℕ). 8 * m) (sym (last-is inv h v n)); bound = absent-bound inv }
 
-  pub used-none : {j : ℕ} → Absent l q j → j ≤ 0 → Used l q (8 * j)
+  pub used-none : {j : ℕ} → AbsentFrom l q j → j ≤ 0 → Used l q (8 * j)
   unfolding lastOf
   used-none {j} inv h =
       let z : j ≡ 0 = omega arith in

@@ -32,7 +32,7 @@ use Rattle.rules.specs.Calls.{callerOf}
 use Rattle.rules.specs.Laws.Calls.{caller-small}
 use Rattle.isolation.specs.Laws.Fits.{Good, right-fit}
 use Rattle.isolation.specs.Ladder.{Ladder, Answers}
-use Rattle.isolation.specs.Exact.{callLadder}
+use Rattle.isolation.specs.Ladders.{callLadder}
 use Rattle.isolation.specs.Laws.Exact.{call-exact}
 use Rattle.isolation.specs.Whole.{call-right, call-good, afterAll}
 use Rattle.ledger.specs.Ledger.{Ledger, Event, apply, eventOf, noted, answerOn, linesNamed, keptOn}

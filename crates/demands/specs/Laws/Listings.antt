@@ -15,7 +15,7 @@ use Rattle.tables.specs.Lines.{Holds}
 use Rattle.tables.specs.Search.{lowest, holdsAt, lookedAt, lookFor}
 use Rattle.tables.specs.Laws.Search.{lowest-some, lowest-none}
 use Rattle.tables.specs.declared.Outcome.the-variants.{Done, Refused}
-use Rattle.tables.specs.WayUp.{over}
+use Rattle.tables.specs.WayUp.{namesOver}
 use Rattle.sound.specs.Sound.{Sound}
 use Rattle.sound.specs.Laws.Core.{sound-core}
 use Rattle.sound.specs.Clauses.{sound}
@@ -29,10 +29,10 @@ use Rattle.rules.specs.Ran.{outcomeOf}
 use Rattle.isolation.specs.Ladder.{Answers, finished, Ends}
 use Rattle.isolation.specs.Laws.Ladder.{ends, check-answers}
 use Rattle.runs.specs.declared.Run.{Run}
-use Rattle.runs.specs.Runs.{deepestAt, runsOf, runsOutcome, runsRecords, On, Chain, nth as run, over as runsOver}
-use Rattle.runs.specs.Laws.RunLaws.{within, runs-longest, trail-last, same-trail}
+use Rattle.runs.specs.Runs.{deepestAt, runsOf, runsOutcome, runsRecords, On, Chain, nthRun as run, runsOver}
+use Rattle.runs.specs.Laws.RunLaws.{run-within, runs-longest, trail-last, same-trail}
 use Rattle.runs.specs.Laws.OneList.{longest-one}
-use Rattle.ledger.specs.Lists.{Lists, nth}
+use Rattle.ledger.specs.Lists.{Lists, nthName}
 use Rattle.ledger.specs.Laws.Lists.{lists-same, one-list}
 use Rattle.ledger.specs.Laws.Listing.{holders-list}
 use Rattle.demands.specs.Demands.{holdersLadder, LooksAt, found, not-found, Looked, LongestRuns, TableRuns, runsLadder}
@@ -52,10 +52,10 @@ module _ {Holder : ℕ → ℕ → Type 0} {up : ℕ → ℕ} (k : K) (range : k
 
   -- a line of a run of a chain
   on-line : {rs : List Run} → Chain (k .base) (k .stop) rs → (i l : ℕ) → i < length rs → On (run rs i) l → Inside l
-  on-line c i l b o = let w = within c i b in (omega arith, omega arith)
+  on-line c i l b o = let w = run-within c i b in (omega arith, omega arith)
 
   -- the last holder is the deepest
-  last : (l : ℕ) → nth (holdersOf k l) (length (holdersOf k l) - 1) ≡ deepestAt k l
+  last : (l : ℕ) → nthName (holdersOf k l) (length (holdersOf k l) - 1) ≡ deepestAt k l
   last l = rw (same-trail k l (deepestAt k l) refl) (trail-last k (deepestAt k l))
 
   pub runs-are : LongestRuns Holder up (k .base) (k .stop) (runsOf k)
@@ -138,9 +138,9 @@ module _ (board : Board) (t : List ℕ) (m : ℕ) (list : List ℕ) where
       finished
 
   pub holders-by : (holdersOutcome board t m (length list) ≡ outcomeOf holdersResult)
-      × (holdersBytes board t m list ≡ leaves list (over (holdersOf (view t .k) m) list) holdersResult)
+      × (holdersBytes board t m list ≡ leaves list (namesOver (holdersOf (view t .k) m) list) holdersResult)
   unfolding holdersOutcome holdersBytes check outcomeOf
-  holders-by = go (sound board t) (inMemory (view t .k) m) (leb 16 (length list)) (length (holdersOf (view t .k) m)) (looksOf (view t .k) m) (over (holdersOf (view t .k) m) list)
+  holders-by = go (sound board t) (inMemory (view t .k) m) (leb 16 (length list)) (length (holdersOf (view t .k) m)) (looksOf (view t .k) m) (namesOver (holdersOf (view t .k) m) list)
     where
       go : (x y z : Bool) (n s : ℕ) (l : List ℕ)
           → (cond x (cond y (cond z (Done n s) (Refused 17)) (Refused 7)) (Refused 1) ≡ outcomeOf (check 1 x (check 7 y (check 17 z (done n s (view t))))))

@@ -7,7 +7,7 @@ use Rattle.tables.specs.Laws.State.{some-inj, not-none}
 use Rattle.rules.specs.Rules.{Result, done, refused}
 use Rattle.isolation.specs.Ladder.{Ladder, finish, must, there, least, Least, Answers, finished, holds, fails as failing, found, missing as none-there, lowest-is, no-lowest as none-low}
 use Rattle.isolation.specs.Laws.Ladder.{least-one}
-use Rattle.demands.specs.Demands.{Applies, fails, later, missing, of-entry, no-lowest, of-lowest, Lowest}
+use Rattle.demands.specs.Demands.{Applies, fails, later, missing, of-entry, no-lowest, of-lowest, LowestRefusal}
 
 -- each number of the ladder is at least n, at least those before it, and at most 22, the highest that there is
 pub data Rises : ℕ → Ladder → Type 1 where
@@ -25,12 +25,12 @@ applies-range (number a b r) (no-lowest _) = (a, b)
 applies-range (number a b r) (of-lowest i _ x) = let (c, d) = applies-range (r i) x in (omega arith, d)
 
 -- what a result says of the refusals that apply: refused, its number is the lowest; done, there is none
-abbrev pub Says : Ladder → Result → Type 1
-Says l (done v w t) = (n : ℕ) → Applies l n → ⊥
-Says l (refused n) = Lowest l n
+abbrev pub SaysLowest : Ladder → Result → Type 1
+SaysLowest l (done v w t) = (n : ℕ) → Applies l n → ⊥
+SaysLowest l (refused n) = LowestRefusal l n
 
 -- the same of a ladder to which the same refusals apply
-says-as : {c d : Ladder} (r : Result) → ((n : ℕ) → Applies c n → Applies d n) → ((n : ℕ) → Applies d n → Applies c n) → Says c r → Says d r
+says-as : {c d : Ladder} (r : Result) → ((n : ℕ) → Applies c n → Applies d n) → ((n : ℕ) → Applies d n → Applies c n) → SaysLowest c r → SaysLowest d r
 says-as (done v w t) f g s = λ n x. s n (g n x)
 says-as (refused n) f g s = record { applies = f n (s .applies); lowest = λ m x. s .lowest m (g m x) }
 
@@ -50,7 +50,7 @@ past-number {n = n} {c = c} p (of-lowest j q x) = subst (λ z. Applies (c z) n) 
 pub none-left : {n v w : ℕ} {t : Table} → Applies (finish v w t) n → ⊥
 none-left x = let (a, b) = applies-range {n = 23} top x in omega arith
 
-pub answers-say : {n : ℕ} {l : Ladder} {r : Result} → Rises n l → Answers l r → Says l r
+pub answers-say : {n : ℕ} {l : Ladder} {r : Result} → Rises n l → Answers l r → SaysLowest l r
 answers-say top finished = λ n x. none-left x
 answers-say {r = r} (rung a b u) (holds p s) = says-as r (λ n x. later x) (λ n x. past p x) (answers-say u s)
 answers-say (rung {m = m} a b u) (failing q) = record { applies = fails q; lowest = λ n x. applies-range {n = m} (rung (omega arith) b u) x .0 }

@@ -14,8 +14,7 @@ use Rattle.tables.specs.Update.{upd}
 use Rattle.tables.specs.View.{view}
 use Rattle.sound.specs.Laws.Limit.{plain-few}
 use Rattle.isolation.specs.Ladder.{Ladder, finish, must, there, least}
-use Rattle.isolation.specs.Regions.{loadLadder}
-use Rattle.isolation.specs.Exact.{numberedLadder, callLadder}
+use Rattle.isolation.specs.Ladders.{loadLadder, numberedLadder, callLadder}
 use Rattle.demands.specs.Demands.{Applies, fails, later, missing, of-entry, no-lowest, of-lowest}
 use Rattle.demands.specs.Laws.Calls.{handed-small, call-answered}
 use Rattle.demands.specs.Plain.{Plain}
@@ -53,8 +52,8 @@ numbered-low n t f = search (either, load-low, top, rung, value, number, lit≤)
 call-low : (l : List ℕ) (w : ℕ) → Low (callLadder V8 l w)
 call-low l w = let services = numbered-low (fieldsIn call w .service) (view l) (fieldsIn call w) in search (rung, services, lit≤) depth 10
 
-pub plain : Plain
-plain = record {
+pub plain-board : Plain
+plain-board = record {
   one = λ e. refl;
   limit = plain-few;
   never-19 = λ {b} {w} small h q. omega (arith, applies-low (call-low _ w) (call-answered (handed-small b small) h .refuses 19 (omega arith) .0 q .applies));

@@ -6,11 +6,11 @@ use Rattle.tables.specs.State.{Table}
 use Rattle.rules.specs.Rules.{Result, done, refused}
 use Rattle.rules.specs.Ran.{outcomeOf}
 use Rattle.isolation.specs.Ladder.{Ladder, Answers}
-use Rattle.face.specs.Face.{packed, resultOf}
+use Rattle.face.specs.Face.{resultPacked, resultOf}
 use Rattle.demands.specs.Demands.{refusalIn, callerIn, firstIn, Accepted, Answered}
 use Rattle.demands.specs.Laws.Lowest.{Rises, applies-range, answers-say}
 
-pub reads-back : (n p v : ℕ) → n < 2 ^ 8 → p < 2 ^ 8 → (refusalIn (packed n p v) ≡ n) × (callerIn (packed n p v) ≡ p) × (firstIn (packed n p v) ≡ v)
+pub reads-back : (n p v : ℕ) → n < 2 ^ 8 → p < 2 ^ 8 → (refusalIn (resultPacked n p v) ≡ n) × (callerIn (resultPacked n p v) ≡ p) × (firstIn (resultPacked n p v) ≡ v)
 reads-back n p v a b = (omega arith, omega arith, omega arith)
 
 -- what is read out of r where the result is x

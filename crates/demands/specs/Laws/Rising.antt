@@ -10,8 +10,7 @@ use Rattle.shapes.specs.declared.Board.{Board}
 use Rattle.tables.specs.State.{Table}
 use Rattle.tables.specs.View.{view}
 use Rattle.isolation.specs.Ladder.{Ladder, must}
-use Rattle.isolation.specs.Boot.{bootLadder}
-use Rattle.isolation.specs.Exact.{numberedLadder, serveLadder, callLadder}
+use Rattle.isolation.specs.Ladders.{bootLadder, numberedLadder, serveLadder, callLadder}
 use Rattle.demands.specs.Demands.{holdersLadder, runsLadder}
 use Rattle.demands.specs.Laws.Lowest.{Rises, top, rung, value, number}
 

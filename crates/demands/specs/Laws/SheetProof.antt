@@ -37,8 +37,7 @@ use Rattle.rules.specs.Laws.Calls.{caller-small}
 use Rattle.services.specs.Laws.Boot.{boot-length}
 use Rattle.isolation.specs.Laws.Boot.{boot-right}
 use Rattle.isolation.specs.Ladder.{Ladder, finish, must, there, least}
-use Rattle.isolation.specs.Boot.{bootLadder}
-use Rattle.isolation.specs.Exact.{numberedLadder, callLadder}
+use Rattle.isolation.specs.Ladders.{bootLadder, numberedLadder, callLadder}
 use Rattle.isolation.specs.Laws.Fits.{Good, right-fit}
 use Rattle.isolation.specs.Whole.{call-right, boot-good, afterAll}
 use Rattle.ledger.specs.Ledger.{keptOn, opening}
@@ -51,7 +50,7 @@ use Rattle.sheet.specs.Laws.Words.{lines-in, masks-back, lines-back, pair-absen
 use Rattle.sheet.specs.Laws.Bytes.{matches-means, matches-length, short-handed, handed-length, sheet-bytes}
 use Rattle.sheet.specs.Laws.Reading.{sheet-words, masks-read, lines-read, bytes-same}
 use Rattle.sheet.specs.Laws.Kept.{call-kept}
-use Rattle.face.specs.Face.{handed, packed, resultOf, secondAfter, bytesAfter, Lent, CallLent}
+use Rattle.face.specs.Face.{handed, resultPacked, resultOf, secondAfter, bytesAfter, Lent, CallLent}
 use Rattle.face.specs.Laws.Face.{handed-is, handed-unsound, handed-none}
 use Rattle.face.specs.Sheets.{BothLent, BootSheetLent, CallSheetLent}
 use Rattle.demands.specs.Demands.{Bytes, BootLent, refusalIn, firstIn, Accepted, Applies, fails, later, missing, of-entry, no-lowest, of-lowest}
@@ -59,7 +58,7 @@ use Rattle.demands.specs.Theorem.{boot-answered, booted, start}
 use Rattle.demands.specs.Laws.Calls.{handed-small, handed-of, call-answered, call-done, one-unsound, next}
 use Rattle.demands.specs.Laws.Lowest.{Rises, top, rung, applies-range, past}
 use Rattle.demands.specs.Laws.Results.{reads-back}
-use Rattle.demands.specs.Sheet.{IsSheet, Pair, CalledBeside, no-call, one-call, Beside, SheetDemand}
+use Rattle.demands.specs.Sheet.{IsSheet, Pair, CalledBeside, no-call, one-call, KeptBeside, SheetDemand}
 
 good-right : {board : Board} {l : List ℕ} → Good board l → Right (view l)
 good-right g = sound-right (sound-canon (g .small) (g .sound)) (g .sound)
@@ -378,7 +377,7 @@ root-held b s good is =
     ∙ root-lines (h .core)
 
 module _ (base end : ℕ) {b s : List ℕ} {r : ℕ} {c s′ : List ℕ} (h : BootSheetLent b s base end r c s′) (q : Accepted r) {board : Board} {ws d u : List ℕ} (calls : CalledBeside board c s′ ws d u) where
-  beside : Beside board base end d u
+  beside : KeptBeside board base end d u
   beside =
       let (e, good, is) = called-beside (booted-good base end h q board) (sheet-boot-afresh base end h q) calls in
       let k = from-boot-kept {base = base} {end = end} board (handed b) (boot-is base end h q) ws in

@@ -6,19 +6,19 @@ use Prim.Native.Nat.{ℕ, _^_, _≤_, _<_}
 use native.Mathlib.Decide.{decLt}
 use native.Mathlib.Omega.{arith}
 use lib.ListN.{length}
-use Rattle.loops.specs.Count.{count}
+use Rattle.loops.specs.Loops.{count}
 use Rattle.shapes.specs.declared.Board.{Board}
 use Rattle.tables.specs.State.{K}
 use Rattle.tables.specs.View.{view}
 use Rattle.tables.specs.Lines.{Holds}
-use Rattle.tables.specs.WayUp.{over}
+use Rattle.tables.specs.WayUp.{namesOver}
 use Rattle.sound.specs.Sound.{Sound}
 use Rattle.sound.specs.Laws.Core.{sound-core}
-use Rattle.sound.specs.Holders.{holdersOf, holdersOutcome, Listed}
+use Rattle.sound.specs.Holders.{holdersOf, holdersOutcome, HoldersListed}
 use Rattle.rules.specs.Rules.{Result}
 use Rattle.rules.specs.Ran.{outcomeOf}
 use Rattle.runs.specs.declared.Run.{Run}
-use Rattle.runs.specs.Runs.{runsOf, runsOutcome, over as runsOver, Listed as RunsListed}
+use Rattle.runs.specs.Runs.{runsOf, runsOutcome, runsOver, RunsListed}
 use Rattle.runs.specs.Laws.RunLaws.{runs-longest}
 use Rattle.ledger.specs.Ledger.{Ledger}
 use Rattle.ledger.specs.Lists.{Lists}
@@ -26,7 +26,7 @@ use Rattle.ledger.specs.Laws.Lists.{one-list, no-siblings}
 use Rattle.ledger.specs.Theorem.{Demand3}
 use Rattle.ledger.specs.Laws.LedgerRuns.{RunsDemand}
 use Rattle.face.specs.Face.{handed, resultOf, secondAfter, ListLent}
-use Rattle.face.specs.Lists.{Handed}
+use Rattle.face.specs.Lists.{RunsLent}
 use Rattle.demands.specs.Demands.{refusalIn, firstIn, Accepted, Answered, holdersLadder, LongestRuns, TableRuns, runsLadder, HoldersWritten, RunsWritten, Tells}
 use Rattle.demands.specs.Laws.Lowest.{past, none-left}
 use Rattle.demands.specs.Laws.Rising.{holders-rises, runs-rises}
@@ -47,7 +47,7 @@ module _ {board : Board} {b : List ℕ} {m : ℕ} {list : List ℕ} {s r : ℕ} 
   word : r ≡ resultOf 0 (outcomeOf result)
   word = h .result ∙ ap (resultOf 0) (holders-by board (handed b) m list .0)
 
-  bytes-by : after ≡ leaves list (over (holdersOf k m) list) result
+  bytes-by : after ≡ leaves list (namesOver (holdersOf k m) list) result
   bytes-by = h .bytes ∙ holders-by board (handed b) m list .1
 
   second-by : s′ ≡ secondAfter s (outcomeOf result)
@@ -58,7 +58,7 @@ module _ {board : Board} {b : List ℕ} {m : ℕ} {list : List ℕ} {s r : ℕ} 
   holders-answered =
       answered (holders-rises board (handed b) m (length list)) nobody-calls result (holders-exact board (handed b) m list) word
       (λ n z. (
-        bytes-by ∙ ap (leaves list (over (holdersOf k m) list)) z,
+        bytes-by ∙ ap (leaves list (namesOver (holdersOf k m) list)) z,
         second-by ∙ ap (λ (x : Result). secondAfter s (outcomeOf x)) z,
       ))
 
@@ -74,7 +74,7 @@ module _ {board : Board} {b : List ℕ} {m : ℕ} {list : List ℕ} {s r : ℕ} 
         listing = lists f i j;
         only = λ hs x. one-list x (lists f i j);
         number-is = v;
-        bytes = bytes-by ∙ ap (leaves list (over (holdersOf k m) list)) z;
+        bytes = bytes-by ∙ ap (leaves list (namesOver (holdersOf k m) list)) z;
         looked = rw (second-by ∙ ap (λ (x : Result). secondAfter s (outcomeOf x)) z ∙ y) (holders-looked (handed b) m);
       }
 
@@ -82,7 +82,7 @@ module _ {board : Board} {b : List ℕ} {m : ℕ} {list : List ℕ} {s r : ℕ} 
   holders-written q = holders-told q (λ f. table-lists f m)
 
 -- ── runs ──
-module _ {board : Board} {b : List ℕ} {list : List Run} {r : ℕ} {after : List Run} (h : Handed board b list r after) where
+module _ {board : Board} {b : List ℕ} {list : List Run} {r : ℕ} {after : List Run} (h : RunsLent board b list r after) where
   abbrev runsK : K
   runsK = view (handed b) .k
 
@@ -144,10 +144,10 @@ module _ {board : Board} {base end : ℕ} {g : Ledger} (d : List ℕ) (f : Sound
 
   -- holders, as the ledger's own theorem reads it
   listed : {m : ℕ} {list : List ℕ} {s r : ℕ} {after : List ℕ} {s′ : ℕ} → ListLent board d m list s r after s′
-      → Listed board (handed d) m list (holdersOutcome board (handed d) m (length list)) after
+      → HoldersListed board (handed d) m list (holdersOutcome board (handed d) m (length list)) after
   listed h = record { outcome = refl; bytes = h .bytes }
 
-  short : {list : List Run} {r : ℕ} {after : List Run} → Handed board d list r after → (Accepted r → ⊥)
+  short : {list : List Run} {r : ℕ} {after : List Run} → RunsLent board d list r after → (Accepted r → ⊥)
       → (refusalIn r ≡ 17) × (after ≡ list) × ((rs : List Run) × LongestRuns Named (g .parent) base end rs × (length list < length rs))
   unfolding resultOf
   short {list} {r} {after} h n = go (decLt (length list) (length (runsOf kd)))

@@ -1,3 +1,4 @@
+-- src/lib.rt, block_right: r ≡ blockRight base end from to
 use mathlib.Core.Path.{refl}
 use borrow.Author.Tests.{lt-ltb, le-ltb, lt-leb, le-leb}
 use Rattle.engine.specs.Engine.{blockRight}

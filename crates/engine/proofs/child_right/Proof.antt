@@ -1,3 +1,4 @@
+-- src/lib.rt, child_right: r ≡ childRight child
 use mathlib.Core.Path.{refl}
 use borrow.Author.Tests.{lt-leb, le-leb}
 use Rattle.engine.specs.Engine.{childRight}

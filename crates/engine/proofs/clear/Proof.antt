@@ -1,8 +1,9 @@
+-- src/lib.rt, clear: now (masks .exit) ≡ between a b (maskStruck w) masks
 use mathlib.Core.Path.{refl}
 use Prim.Native.Nat.{_-_}
 use native.Mathlib.Omega.{arith}
-use Rattle.engine.specs.Engine.{struck}
-use Rattle.engine.specs.Laws.Marking.{Marking, mark-start, mark-put, mark-end}
+use Rattle.engine.specs.Engine.{maskStruck}
+use Rattle.engine.specs.Laws.Marking.{MaskMarking, mark-start, mark-put, mark-end}
 use borrow.Author.Needs.{needs}
 use Rattle.engine.proofs.clear.Statement.{statement}
 use Rattle.engine.proofs.clear.Tie as tie
@@ -11,7 +12,7 @@ pub clear-spec : {M : Type 1} → statement M
 clear-spec =
     tie.close
     (tie.spec
-    (λ masks₀ a b w i₀ masks i. Marking (struck w) a b masks₀ i masks)
+    (λ masks₀ a b w i₀ masks i. MaskMarking (maskStruck w) a b masks₀ i masks)
     (λ masks₀ a b w i₀ masks i. b - i)
     (λ c. mark-start (c .pre .0) (c .pre .1))
     (λ c. search needs)

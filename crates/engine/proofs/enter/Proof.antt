@@ -1,8 +1,9 @@
+-- src/lib.rt, enter: now (masks .exit) ≡ between a b (joined w) masks
 use mathlib.Core.Path.{refl}
 use Prim.Native.Nat.{_-_}
 use native.Mathlib.Omega.{arith}
 use Rattle.engine.specs.Engine.{joined}
-use Rattle.engine.specs.Laws.Marking.{Marking, mark-start, mark-put, mark-end}
+use Rattle.engine.specs.Laws.Marking.{MaskMarking, mark-start, mark-put, mark-end}
 use borrow.Author.Needs.{needs}
 use Rattle.engine.proofs.enter.Statement.{statement}
 use Rattle.engine.proofs.enter.Tie as tie
@@ -11,7 +12,7 @@ pub enter-spec : {M : Type 1} → statement M
 enter-spec =
     tie.close
     (tie.spec
-    (λ masks₀ a b w i₀ masks i. Marking (joined w) a b masks₀ i masks)
+    (λ masks₀ a b w i₀ masks i. MaskMarking (joined w) a b masks₀ i masks)
     (λ masks₀ a b w i₀ masks i. b - i)
     (λ c. mark-start (c .pre .0) (c .pre .1))
     (λ c. search needs)

@@ -1,3 +1,4 @@
+-- src/lib.rt, lines_right: r ≡ linesRight n base end child from to
 use mathlib.Core.Path.{sym, _∙_}
 use borrow.Author.Tests.{not-true, not-false}
 use Rattle.engine.specs.Engine.{linesRight}

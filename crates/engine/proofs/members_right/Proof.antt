@@ -1,3 +1,4 @@
+-- src/lib.rt, members_right: r ≡ membersRight members
 use Prim.Native.Nat.{_%_}
 use mathlib.Core.Path.{refl}
 use borrow.Author.Tests.{eq-eqb, ne-eqb}

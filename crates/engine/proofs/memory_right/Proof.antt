@@ -1,3 +1,4 @@
+-- src/lib.rt, memory_right: r ≡ memoryRight n base end
 use mathlib.Core.Path.{refl}
 use borrow.Author.Tests.{lt-ltb, le-ltb, lt-leb, le-leb}
 use Rattle.engine.specs.Engine.{memoryRight}

@@ -1,3 +1,4 @@
+-- src/lib.rt, strike_right: r ≡ strikeRight n base end members
 use mathlib.Core.Path.{sym, _∙_}
 use borrow.Author.Tests.{not-true, not-false}
 use Rattle.engine.specs.Engine.{strikeRight}

@@ -1,3 +1,4 @@
+-- src/lib.rt, take: TakeLent base end child from to masks r masks′
 use mathlib.Core.Path.{sym, _∙_}
 use native.Mathlib.Omega.{arith}
 use borrow.Author.Tests.{not-true, not-false}

@@ -4,7 +4,7 @@ use mathlib.Core.Bool.{Bool, true, false, false≢true}
 use Prim.Native.Nat.{ℕ}
 use native.Mathlib.Omega.{arith}
 use Rattle.engine.specs.Engine.{engineRefusal, Exactly, Gives21}
-use Rattle.engine.specs.Laws.Exits.{memory-says, memory-of, lines-say, lines-of, strike-says, strike-of}
+use Rattle.engine.specs.Laws.Exits.{memory-says, memory-of, lines-say, lines-right, strike-says, strike-of}
 
 -- what the test tells both ways
 exact : (right : Bool) {C : Type 0} {r : ℕ} → (right ≡ true → C) → (C → right ≡ true) → r ≡ engineRefusal right → Exactly C r
@@ -15,7 +15,7 @@ exact false says of e = record { refused = (λ q c. false≢true (of c), λ n. e
 pub gives-21 : Gives21
 gives-21 = record {
   start = λ base end s. exact _ (memory-says _ base end) memory-of (s .answer);
-  give = λ base end child from to s. exact _ (lines-say _ base end child from to) lines-of (s .answer);
-  take = λ base end child from to s. exact _ (lines-say _ base end child from to) lines-of (s .answer);
+  give = λ base end child from to s. exact _ (lines-say _ base end child from to) lines-right (s .answer);
+  take = λ base end child from to s. exact _ (lines-say _ base end child from to) lines-right (s .answer);
   strike = λ base end members s. exact _ (strike-says _ base end members) strike-of (s .answer);
 }

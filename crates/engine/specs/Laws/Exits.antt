@@ -8,7 +8,7 @@ use lib.Pow.{shl-exact}
 use lib.Dec.{leb, ltb, eqb}
 use lib.ListN.{length}
 use borrow.Author.Tests.{leb-true, ltb-true, eqb-true, le-leb, lt-ltb, eq-eqb}
-use Rattle.engine.specs.Engine.{between, joined, struck, giveMasks, takeMasks, memoryRight, childRight, membersRight, blockRight, linesRight, strikeRight, engineRefusal, Memory, Block, Members, Engine}
+use Rattle.engine.specs.Engine.{between, joined, maskStruck, giveMasks, takeMasks, memoryRight, childRight, membersRight, blockRight, linesRight, strikeRight, engineRefusal, Memory, Block, Members, Engine}
 use Rattle.engine.specs.Laws.Masks.{names-child, names-even, names-low}
 
 and-both : (a b : Bool) → a && b ≡ true → (a ≡ true) × (b ≡ true)
@@ -68,9 +68,9 @@ pub memory-of : {n base end : ℕ} → Memory n base end → memoryRight n base 
 unfolding memoryRight
 memory-of {n} {base} {end} m = rw (lt-ltb base end (m .some), le-leb (end - base) 2048 (m .few), le-leb (end - base) n (m .room)) refl
 
-pub lines-of : {n base end child from to : ℕ} → Block n base end child from to → linesRight n base end child from to ≡ true
+pub lines-right : {n base end child from to : ℕ} → Block n base end child from to → linesRight n base end child from to ≡ true
 unfolding linesRight childRight blockRight
-lines-of {n} {base} {end} {child} {from} {to} b =
+lines-right {n} {base} {end} {child} {from} {to} b =
     rw (memory-of (b .memory), le-leb 1 child (b .child-low), le-leb child 15 (b .child-high), le-leb base from (b .low), lt-ltb from to (b .long), le-leb to end (b .high)) refl
 
 pub strike-of : {n base end members : ℕ} → Members n base end members → strikeRight n base end members ≡ true
@@ -90,6 +90,6 @@ module _ (base end child from to : ℕ) (before : List ℕ) (q : linesRight (len
       → Engine (linesRight (length before) base end child from to) (giveMasks before base child from to) before 0 after
   give-done e = engine-done _ _ before q (e ∙ ap (λ (w : ℕ). between (from - base) (to - base) (joined w) before) (shifted child high))
 
-  pub take-done : {after : List ℕ} → after ≡ between (from - base) (to - base) (struck (1 * 2 ^ child % 65536)) before
+  pub take-done : {after : List ℕ} → after ≡ between (from - base) (to - base) (maskStruck (1 * 2 ^ child % 65536)) before
       → Engine (linesRight (length before) base end child from to) (takeMasks before base child from to) before 0 after
-  take-done e = engine-done _ _ before q (e ∙ ap (λ (w : ℕ). between (from - base) (to - base) (struck w) before) (shifted child high))
+  take-done e = engine-done _ _ before q (e ∙ ap (λ (w : ℕ). between (from - base) (to - base) (maskStruck w) before) (shifted child high))

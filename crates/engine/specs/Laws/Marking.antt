@@ -14,7 +14,7 @@ use Rattle.loops.specs.Laws.Rewrite.{tab-is, tab-at, length-tab}
 use Rattle.engine.specs.Engine.{between}
 
 -- At i, s is l with the elements from a to i - 1 rewritten by h.
-pub record Marking (h : ℕ → ℕ) (a b : ℕ) (l : List ℕ) (i : ℕ) (s : List ℕ) : Type 0 where
+pub record MaskMarking (h : ℕ → ℕ) (a b : ℕ) (l : List ℕ) (i : ℕ) (s : List ℕ) : Type 0 where
   pub from : a ≤ i
   pub to : i ≤ b
   pub room : b ≤ length l
@@ -47,7 +47,7 @@ module _ (a b : ℕ) (h : ℕ → ℕ) (l : List ℕ) where
 
 -- ── laws of the loop ──
 module _ {h : ℕ → ℕ} {a b : ℕ} {l : List ℕ} where
-  pub mark-start : a ≤ b → b ≤ length l → Marking h a b l a l
+  pub mark-start : a ≤ b → b ≤ length l → MaskMarking h a b l a l
   mark-start x y = record {
     from = omega arith;
     to = x;
@@ -58,9 +58,9 @@ module _ {h : ℕ → ℕ} {a b : ℕ} {l : List ℕ} where
     above = λ k c. refl;
   }
 
-  module _ {i : ℕ} {s : List ℕ} (inv : Marking h a b l i s) where
+  module _ {i : ℕ} {s : List ℕ} (inv : MaskMarking h a b l i s) where
     -- the store `s[i] = v`
-    pub mark-put : {v : ℕ} → i < b → v ≡ h (getD s i 0) → Marking h a b l (i + 1) (set s i v)
+    pub mark-put : {v : ℕ} → i < b → v ≡ h (getD s i 0) → MaskMarking h a b l (i + 1) (set s i v)
     mark-put {v} c q = record {
       from = omega (arith, inv .from);
       to = omega arith;

@@ -9,7 +9,7 @@ use lib.Dec.{eqb}
 use lib.Bits.{bitAnd, bitOr, bitXor, or-shr, or-mod, and-shr, and-mod, xor-shr, xor-mod}
 use lib.Pow.{pow-add, pow-mono, pow-lt, high, shl-shr, shr-shr}
 use borrow.Author.Tests.{eqb-true, eq-eqb, ne-eqb}
-use Rattle.loops.specs.Bit.{bitOf}
+use Rattle.loops.specs.Loops.{bitOf}
 use Rattle.loops.specs.Laws.Bit.{flag-bit, bit-flag}
 use Rattle.engine.specs.Engine.{bit, names}
 

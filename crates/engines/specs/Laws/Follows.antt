@@ -5,7 +5,7 @@ use mathlib.Core.List.{List}
 use Prim.Native.Nat.{ℕ, _-_, _≤_, _<_}
 use native.Mathlib.Omega.{arith}
 use lib.ListN.{length, getD}
-use Rattle.loops.specs.Map.{mapOf}
+use Rattle.loops.specs.Loops.{mapOf}
 use Rattle.words.specs.Kind.{fieldsIn}
 use Rattle.words.specs.Words.{call}
 use Rattle.words.specs.declared.Rights.{Rights}
@@ -31,10 +31,10 @@ use Rattle.isolation.specs.Laws.Give.{give-done}
 use Rattle.isolation.specs.Laws.Take.{take-done}
 use Rattle.isolation.specs.Laws.ClearOut.{branch-goes, clear-done}
 use Rattle.isolation.specs.Whole.{served}
-use Rattle.ledger.specs.Ledger.{Ledger, Lines, Event, adopt, enter, strike, strikeAll, nothing, apply, childFor, struck, accepted, eventOf, linesOf, linesNamed}
+use Rattle.ledger.specs.Ledger.{Ledger, Lines, Event, adopt, enter, strike, strikeAll, nothing, apply, childFor, struck, accepted, eventOf, linesIn, linesNamed}
 use Rattle.ledger.specs.Laws.Kept.{Keeps, child-for}
 use Rattle.engine.specs.Engine.{Memory, Block}
-use Rattle.engine.specs.Laws.Exits.{lines-say, lines-of, strike-of}
+use Rattle.engine.specs.Laws.Exits.{lines-say, lines-right, strike-of}
 use Rattle.engine.specs.Laws.Marking.{between-length, between-from}
 use Rattle.engines.specs.Engines.{goes, makes}
 use Rattle.engines.specs.Laws.Members.{names-map, map-members}
@@ -78,11 +78,11 @@ module _ {base end : ℕ} {g : Ledger} {ms : List ℕ} (fit : Memory (length ms)
 
   enter-follows : (c : ℕ) (r : Lines) → Block (length ms) base end c (r .start) (r .stop) → Follows base end g ms (enter c r)
   unfolding goes makes
-  enter-follows c r b = record { right = lines-of b; mirrors = give-mirrors ms (fit .room) m c r (b .low) }
+  enter-follows c r b = record { right = lines-right b; mirrors = give-mirrors ms (fit .room) m c r (b .low) }
 
   strike-follows : (c : ℕ) (r : Lines) → Block (length ms) base end c (r .start) (r .stop) → Follows base end g ms (strike c r)
   unfolding goes makes
-  strike-follows c r b = record { right = lines-of b; mirrors = take-mirrors ms (fit .room) m c r (b .low) }
+  strike-follows c r b = record { right = lines-right b; mirrors = take-mirrors ms (fit .room) m c r (b .low) }
 
   all-follows : (f : ℕ → Bool) → f 0 ≡ false → Follows base end g ms (strikeAll f)
   unfolding goes makes
@@ -94,11 +94,11 @@ module _ {base end : ℕ} {g : Ledger} {ms : List ℕ} (fit : Memory (length ms)
   module _ {t : Table} (h : Right t) (s : Keeps base end g (t .k)) where
     -- the lines of entry i of the caller
     abbrev lines : ℕ → Lines
-    lines i = linesOf (t .k .slot (t .k .current) i)
+    lines i = linesIn (t .k .slot (t .k .current) i)
 
     -- an entry's lines are a block of the memory
     block : (c i : ℕ) (e : Entry) → 1 ≤ c → c ≤ 15 → t .k .slot (t .k .current) i ≡ some e → Block (length ms) base end c (lines i .start) (lines i .stop)
-    unfolding linesOf
+    unfolding linesIn
     block c i e x y u =
         let r = h .core .s5-range (t .k .current) i e u in
         let first : Holds (t .k .slot) (t .k .current) (e .start) = record { i = i; e = e; at = u; holds = record { from = omega arith; to = r } } in
@@ -182,7 +182,7 @@ module _ {board : Board} {base end : ℕ} {g : Ledger} {l : List ℕ} (h : Good 
   pub take-event : (w : ℕ) → fieldsIn call w .service ≡ 6 → {v x : ℕ} {t′ : Table} → callOn board l w ≡ done v x t′
       → (e : Entry) × (view l .k .slot (view l .k .current) (fieldsIn call w .slot .0) ≡ some e)
       × (eventOf g (fieldsIn call w) (callerOf board l) (outcomeOf (callOn board l w)) (linesNamed board l w) ≡ strike (e .given) (record { start = e .start; stop = e .stop }))
-  unfolding eventOf outcomeOf callerOf accepted struck linesOf
+  unfolding eventOf outcomeOf callerOf accepted struck linesIn
   take-event w six z =
       let f = fieldsIn call w in
       let (_, a, y) = served board l w (h .small) z in

@@ -3,7 +3,7 @@ use mathlib.Core.Path.{_≡_}
 use mathlib.Core.Bool.{Bool, true, false}
 use Prim.Native.Nat.{ℕ, suc, _%_, _≤_, _<_}
 use native.Mathlib.Omega.{arith}
-use Rattle.loops.specs.Map.{mapFrom, mapOf}
+use Rattle.loops.specs.Loops.{mapFrom, mapOf}
 use Rattle.loops.specs.Laws.Map.{map-lt, map-bit}
 use Rattle.engine.specs.Engine.{names}
 use Rattle.engine.specs.Laws.Masks.{said, names-child}

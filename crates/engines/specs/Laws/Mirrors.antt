@@ -8,7 +8,7 @@ use native.Mathlib.Omega.{arith}
 use lib.Dec.{leb, ltb, eqb}
 use lib.ListN.{length, getD}
 use borrow.Author.Tests.{le-leb, lt-leb, le-ltb, lt-ltb}
-use Rattle.engine.specs.Engine.{names, between, joined, struck, startMasks, giveMasks, takeMasks, strikeMasks}
+use Rattle.engine.specs.Engine.{names, between, joined, maskStruck, startMasks, giveMasks, takeMasks, strikeMasks}
 use Rattle.engine.specs.Laws.Masks.{names-or, names-struck, names-one}
 use Rattle.engine.specs.Laws.Marking.{between-in, between-below, between-from}
 use Rattle.ledger.specs.Ledger.{Ledger, opening, Lines, among, enter, strike, strikeAll, apply}
@@ -62,14 +62,14 @@ module _ {base end : ℕ} (ms : List ℕ) (room : end - base ≤ length ms) wher
         go : (p l : ℕ) → p < 16 → base ≤ l → l < end → Dec (l < e .start) → Dec (l < e .stop)
             → names (getD (takeMasks ms base c (e .start) (e .stop)) (l - base) 0) p ≡ g .stands p l && not (eqb p c && (leb (e .start) l && ltb l (e .stop)))
         go p l b x y (yes j) _ =
-            bit-below ms room (struck (2 ^ c)) x y (e .start) (e .stop) p j ∙ s .line p l b x y
+            bit-below ms room (maskStruck (2 ^ c)) x y (e .start) (e .stop) p j ∙ s .line p l b x y
             ∙ rw (lt-leb (e .start) l j, and-false (eqb p c)) (sym (and-true (g .stands p l)))
         go p l b x y (no j) (yes k) =
-            bit-in ms room (struck (2 ^ c)) x y (e .start) (e .stop) p i (omega arith) k ∙ names-struck _ (2 ^ c) p
+            bit-in ms room (maskStruck (2 ^ c)) x y (e .start) (e .stop) p i (omega arith) k ∙ names-struck _ (2 ^ c) p
             ∙ ap₂ (λ (u v : Bool). u && not v) (s .line p l b x y) (names-one c p)
             ∙ rw (le-leb (e .start) l (omega arith), lt-ltb l (e .stop) k, and-true (eqb p c)) refl
         go p l b x y (no j) (no k) =
-            bit-from ms room (struck (2 ^ c)) x y (e .start) (e .stop) p (omega arith) ∙ s .line p l b x y
+            bit-from ms room (maskStruck (2 ^ c)) x y (e .start) (e .stop) p (omega arith) ∙ s .line p l b x y
             ∙ rw (le-leb (e .start) l (omega arith), le-ltb l (e .stop) (omega arith), and-false (eqb p c)) (sym (and-true (g .stands p l)))
 
     -- w is the mask of m
@@ -77,5 +77,5 @@ module _ {base end : ℕ} (ms : List ℕ) (room : end - base ≤ length ms) wher
     unfolding apply
     strike-mirrors w m q = record {
       line = λ p l b x y.
-          bit-all ms room (struck w) x y p ∙ names-struck _ w p ∙ ap₂ (λ (u v : Bool). u && not v) (s .line p l b x y) (q p b);
+          bit-all ms room (maskStruck w) x y p ∙ names-struck _ w p ∙ ap₂ (λ (u v : Bool). u && not v) (s .line p l b x y) (q p b);
     }

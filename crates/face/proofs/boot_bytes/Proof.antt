@@ -1,7 +1,8 @@
+-- src/lib.rt, boot_bytes: Lent 0 (bootOn (handed table) base end) table r table′
 use mathlib.Core.Path.{sym, _∙_}
 use lib.ListN.{length-replicate}
 use Prim.Native.Nat.{ℕ}
-use Rattle.rules.specs.Laws.Brief.{boot-brief, first-small, number-small}
+use Rattle.rules.specs.Laws.Brief.{boot-brief, brief-first, number-small}
 use Rattle.face.specs.Laws.Face.{boot-root, boot-none, boot-lent, boot-kept}
 use native.Mathlib.Omega.{arith}
 use borrow.Author.Needs.{needs}
@@ -17,7 +18,7 @@ boot-bytes-spec =
     (λ c κs. search needs)
     (λ c. search needs)
     (λ c κs. (c .before .before .before .before .before .before .before .if1 .left, boot-root _ _ (c .before .before .before .before .before .boot-table .ensures) (c .before .before .before .outcome .given .1)))
-    (λ c κs. (omega arith, omega arith, omega (arith, first-small (boot-brief _ _ _) (sym (c .before .before .before .before .before .before .before .before .boot-table .ensures .outcome) ∙ c .before .before .before .before .before .before .outcome .given .1))))
+    (λ c κs. (omega arith, omega arith, omega (arith, brief-first (boot-brief _ _ _) (sym (c .before .before .before .before .before .before .before .before .boot-table .ensures .outcome) ∙ c .before .before .before .before .before .before .outcome .given .1))))
     (λ c. search needs)
     (λ c κs. (omega (arith, number-small (boot-brief _ _ _) (sym (c .before .before .before .boot-table .ensures .outcome) ∙ c .before .outcome2 .given .1)), omega arith, omega arith))
     (λ c. search needs)

@@ -1,10 +1,11 @@
+-- src/lib.rt, call_bytes: CallLent board table word second r table′ second′
 use mathlib.Core.Path.{_≡_, refl, ap, sym, _∙_}
 use mathlib.Core.Logic.{⊎-elim}
 use lib.ListN.{length}
 use borrow.Author.Tests.{not-false}
 use Rattle.memory.specs.Bytes.{bytesOf}
 use Rattle.tables.specs.Laws.Top.{top-at}
-use Rattle.rules.specs.Laws.Brief.{call-brief, first-small, number-small}
+use Rattle.rules.specs.Laws.Brief.{call-brief, brief-first, number-small}
 use Rattle.face.specs.Laws.Face.{call-none, call-lent, call-tells, call-told, call-stands, call-kept, call-caller}
 use native.Mathlib.Omega.{arith}
 use borrow.Author.Needs.{needs}
@@ -27,7 +28,7 @@ call-bytes-spec =
     let small = c .before .before .before .before .before .before .before .before .before .before .before .before .before .slice-known .given in
     let done = c .before .before .before .before .outcome .given .1 in
     (size, call-tells _ size load answer (λ i. small i .fits) done, call-told _ size load answer (λ i. small i .fits) done))
-    (λ c κs. (omega arith, omega (arith, call-caller _ (c .before .before .before .before .before .before .before .before .before .before .if1 .left) (c .before .before .before .before .before .before .before .load .ensures .0) (c .before .before .before .before .before .call-table .ensures)), omega (arith, first-small (call-brief _ _ _) (sym (c .before .before .before .before .before .call-table .ensures .ran .outcome) ∙ c .before .before .outcome .given .1))))
+    (λ c κs. (omega arith, omega (arith, call-caller _ (c .before .before .before .before .before .before .before .before .before .before .if1 .left) (c .before .before .before .before .before .before .before .load .ensures .0) (c .before .before .before .before .before .call-table .ensures)), omega (arith, brief-first (call-brief _ _ _) (sym (c .before .before .before .before .before .call-table .ensures .ran .outcome) ∙ c .before .before .outcome .given .1))))
     (λ c. search needs)
     (λ c κs. (omega (arith, number-small (call-brief _ _ _) (sym (c .before .before .before .before .call-table .ensures .ran .outcome) ∙ c .before .outcome2 .given .1)), omega (arith, call-caller _ (c .before .before .before .before .before .before .before .before .before .if1 .left) (c .before .before .before .before .before .before .load .ensures .0) (c .before .before .before .before .call-table .ensures)), omega arith))
     (λ c. ⊎-elim (λ z. ap length (z .6) ∙ z .3 .kept .1 .0) (λ z. ap length (z .1)) (c .before .if2 .came))

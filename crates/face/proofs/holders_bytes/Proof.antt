@@ -1,3 +1,4 @@
+-- src/lib.rt, holders_bytes: ListLent board table line list second r list′ second′
 use mathlib.Core.Path.{refl, sym, _∙_}
 use Rattle.tables.specs.Laws.Top.{top-at}
 use Rattle.face.specs.Laws.Face.{holders-first, holders-number, list-none, list-lent, list-kept}

@@ -25,17 +25,17 @@ use Rattle.sound.specs.Clauses.{sound}
 use Rattle.sound.specs.Laws.List.{sound-means}
 use Rattle.shape.specs.Laws.Absent.{header-tells}
 use Rattle.sound.specs.Laws.Holders.{wrong-length, holders-few, listed-unsound, listed-copy}
-use Rattle.sound.specs.Holders.{inMemory, holdersOf, looksOf, holdersOutcome, Listed}
+use Rattle.sound.specs.Holders.{inMemory, holdersOf, looksOf, holdersOutcome, HoldersListed}
 use Rattle.rules.specs.Rules.{Result, done, refused, check, callOn, bootK, bootOn, wordsAfter}
 use Rattle.rules.specs.Ran.{outcomeOf, Ran}
 use Rattle.rules.specs.Laws.Ran.{ran-refused, ran-as, refused-done, done-first, refused-number}
 use Rattle.services.specs.Laws.Boot.{boot-any, boot-length}
 use Rattle.rules.specs.declared.Answer.{Answer}
 use Rattle.rules.specs.Laws.Calls.{caller-small, answers-unsound}
-use Rattle.rules.specs.Calls.{Answers}
+use Rattle.rules.specs.Calls.{CallAnswers}
 use Rattle.rules.specs.Laws.Reads.{answers-stand}
 use Rattle.isolation.specs.Whole.{call-sound}
-use Rattle.face.specs.Face.{handed, packed, resultOf, secondAfter, bytesAfter, Lent, CallLent, ListLent}
+use Rattle.face.specs.Face.{handed, resultPacked, resultOf, secondAfter, bytesAfter, Lent, CallLent, ListLent}
 
 -- two results are equal: the result, and every byte
 pub lent-one : {caller : ℕ} {res : Result} {before : List ℕ} {r s : ℕ} {a b : List ℕ} → Lent caller res before r a → Lent caller res before s b → (r ≡ s) × (a ≡ b)
@@ -64,7 +64,7 @@ module _ (b : List ℕ) (h : length b ≡ 5128 → ⊥) where
 
 -- ── the exits of a function that writes the table ──
 module _ {c : ℕ} {res : Result} {a m : List ℕ} {o : Outcome} (ran : Ran res a o m) (b : List ℕ) {r : ℕ} where
-  lent-done : {v w : ℕ} {n : List ℕ} → o ≡ Done v w → r ≡ packed 0 c v → n ≡ bytesOf m → Lent c res b r n
+  lent-done : {v w : ℕ} {n : List ℕ} → o ≡ Done v w → r ≡ resultPacked 0 c v → n ≡ bytesOf m → Lent c res b r n
   unfolding resultOf outcomeOf bytesAfter wordsAfter
   lent-done q p e = record {
     result = p ∙ ap (resultOf c) (sym q ∙ ran .outcome);
@@ -75,7 +75,7 @@ module _ {c : ℕ} {res : Result} {a m : List ℕ} {o : Outcome} (ran : Ran res 
       go (done v w t) z = refl
       go (refused n) z = absurd (refused-done z)
 
-  lent-refused : {n : ℕ} → o ≡ Refused n → r ≡ packed n c 0 → Lent c res b r b
+  lent-refused : {n : ℕ} → o ≡ Refused n → r ≡ resultPacked n c 0 → Lent c res b r b
   unfolding resultOf outcomeOf bytesAfter
   lent-refused q p = record { result = p ∙ ap (resultOf c) (sym q ∙ ran .outcome); bytes = go res (sym (ran .outcome) ∙ q) }
     where
@@ -111,7 +111,7 @@ boot-root base end {a} {m} {o} {v} {w} ran q = go (eqb (length a) 641) (ltb base
     go true false r = absurd (refused-done (sym (r .outcome) ∙ q))
     go false y r = absurd (refused-done (sym (r .outcome) ∙ q))
 
-pub boot-none : (b : List ℕ) (base end : ℕ) {r : ℕ} → (length b ≡ 5128 → ⊥) → r ≡ packed 1 0 0 → Lent 0 (bootOn (handed b) base end) b r b
+pub boot-none : (b : List ℕ) (base end : ℕ) {r : ℕ} → (length b ≡ 5128 → ⊥) → r ≡ resultPacked 1 0 0 → Lent 0 (bootOn (handed b) base end) b r b
 boot-none b base end h p =
     lent-refused (ran-refused {l = b} (boot-length (handed b) base end (λ z. omega (arith, ap (λ (x : List ℕ). length x) (handed-none b h), z)))) b refl p
 
@@ -119,30 +119,30 @@ module _ (b : List ℕ) (base end : ℕ) {a m : List ℕ} {o : Outcome} (size : 
   any : bootOn (handed b) base end ≡ bootOn a base end
   any = boot-any a (handed b) base end zeros (ap length (sym (handed-is b size)) ∙ length-wordsOf b)
 
-  pub boot-lent : {v w r : ℕ} {n : List ℕ} → o ≡ Done v w → r ≡ packed 0 0 v → n ≡ bytesOf m → Lent 0 (bootOn (handed b) base end) b r n
+  pub boot-lent : {v w r : ℕ} {n : List ℕ} → o ≡ Done v w → r ≡ resultPacked 0 0 v → n ≡ bytesOf m → Lent 0 (bootOn (handed b) base end) b r n
   boot-lent q p e = lent-done (ran-as any ran) b q p e
 
-  pub boot-kept : {n r : ℕ} → o ≡ Refused n → r ≡ packed n 0 0 → Lent 0 (bootOn (handed b) base end) b r b
+  pub boot-kept : {n r : ℕ} → o ≡ Refused n → r ≡ resultPacked n 0 0 → Lent 0 (bootOn (handed b) base end) b r b
   boot-kept q p = lent-refused (ran-as any ran) b q p
 
 -- ── a call ──
-pub call-none : (board : Board) (b : List ℕ) {w s r : ℕ} → (length b ≡ 5128 → ⊥) → r ≡ packed 1 0 0 → CallLent board b w s r b s
+pub call-none : (board : Board) (b : List ℕ) {w s r : ℕ} → (length b ≡ 5128 → ⊥) → r ≡ resultPacked 1 0 0 → CallLent board b w s r b s
 unfolding secondAfter outcomeOf
 call-none board b {w} {s} h p =
     let n = answers-unsound board (handed b) w (handed-unsound b h board) in
     record {
-      table = lent-refused (n .ran) b refl (p ∙ ap (λ (c : ℕ). packed 1 c 0) (n .caller));
+      table = lent-refused (n .ran) b refl (p ∙ ap (λ (c : ℕ). resultPacked 1 c 0) (n .caller));
       second = ap (secondAfter s) (n .ran .outcome);
     }
 
-module _ {board : Board} (b : List ℕ) {a m : List ℕ} {w : ℕ} {x : Answer} (size : length b ≡ 5128) (load : a ≡ wordsOf b) (h : Answers board a w x m) where
-  here : Answers board (handed b) w x m
-  here = subst (λ (l : List ℕ). Answers board l w x m) (load ∙ handed-is b size) h
+module _ {board : Board} (b : List ℕ) {a m : List ℕ} {w : ℕ} {x : Answer} (size : length b ≡ 5128) (load : a ≡ wordsOf b) (h : CallAnswers board a w x m) where
+  here : CallAnswers board (handed b) w x m
+  here = subst (λ (l : List ℕ). CallAnswers board l w x m) (load ∙ handed-is b size) h
 
-  pub call-lent : {s r v y : ℕ} {n : List ℕ} {s′ : ℕ} → x .outcome ≡ Done v y → r ≡ packed 0 (x .caller .0) v → n ≡ bytesOf m → s′ ≡ y → CallLent board b w s r n s′
+  pub call-lent : {s r v y : ℕ} {n : List ℕ} {s′ : ℕ} → x .outcome ≡ Done v y → r ≡ resultPacked 0 (x .caller .0) v → n ≡ bytesOf m → s′ ≡ y → CallLent board b w s r n s′
   unfolding secondAfter
   call-lent {s} {v = v} q p e z = record {
-    table = lent-done (here .ran) b q (p ∙ ap (λ (c : ℕ). packed 0 c v) (here .caller)) e;
+    table = lent-done (here .ran) b q (p ∙ ap (λ (c : ℕ). resultPacked 0 c v) (here .caller)) e;
     second = z ∙ ap (secondAfter s) (sym q ∙ here .ran .outcome);
   }
 
@@ -165,10 +165,10 @@ module _ {board : Board} (b : List ℕ) {a m : List ℕ} {w : ℕ} {x : Answer} 
       (ap bytesOf (answers-stand (subst Words (sym load) (words-small b small)) h q ∙ load)
       ∙ bytes-words b size (λ i _. small i))
 
-  pub call-kept : {s r n : ℕ} → x .outcome ≡ Refused n → r ≡ packed n (x .caller .0) 0 → CallLent board b w s r b s
+  pub call-kept : {s r n : ℕ} → x .outcome ≡ Refused n → r ≡ resultPacked n (x .caller .0) 0 → CallLent board b w s r b s
   unfolding secondAfter
   call-kept {s} {n = n} q p = record {
-    table = lent-refused (here .ran) b q (p ∙ ap (λ (c : ℕ). packed n c 0) (here .caller));
+    table = lent-refused (here .ran) b q (p ∙ ap (λ (c : ℕ). resultPacked n c 0) (here .caller));
     second = ap (secondAfter s) (sym q ∙ here .ran .outcome);
   }
 
@@ -197,17 +197,17 @@ module _ (board : Board) (t : List ℕ) (l size : ℕ) where
       go true false z q = let e = refused-number q in omega arith
       go false y z q = let e = refused-number q in omega arith
 
-pub list-none : (board : Board) (b : List ℕ) {l : ℕ} {list : List ℕ} {s r : ℕ} → (length b ≡ 5128 → ⊥) → r ≡ packed 1 0 0 → ListLent board b l list s r list s
+pub list-none : (board : Board) (b : List ℕ) {l : ℕ} {list : List ℕ} {s r : ℕ} → (length b ≡ 5128 → ⊥) → r ≡ resultPacked 1 0 0 → ListLent board b l list s r list s
 unfolding resultOf secondAfter
 list-none board b {l} {list} {s} h p =
-    let n : Listed board (handed b) l list (Refused 1) list = listed-unsound (handed-unsound b h board) in
+    let n : HoldersListed board (handed b) l list (Refused 1) list = listed-unsound (handed-unsound b h board) in
     record { result = p ∙ ap (resultOf 0) (n .outcome); bytes = n .bytes; second = ap (secondAfter s) (n .outcome) }
 
-module _ {board : Board} (b : List ℕ) {a : List ℕ} {l : ℕ} {list list′ : List ℕ} {o : Outcome} (size : length b ≡ 5128) (load : a ≡ wordsOf b) (h : Listed board a l list o list′) where
-  listed : Listed board (handed b) l list o list′
+module _ {board : Board} (b : List ℕ) {a : List ℕ} {l : ℕ} {list list′ : List ℕ} {o : Outcome} (size : length b ≡ 5128) (load : a ≡ wordsOf b) (h : HoldersListed board a l list o list′) where
+  listed : HoldersListed board (handed b) l list o list′
   listed = listed-copy (load ∙ handed-is b size) h
 
-  pub list-lent : {s r v y s′ : ℕ} → o ≡ Done v y → r ≡ packed 0 0 v → s′ ≡ y → ListLent board b l list s r list′ s′
+  pub list-lent : {s r v y s′ : ℕ} → o ≡ Done v y → r ≡ resultPacked 0 0 v → s′ ≡ y → ListLent board b l list s r list′ s′
   unfolding resultOf secondAfter
   list-lent {s} q p z = record {
     result = p ∙ ap (resultOf 0) (sym q ∙ listed .outcome);
@@ -215,7 +215,7 @@ module _ {board : Board} (b : List ℕ) {a : List ℕ} {l : ℕ} {list list′ :
     second = z ∙ ap (secondAfter s) (sym q ∙ listed .outcome);
   }
 
-  pub list-kept : {s r n : ℕ} → o ≡ Refused n → r ≡ packed n 0 0 → ListLent board b l list s r list′ s
+  pub list-kept : {s r n : ℕ} → o ≡ Refused n → r ≡ resultPacked n 0 0 → ListLent board b l list s r list′ s
   unfolding resultOf secondAfter
   list-kept {s} q p = record {
     result = p ∙ ap (resultOf 0) (sym q ∙ listed .outcome);

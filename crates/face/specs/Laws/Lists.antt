@@ -20,19 +20,19 @@ use Rattle.holders.specs.Listing.{listOutcome, slotOutcome, piecesOutcome, Piec
 use Rattle.holders.specs.Laws.Listing.{pieces-unsound, pieces-copy, entry-few}
 use Rattle.runs.specs.declared.Run.{Run}
 use Rattle.runs.specs.declared.listing.Plan.{Plan}
-use Rattle.runs.specs.Runs.{runsOf, runsOutcome, Listed}
+use Rattle.runs.specs.Runs.{runsOf, runsOutcome, RunsListed}
 use Rattle.runs.specs.Listing.{planOf, marksIn, refusal, writing}
 use Rattle.runs.specs.Laws.Listing.{plan-unsound, runs-small, MarksOf}
 use Rattle.face.specs.Face.{handed, resultOf}
 use Rattle.face.specs.Laws.Face.{handed-is, handed-unsound}
-use Rattle.face.specs.Lists.{Small, readyFrom, readyOf, leftOf, Handed, PiecesLent}
+use Rattle.face.specs.Lists.{Small, readyFrom, readyOf, leftOf, RunsLent, PiecesLent}
 
 -- two results are equal: the answer, and every record
-pub handed-one : {board : Board} {b : List ℕ} {before : List Run} {r s : ℕ} {a c : List Run} → Handed board b before r a → Handed board b before s c → (r ≡ s) × (a ≡ c)
+pub handed-one : {board : Board} {b : List ℕ} {before : List Run} {r s : ℕ} {a c : List Run} → RunsLent board b before r a → RunsLent board b before s c → (r ≡ s) × (a ≡ c)
 handed-one x y = (x .answer ∙ sym (y .answer), x .records ∙ sym (y .records))
 
 -- so the records are the runs of the words that were handed over
-pub handed-listed : {board : Board} {b : List ℕ} {before after : List Run} {r : ℕ} → Handed board b before r after → Listed board (handed b) before (runsOutcome board (handed b) (length before)) after
+pub handed-listed : {board : Board} {b : List ℕ} {before after : List Run} {r : ℕ} → RunsLent board b before r after → RunsListed board (handed b) before (runsOutcome board (handed b) (length before)) after
 handed-listed h = record { outcome = refl; records = h .records }
 
 -- ── the exits of the code ──

@@ -23,7 +23,7 @@ use Rattle.rules.specs.Rules.{Result, done, refused, callOn, bootOn, wordsAfter
 use Rattle.rules.specs.Ran.{outcomeOf, Ran}
 use Rattle.rules.specs.Laws.Ran.{refused-done, refused-number}
 use Rattle.rules.specs.declared.Answer.{Answer}
-use Rattle.rules.specs.Calls.{callerOf, Answers}
+use Rattle.rules.specs.Calls.{callerOf, CallAnswers}
 use Rattle.rules.specs.Laws.Reads.{answers-stand}
 use Rattle.services.specs.Laws.Boot.{boot-any}
 use Rattle.isolation.specs.Laws.Fits.{right-fit}
@@ -36,7 +36,7 @@ use Rattle.sheet.specs.Bytes.{handedSheet, sheetBytes, sheetBytesAfter}
 use Rattle.sheet.specs.Laws.Rules.{call-1, call-20, call-else, boot-1, boot-20, boot-else}
 use Rattle.sheet.specs.Laws.Touched.{call-touched}
 use Rattle.sheet.specs.Laws.Bytes.{matches-means, sheet-bytes, short-handed, handed-length, matches-length}
-use Rattle.face.specs.Face.{handed, packed, resultOf, secondAfter, bytesAfter, Lent, CallLent}
+use Rattle.face.specs.Face.{handed, resultPacked, resultOf, secondAfter, bytesAfter, Lent, CallLent}
 use Rattle.face.specs.Laws.Face.{lent-one, handed-is, handed-unsound, handed-none, boot-lent, call-lent, call-stands, call-kept}
 use Rattle.face.specs.Sheets.{BothLent, BootSheetLent, CallSheetLent}
 
@@ -53,7 +53,7 @@ call-sheet-lent-one x y =
     (r, bytes, sheet, x .second ∙ sym (y .second))
 
 -- a refusal changes neither
-both-refused : {n m : ℕ} {res : Result} {b s : List ℕ} {r : ℕ} → res ≡ refused m → r ≡ packed m n 0 → BothLent n res b s r b s
+both-refused : {n m : ℕ} {res : Result} {b s : List ℕ} {r : ℕ} → res ≡ refused m → r ≡ resultPacked m n 0 → BothLent n res b s r b s
 unfolding resultOf outcomeOf bytesAfter sheetBytesAfter
 both-refused {n} {m} {res} {b} {s} e q = record {
   table = record { result = q ∙ ap (λ (x : Result). resultOf n (outcomeOf x)) (sym e); bytes = ap (bytesAfter b) (sym e) };
@@ -102,14 +102,14 @@ pub booted-right : (base end : ℕ) {a m : List ℕ} {o : Outcome} {v y : ℕ} �
 booted-right base end {a} ran q = right-done ran q (λ v y t z. boot-right a base end z)
 
 module _ (b s : List ℕ) (base end : ℕ) where
-  pub boot-short : {r : ℕ} → (length b ≡ 5128 → ⊥) → r ≡ packed 1 0 0 → BootSheetLent b s base end r b s
+  pub boot-short : {r : ℕ} → (length b ≡ 5128 → ⊥) → r ≡ resultPacked 1 0 0 → BootSheetLent b s base end r b s
   boot-short h q = both-refused (boot-1 _ _ base end (λ z. omega (arith, ap (λ (x : List ℕ). length x) (handed-none b h), z))) q
 
   module _ (size : length b ≡ 5128) where
     long : length (handed b) ≡ 641
     long = ap length (sym (handed-is b size)) ∙ length-wordsOf b
 
-    pub boot-no-sheet : {r : ℕ} → (length s ≡ 256 → ⊥) → r ≡ packed 20 0 0 → BootSheetLent b s base end r b s
+    pub boot-no-sheet : {r : ℕ} → (length s ≡ 256 → ⊥) → r ≡ resultPacked 20 0 0 → BootSheetLent b s base end r b s
     boot-no-sheet h q = both-refused (boot-20 _ _ base end long (short-handed s h)) q
 
     module _ (h : length s ≡ 256) {a m : List ℕ} {o : Outcome} (zeros : length a ≡ 641) (ran : Ran (bootOn a base end) a o m) where
@@ -117,7 +117,7 @@ module _ (b s : List ℕ) (base end : ℕ) where
       same-boot : bootSheetOn (handed b) (handedSheet s) base end ≡ bootOn (handed b) base end
       same-boot = boot-else _ _ base end long (handed-length s h)
 
-      pub boot-both : {v y r : ℕ} {n u : List ℕ} → o ≡ Done v y → r ≡ packed 0 0 v → n ≡ bytesOf m → u ≡ sheetBytes (sheetOf (view m)) → BootSheetLent b s base end r n u
+      pub boot-both : {v y r : ℕ} {n u : List ℕ} → o ≡ Done v y → r ≡ resultPacked 0 0 v → n ≡ bytesOf m → u ≡ sheetBytes (sheetOf (view m)) → BootSheetLent b s base end r n u
       boot-both {r = r} {n} q p e d =
           let also : bootSheetOn (handed b) (handedSheet s) base end ≡ bootOn a base end = same-boot ∙ boot-any a (handed b) base end zeros long in
           record {
@@ -125,7 +125,7 @@ module _ (b s : List ℕ) (base end : ℕ) where
             sheet = both-done s ran q (λ v y t z. boot-right a base end z) d ∙ ap (sheetBytesAfter s) (sym also);
           }
 
-      pub boot-neither : {n r : ℕ} → o ≡ Refused n → r ≡ packed n 0 0 → BootSheetLent b s base end r b s
+      pub boot-neither : {n r : ℕ} → o ≡ Refused n → r ≡ resultPacked n 0 0 → BootSheetLent b s base end r b s
       boot-neither {n} q p =
           let also : bootSheetOn (handed b) (handedSheet s) base end ≡ bootOn a base end = same-boot ∙ boot-any a (handed b) base end zeros long in
           both-refused (also ∙ refused-result (sym (ran .outcome) ∙ q)) p
@@ -141,37 +141,37 @@ module _ (board : Board) (b : List ℕ) {a : List ℕ} (load : a ≡ wordsOf b) 
       let h = sound-means board a .0 z in
       sound-right (sound-canon loaded-words h) h
 
-  pub called-right : {w : ℕ} {m : List ℕ} {x : Answer} {f g : ℕ} → Answers board a w x m → x .outcome ≡ Done f g → Right (view m)
+  pub called-right : {w : ℕ} {m : List ℕ} {x : Answer} {f g : ℕ} → CallAnswers board a w x m → x .outcome ≡ Done f g → Right (view m)
   called-right {w} h q = right-done (h .ran) q (λ v y t e. call-right board a w loaded-words e)
 
 loaded-is : (b : List ℕ) {a : List ℕ} → length b ≡ 5128 → a ≡ wordsOf b → a ≡ handed b
 loaded-is b size load = load ∙ handed-is b size
 
 module _ (board : Board) (b s : List ℕ) (w : ℕ) where
-  call-refused : {v n r : ℕ} → callSheetOn board (handed b) (handedSheet s) w ≡ refused n → r ≡ packed n (callerOf board (handed b)) 0 → CallSheetLent board b s w v r b s v
+  call-refused : {v n r : ℕ} → callSheetOn board (handed b) (handedSheet s) w ≡ refused n → r ≡ resultPacked n (callerOf board (handed b)) 0 → CallSheetLent board b s w v r b s v
   unfolding secondAfter outcomeOf
   call-refused {v} e q = record { both = both-refused e q; second = ap (λ (x : Result). secondAfter v (outcomeOf x)) (sym e) }
 
-  unsound : {v r : ℕ} → sound board (handed b) ≡ false → r ≡ packed 1 0 0 → CallSheetLent board b s w v r b s v
+  unsound : {v r : ℕ} → sound board (handed b) ≡ false → r ≡ resultPacked 1 0 0 → CallSheetLent board b s w v r b s v
   unfolding callerOf
   unsound z q = call-refused (call-1 board _ _ w z) (q ∙ rw z refl)
 
-  pub call-short : {v r : ℕ} → (length b ≡ 5128 → ⊥) → r ≡ packed 1 0 0 → CallSheetLent board b s w v r b s v
+  pub call-short : {v r : ℕ} → (length b ≡ 5128 → ⊥) → r ≡ resultPacked 1 0 0 → CallSheetLent board b s w v r b s v
   call-short h q = unsound (handed-unsound b h board) q
 
   module _ {a : List ℕ} (size : length b ≡ 5128) (load : a ≡ wordsOf b) where
     abbrev is : a ≡ handed b
     is = loaded-is b size load
 
-    pub call-unsound : {v r : ℕ} → sound board a ≡ false → r ≡ packed 1 0 0 → CallSheetLent board b s w v r b s v
+    pub call-unsound : {v r : ℕ} → sound board a ≡ false → r ≡ resultPacked 1 0 0 → CallSheetLent board b s w v r b s v
     call-unsound z q = unsound (sym (ap (sound board) is) ∙ z) q
 
-    pub call-mismatch : {v r c : ℕ} → sound board a ≡ true → matches (handedSheet s) (view a) ≡ false → view a .k .current ≡ c → r ≡ packed 20 c 0 → CallSheetLent board b s w v r b s v
+    pub call-mismatch : {v r c : ℕ} → sound board a ≡ true → matches (handedSheet s) (view a) ≡ false → view a .k .current ≡ c → r ≡ resultPacked 20 c 0 → CallSheetLent board b s w v r b s v
     unfolding callerOf
     call-mismatch z y e q =
         let z′ = sym (ap (sound board) is) ∙ z in
         let y′ = ap (λ (l : List ℕ). matches (handedSheet s) (view l)) (sym is) ∙ y in
-        call-refused (call-20 board _ _ w z′ y′) (q ∙ ap (λ (n : ℕ). packed 20 n 0) (sym e ∙ ap (λ (l : List ℕ). view l .k .current) is) ∙ rw z′ refl)
+        call-refused (call-20 board _ _ w z′ y′) (q ∙ ap (λ (n : ℕ). resultPacked 20 n 0) (sym e ∙ ap (λ (l : List ℕ). view l .k .current) is) ∙ rw z′ refl)
 
     -- the sheet is the table's: as without one
     module _ (z : sound board a ≡ true) (y : matches (handedSheet s) (view a) ≡ true) where
@@ -184,10 +184,10 @@ module _ (board : Board) (b s : List ℕ) (w : ℕ) where
         second = c .second ∙ ap (λ (x : Result). secondAfter v (outcomeOf x)) (sym same-call);
       }
 
-      module _ {m : List ℕ} {x : Answer} (h : Answers board a w x m) where
-        pub call-neither : {v r n : ℕ} → x .outcome ≡ Refused n → r ≡ packed n (x .caller .0) 0 → CallSheetLent board b s w v r b s v
+      module _ {m : List ℕ} {x : Answer} (h : CallAnswers board a w x m) where
+        pub call-neither : {v r n : ℕ} → x .outcome ≡ Refused n → r ≡ resultPacked n (x .caller .0) 0 → CallSheetLent board b s w v r b s v
         unfolding sheetBytesAfter
-        call-neither q p = beside (call-kept b size load h q p) (sym (ap (sheetBytesAfter s) (refused-result (sym (subst (λ (l : List ℕ). Answers board l w x m) is h .ran .outcome) ∙ q))))
+        call-neither q p = beside (call-kept b size load h q p) (sym (ap (sheetBytesAfter s) (refused-result (sym (subst (λ (l : List ℕ). CallAnswers board l w x m) is h .ran .outcome) ∙ q))))
 
         module _ (small : (i : ℕ) → getD b i 0 < 256) {f g : ℕ} (q : x .outcome ≡ Done f g) where
           -- as it was where every word is as it was; else with the words of those put that the call touched
@@ -215,7 +215,7 @@ module _ (board : Board) (b s : List ℕ) (w : ℕ) where
               go true k = call-stands b size load h small k
               go false k = refl
 
-          pub call-both : ((i : ℕ) → getD s i 0 < 256) → {v r v′ : ℕ} {n u : List ℕ} → r ≡ packed 0 (x .caller .0) f → n ≡ cond (x .stands) b (bytesOf m)
+          pub call-both : ((i : ℕ) → getD s i 0 < 256) → {v r v′ : ℕ} {n u : List ℕ} → r ≡ resultPacked 0 (x .caller .0) f → n ≡ cond (x .stands) b (bytesOf m)
               → {whose : Whose} → (whose ≡ touched (view a .k) w) × Named whose → u ≡ cond (x .stands) s (sheetKept whose (view m) s) → v′ ≡ g → CallSheetLent board b s w v r n u v′
           call-both bytes p e (r, named) d k =
               beside (call-lent b size load h q p (table-after e) k)

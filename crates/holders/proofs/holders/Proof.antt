@@ -1,3 +1,4 @@
+-- src/lib.rt, holders: HoldersListed board t line list r list′
 use Rattle.tables.specs.Laws.Top.{top-16}
 use Rattle.sound.specs.Laws.Holders.{wrong-length, listed-unsound, listed-copy}
 use borrow.Author.Needs.{needs}

@@ -1,3 +1,4 @@
+-- src/lib.rt, holders_table: HoldersListed board t line list r list′
 use mathlib.Core.Path.{sym, _∙_}
 use borrow.Author.Tests.{not-true}
 use Rattle.decide.specs.Laws.Decide.{passed}

@@ -1,3 +1,4 @@
+-- src/lib.rt, look: (r .heir .0 ≡ heir (view t .k) (l .0) (p .0)) × (r .heir .0 < 16) × (r .count ≡ lookFor (view t .k) (l .0) (p .0) .count)
 use Rattle.tables.specs.Laws.Search.{lowest-some}
 use Rattle.tables.specs.Laws.Answers.{looked-slot, looked-count}
 use Rattle.sound.specs.Laws.Holders.{heir-none, heir-given, heir-empty}

@@ -1,3 +1,4 @@
+-- src/lib.rt, write_holders: Writes (view t .k) (l .0) list r list′
 use Rattle.sound.specs.Laws.Holders.{writes-from}
 use borrow.Author.Needs.{needs}
 use Rattle.holders.proofs.write_holders.Statement.{statement}

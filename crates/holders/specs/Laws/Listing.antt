@@ -10,7 +10,7 @@ use Rattle.words.specs.declared.slot_word.SlotFields.{SlotFields}
 use Rattle.shapes.specs.declared.Board.{Board}
 use Rattle.shapes.specs.declared.Board.the-variants.{V7, V8}
 use Rattle.shapes.specs.Laws.Halves.{pieces-few}
-use Rattle.shapes.specs.Pieces.{piecesFor, CanList, Listed}
+use Rattle.shapes.specs.Pieces.{piecesFor, CanList, ShapesListed}
 use Rattle.tables.specs.State.{none, some, Entry}
 use Rattle.tables.specs.Laws.State.{none-of, not-none, same-at}
 use Rattle.tables.specs.View.{entryOf, entryIn, slotAt, view}
@@ -45,7 +45,7 @@ module _ (b : Board) {l : List ℕ} {p i : ℕ} {f : SlotFields} (v : Seen l p i
     unfolding slotOutcome slotWords listOutcome listWords
     slot-short h = rw there (record { outcome = rw (lt-leb _ _ h) refl; words = rw (lt-leb _ _ h) refl })
 
-    pub slot-listed : {list : List ℕ} {n : ℕ} {after : List ℕ} → length (piecesFor b (f .start .0) (f .end .0)) ≤ length list → Listed (piecesFor b (f .start .0) (f .end .0)) list n after
+    pub slot-listed : {list : List ℕ} {n : ℕ} {after : List ℕ} → length (piecesFor b (f .start .0) (f .end .0)) ≤ length list → ShapesListed (piecesFor b (f .start .0) (f .end .0)) list n after
         → SlotListed b (view l .k .slot p i) list (Done n 0) after
     unfolding slotOutcome slotWords listOutcome listWords
     slot-listed room made = rw there (record { outcome = rw (le-leb _ _ room) (ap (λ (n : ℕ). Done n 0) (made .number)); words = rw (le-leb _ _ room) (made .words) })

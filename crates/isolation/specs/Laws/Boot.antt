@@ -6,7 +6,7 @@ use mathlib.Core.Logic.{_⊎_, inl, inr, _↔_}
 use Prim.Native.Nat.{ℕ, _^_, _≤_, _<_}
 use native.Mathlib.Omega.{arith}
 use lib.ListN.{length}
-use Rattle.loops.specs.Climb.{at-root}
+use Rattle.loops.specs.Loops.{at-root}
 use Rattle.tables.specs.State.{none, some, Entry, Area, nowhere, Table, Same, rootEntry}
 use Rattle.tables.specs.Laws.State.{same, some-inj, not-none, sameA}
 use Rattle.tables.specs.Update.{upd}
@@ -20,7 +20,7 @@ use Rattle.rules.specs.Rules.{done, bootK, bootOn}
 use Rattle.isolation.specs.Laws.Settled.{settle-right}
 use Rattle.isolation.specs.Ladder.{Answers, finished, Ends}
 use Rattle.isolation.specs.Laws.Ladder.{ends, check-answers}
-use Rattle.isolation.specs.Boot.{bootLadder}
+use Rattle.isolation.specs.Ladders.{bootLadder}
 
 module _ (base end : ℕ) where
   slot-from : (p i : ℕ) (e : Entry) → bootK base end .slot p i ≡ some e → (p ≡ 0) × (i ≡ 0) × Same e (rootEntry base end)

@@ -17,7 +17,7 @@ use Rattle.sound.specs.Whole.{Right}
 use Rattle.rules.specs.Rules.{Result, ownOrChild, freeEntry, areaOf}
 use Rattle.isolation.specs.Ladder.{Ladder, Answers}
 use Rattle.isolation.specs.Laws.Ladder.{check-answers, need-answers}
-use Rattle.isolation.specs.Checks.{OwnOrChild, FreeSlot, freeLadder}
+use Rattle.isolation.specs.Ladders.{OwnOrChild, FreeSlot, freeLadder}
 
 -- 4, 5, 6: slot s of the caller holds entry e, which is open and not given
 pub record FreeEntry (k : K) (s : ℕ) (e : Entry) : Type 0 where

@@ -4,7 +4,7 @@ use mathlib.Core.Logic.{_⊎_, inl, inr, _↔_}
 use mathlib.Core.Bool.{Bool, true, false, cond, _||_, or-false, false≢true}
 use Prim.Native.Nat.{ℕ, _+_, _<_}
 use native.Mathlib.Omega.{arith}
-use Rattle.loops.specs.Count.{count}
+use Rattle.loops.specs.Loops.{count}
 use Rattle.loops.specs.Laws.Count.{count-ext, count-apart}
 use Rattle.tables.specs.State.{Opt, none, some, Entry, Area, K, Table, givenTo}
 use Rattle.tables.specs.Search.{isSome, present}
@@ -21,7 +21,7 @@ use Rattle.isolation.specs.Ladder.{Answers, finished, Ends}
 use Rattle.isolation.specs.Laws.Ladder.{ends, check-answers}
 use Rattle.isolation.specs.Laws.Checks.{is-child-means}
 use Rattle.isolation.specs.Laws.Remove.{Goes, freed-at, remove-right}
-use Rattle.isolation.specs.ClearOut.{clearLadder}
+use Rattle.isolation.specs.Ladders.{clearLadder}
 
 -- ── the branch of a child of the caller goes ──
 module _ {k : K} (h : Core k) where

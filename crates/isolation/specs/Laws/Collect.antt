@@ -15,13 +15,12 @@ use Rattle.sound.specs.Whole.{Right}
 use Rattle.sound.specs.Laws.Means.{eq-means, lt-means, and-means, not-means, all-means}
 use Rattle.sound.specs.Laws.MeansEntries.{is-some-means}
 use Rattle.rules.specs.Rules.{collectK, done, collect, vacant}
-use Rattle.isolation.specs.Checks.{OwnOrChild}
+use Rattle.isolation.specs.Ladders.{OwnOrChild, Empty, collectLadder}
 use Rattle.isolation.specs.Laws.Checks.{is-none-means, own-means}
 use Rattle.isolation.specs.Laws.Keep.{whole-at}
 use Rattle.isolation.specs.Laws.Settled.{right-loads, settle-right}
 use Rattle.isolation.specs.Ladder.{Answers, finished, Ends}
 use Rattle.isolation.specs.Laws.Ladder.{ends, check-answers}
-use Rattle.isolation.specs.Collect.{Empty, collectLadder}
 
 -- what checks 3 (who), 4 (present) and 15 (empty, other) say
 pub record CollectOk (k : K) (p j : ℕ) : Type 0 where

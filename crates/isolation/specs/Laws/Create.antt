@@ -4,7 +4,7 @@ use mathlib.Core.Logic.{inl, ⊎-elim, _↔_}
 use mathlib.Core.Bool.{true}
 use Prim.Native.Nat.{ℕ, _<_}
 use native.Mathlib.Omega.{arith}
-use Rattle.loops.specs.Climb.{Reaches, by-step}
+use Rattle.loops.specs.Loops.{Reaches, by-step}
 use Rattle.loops.specs.Laws.Climb.{reaches-same}
 use Rattle.loops.specs.Laws.Pigeon.{climb-less}
 use Rattle.tables.specs.State.{none, some, Entry, K, Table}
@@ -24,7 +24,7 @@ use Rattle.isolation.specs.Laws.NewArea.{header-stays, was-absent, was-p
 use Rattle.isolation.specs.Laws.Settled.{right-loads, settle-right}
 use Rattle.isolation.specs.Ladder.{Answers, finished, Ends}
 use Rattle.isolation.specs.Laws.Ladder.{ends, check-answers, lowest-answers}
-use Rattle.isolation.specs.Create.{Absent, createLadder}
+use Rattle.isolation.specs.Ladders.{Absent, createLadder}
 
 -- what checks 4, 5, 6, 8, 9 and 18 say
 pub record CreateOk (k : K) (s n : ℕ) (e : Entry) : Type 0 where

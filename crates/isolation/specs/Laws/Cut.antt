@@ -20,11 +20,10 @@ use Rattle.isolation.specs.Ladder.{Answers, finished, Ends}
 use Rattle.isolation.specs.Laws.Ladder.{ends, check-answers, lowest-answers}
 use Rattle.isolation.specs.Laws.Two.{From, old, first, second, same-place, two-from, two-second}
 use Rattle.isolation.specs.Laws.Checks.{FreeEntry, free-answers, unset-means, free-means}
-use Rattle.isolation.specs.Checks.{FreeSlot}
+use Rattle.isolation.specs.Ladders.{FreeSlot, cutLadder}
 use Rattle.isolation.specs.Laws.Keep.{still}
-use Rattle.isolation.specs.Laws.Slots.{Fine, Stays, Came, slots-core, around-stays, part-fine, old-fine, old-came, came-equal}
+use Rattle.isolation.specs.Laws.Slots.{Fine, AroundStays, EntryCame, slots-core, around-stays, part-fine, old-fine, old-came, came-equal}
 use Rattle.isolation.specs.Laws.Written.{first-at, stays-at, given-stays, closed-stays}
-use Rattle.isolation.specs.Cut.{cutLadder}
 
 -- what checks 4, 5, 6 (entry), 7 (from, to), 8 (slot) and 18 (plain) say
 pub record CutOk (k : K) (s n m : ℕ) (e : Entry) : Type 0 where
@@ -50,7 +49,7 @@ module _ {k : K} {s n m : ℕ} {e : Entry} (h : Core k) (ok : CutOk k s n m e) w
   at-n : new (k .current) n ≡ some (startingAt e m)
   at-n = two-second (k .slot) (k .current) s _ (k .current) n _
 
-  around : (p : ℕ) (a : Entry) → Stays k new p a
+  around : (p : ℕ) (a : Entry) → AroundStays k new p a
   around = around-stays k (given-stays (ok .entry) (ok .slot) _ _)
 
   new-holds : (p l : ℕ) → Holds new p l → Holds (k .slot) p l
@@ -108,10 +107,10 @@ module _ {k : K} {s n m : ℕ} {e : Entry} (h : Core k) (ok : CutOk k s n m e) w
       go (first _ _ u) (second _ _ v) = let w = same (some-inj u) in let z = same (some-inj v) in absurd (omega arith)
       go (second _ _ u) (first _ _ v) = let w = same (some-inj u) in let z = same (some-inj v) in absurd (omega arith)
 
-  came : (p i : ℕ) (a : Entry) → new p i ≡ some a → Came k new p a
+  came : (p i : ℕ) (a : Entry) → new p i ≡ some a → EntryCame k new p a
   came p i a u = go (inv p i a u)
     where
-      go : Fr p i a → Came k new p a
+      go : Fr p i a → EntryCame k new p a
       go (old v _ _) = old-came h v (around p a)
       go (first z _ v) =
           let w = same (some-inj v) in

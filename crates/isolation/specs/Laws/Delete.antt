@@ -18,7 +18,7 @@ use Rattle.isolation.specs.Ladder.{Answers, finished, Ends}
 use Rattle.isolation.specs.Laws.Ladder.{ends, check-answers}
 use Rattle.isolation.specs.Laws.Checks.{is-child-means}
 use Rattle.isolation.specs.Laws.Remove.{Goes, remove-right}
-use Rattle.isolation.specs.Delete.{deleteLadder}
+use Rattle.isolation.specs.Ladders.{deleteLadder}
 
 -- p goes alone
 goes-alone : {k : K} {p : ℕ} → Core k → Child k (k .current) p → ((q : ℕ) → Child k p q → ⊥) → Goes k p (λ q. eqb q p)

@@ -5,7 +5,8 @@ use mathlib.Core.List.{List}
 use mathlib.Core.Logic.{_↔_, Iff·rfl}
 use Prim.Native.Nat.{ℕ}
 use lib.Dec.{eqb}
-use Rattle.words.specs.Kind.{fieldsIn, zeroed-means}
+use Rattle.words.specs.Kind.{fieldsIn}
+use Rattle.words.specs.Laws.Kind.{zeroed-means}
 use Rattle.words.specs.Words.{call}
 use Rattle.words.specs.declared.call_word.CallFields.{CallFields}
 use Rattle.shapes.specs.declared.Board.{Board}
@@ -35,7 +36,7 @@ use Rattle.isolation.specs.Laws.Find.{find-exact}
 use Rattle.isolation.specs.Laws.Switch.{switch-exact}
 use Rattle.isolation.specs.Laws.ClearOut.{clear-exact}
 use Rattle.isolation.specs.Laws.Pack.{pack-exact}
-use Rattle.isolation.specs.Exact.{Unused, RegionCall, Known, numberedLadder, serveLadder, callLadder}
+use Rattle.isolation.specs.Ladders.{Unused, RegionCall, Known, numberedLadder, serveLadder, callLadder}
 
 -- ── 2: fields that a service doesn't use are zero ──
 -- a || b: b where a is false

@@ -23,7 +23,7 @@ use Rattle.sound.specs.Laws.Limit.{pieces-from, few-from, none-loaded, plain-fe
 use Rattle.sound.specs.Laws.Settled.{keep-some}
 use Rattle.sound.specs.Laws.Tests.{or-left}
 use Rattle.sound.specs.Whole.{Right, Few}
-use Rattle.rules.specs.Rules.{Result, done, refused, check, need, ownOrChild, elsewhere, ungive, zeroed, removeK, remove, create, delete, prepare, collect, give, take, cut, merge, load, unload, switch, branch, clearOut, pack, bootOn}
+use Rattle.rules.specs.Rules.{Result, done, refused, check, need, ownOrChild, elsewhere, ungive, recordsZero, removeK, remove, create, delete, prepare, collect, give, take, cut, merge, load, unload, switch, branch, clearOut, pack, bootOn}
 use Rattle.rules.specs.Laws.Unloaded.{unloaded-was}
 use Rattle.isolation.specs.Laws.Two.{two}
 use Rattle.isolation.specs.Ladder.{Ends}
@@ -86,7 +86,7 @@ module _ (b : Board) where
       go false (yes z) = rw (row-same (k .slot) (k .current) (λ j. ungive c (k .slot (k .current) j)) p i z, z) (ungive-needs c (k .slot (k .current) i))
       go false (no z) = rw (row-other (k .slot) (k .current) (λ j. ungive c (k .slot (k .current) j)) p i z) (omega arith)
 
-  without-was : (m : ℕ → Bool) (region : ℕ → ℕ → Opt ℕ) (q r i : ℕ) → zeroed m (λ j. none) region q r ≡ some i → region q r ≡ some i
+  without-was : (m : ℕ → Bool) (region : ℕ → ℕ → Opt ℕ) (q r i : ℕ) → recordsZero m (λ j. none) region q r ≡ some i → region q r ≡ some i
   without-was m region q r i = go (m q)
     where
       go : (y : Bool) → cond y (λ j. none) (region q) r ≡ some i → region q r ≡ some i

@@ -5,17 +5,17 @@ use Rattle.tables.specs.State.{Table}
 use Rattle.sound.specs.Laws.MeansEntries.{holds-means}
 use Rattle.sound.specs.Whole.{Right}
 use Rattle.rules.specs.Rules.{done, find}
-use Rattle.isolation.specs.Laws.Settled.{settled-same}
+use Rattle.isolation.specs.Laws.Settled.{right-same}
 use Rattle.isolation.specs.Ladder.{Answers, finished, Ends}
 use Rattle.isolation.specs.Laws.Ladder.{ends, check-answers, lowest-answers}
 use Rattle.isolation.specs.Laws.Checks.{own-means}
-use Rattle.isolation.specs.Find.{findLadder}
+use Rattle.isolation.specs.Ladders.{findLadder}
 
 module _ {t : Table} (h : Right t) (p l : ℕ) where
   pub find-exact : Answers (findLadder t p l) (find t p l)
   unfolding find
   find-exact =
-      rw (settled-same h)
+      rw (right-same h)
       (check-answers (own-means (t .k) p) λ _.
       lowest-answers (λ i. holds-means l (t .k .slot p i)) λ i _.
       finished)

@@ -18,14 +18,13 @@ use Rattle.sound.specs.Laws.MeansRegions.{within-means}
 use Rattle.rules.specs.Rules.{giveK, done, give}
 use Rattle.isolation.specs.Laws.Two.{From, old, first, second, same-place, two-from, two-second}
 use Rattle.isolation.specs.Laws.Checks.{FreeEntry, free-answers, unset-means, is-child-means, free-means}
-use Rattle.isolation.specs.Checks.{FreeSlot}
+use Rattle.isolation.specs.Ladders.{FreeSlot, giveLadder}
 use Rattle.isolation.specs.Laws.Keep.{child-other, still}
-use Rattle.isolation.specs.Laws.Slots.{Fine, Stays, Came, slots-core, around-stays, part-fine, old-fine, old-came, came-equal}
+use Rattle.isolation.specs.Laws.Slots.{Fine, AroundStays, EntryCame, slots-core, around-stays, part-fine, old-fine, old-came, came-equal}
 use Rattle.isolation.specs.Laws.Written.{first-at, stays-at, given-stays, closed-stays}
 use Rattle.isolation.specs.Laws.Settled.{right-loads, settle-right}
 use Rattle.isolation.specs.Ladder.{Answers, finished, Ends}
 use Rattle.isolation.specs.Laws.Ladder.{ends, check-answers, lowest-answers}
-use Rattle.isolation.specs.Give.{giveLadder}
 
 -- what checks 3 (child), 4, 5, 6 (entry), 8 (slot), 10 (rights) and 18 (plain) say
 pub record GiveOk (k : K) (c s n : ℕ) (r : Rights) (e : Entry) : Type 0 where
@@ -60,7 +59,7 @@ module _ {k : K} {c s n : ℕ} {r : Rights} {e : Entry} (mark : Bool) (h : Core 
       let w = same-place (k .slot) (ok .entry .at) v (refl, j) in
       ok .child .other (sym (o .given) ∙ w .given ∙ ok .entry .free)
 
-  around : (p : ℕ) (a : Entry) → Stays k new p a
+  around : (p : ℕ) (a : Entry) → AroundStays k new p a
   around = around-stays k (given-stays (ok .entry) (ok .slot) _ _)
 
   new-holds : (p l : ℕ) → Holds new p l → Holds (k .slot) p l ⊎ ((p ≡ c) × In l e)
@@ -147,7 +146,7 @@ module _ {k : K} {c s n : ℕ} {r : Rights} {e : Entry} (mark : Bool) (h : Core 
       → (o : Inside new (k .parent) p a) (q : Inside new (k .parent) p b) → o .i ≡ q .i → a .rights ≡ b .rights
   equal p i m a b y u v o q z = go (inv p i a u) (inv p m b v)
     where
-      was : {a : Entry} → p ≡ k .current → some (givenTo e c) ≡ some a → Came k new p a
+      was : {a : Entry} → p ≡ k .current → some (givenTo e c) ≡ some a → EntryCame k new p a
       was x v =
           let w = same (some-inj v) in
           let l = h .s5-range (k .current) s e (ok .entry .at) in

@@ -37,17 +37,17 @@ pub still : {slot new : ℕ → ℕ → Opt Entry} {p l : ℕ} (u : Holds slot p
 still u (i, v) = record { i = i; e = u .e; at = v; holds = u .holds }
 
 -- a is a part of e, with its rights
-pub record Part (a e : Entry) : Type 0 where
+pub record PartOf (a e : Entry) : Type 0 where
   pub from : e .start ≤ a .start
   pub to : a .stop ≤ e .stop
   pub rights : a .rights ≡ e .rights
 
-pub itself : (e : Entry) → Part e e
+pub itself : (e : Entry) → PartOf e e
 itself e = record { from = omega arith; to = omega arith; rights = refl }
 
 module _ {slot new : ℕ → ℕ → Opt Entry} {up now : ℕ → ℕ} {p : ℕ} (q : now p ≡ up p) where
   -- around a part of e is what was around e
-  unfoldable pub inside-at : {a e : Entry} → Part a e → (o : Inside slot up p e) → Has new (up p) (o .f) → Inside new now p a
+  unfoldable pub inside-at : {a e : Entry} → PartOf a e → (o : Inside slot up p e) → Has new (up p) (o .f) → Inside new now p a
   inside-at w o (i, u) = record { i = i; f = o .f; at = rw q u; given = o .given; from = omega arith; to = omega arith; sub = rw (w .rights) (o .sub) }
 
   -- a whole entry equals what it equalled

@@ -5,7 +5,8 @@ use mathlib.Core.List.{List}
 use mathlib.Core.Logic.{_⊎_, inl, inr}
 use Prim.Native.Nat.{ℕ}
 use native.Mathlib.Omega.{arith}
-use Rattle.words.specs.Kind.{fieldsIn, zeroed, Zeroed, zeroed-means}
+use Rattle.words.specs.Kind.{fieldsIn, zeroed, Zeroed}
+use Rattle.words.specs.Laws.Kind.{zeroed-means}
 use Rattle.words.specs.Words.{call}
 use Rattle.words.specs.declared.call_word.CallFields.{CallFields}
 use Rattle.shapes.specs.declared.Board.{Board}
@@ -27,7 +28,7 @@ use Rattle.rules.specs.Laws.Calls.{call-as}
 use Rattle.rules.specs.Laws.Each.{done-each, perform-at}
 use Rattle.rules.specs.Laws.Ran.{pass, there}
 use Rattle.isolation.specs.Lent.{LentWhole, taking}
-use Rattle.isolation.specs.Take.{Returned}
+use Rattle.isolation.specs.Ladders.{Returned}
 use Rattle.isolation.specs.Laws.Fits.{right-fit}
 use Rattle.isolation.specs.Laws.Ladder.{not-done}
 use Rattle.isolation.specs.Laws.Two.{same-place, two-old}

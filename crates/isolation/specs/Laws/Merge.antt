@@ -22,12 +22,12 @@ use Rattle.rules.specs.Rules.{done, unloaded, mergeK, merge}
 use Rattle.isolation.specs.Laws.Two.{From, old, first, second, same-place, two-from, two-first, two-old, two-other}
 use Rattle.isolation.specs.Laws.Checks.{FreeEntry}
 use Rattle.isolation.specs.Laws.Keep.{same-clear, Has, still, itself, inside-at}
-use Rattle.isolation.specs.Laws.Slots.{Fine, Stays, Came, slots-core, around-stays, old-fine, old-came, came-equal}
+use Rattle.isolation.specs.Laws.Slots.{Fine, AroundStays, EntryCame, slots-core, around-stays, old-fine, old-came, came-equal}
 use Rattle.isolation.specs.Laws.Settled.{right-loads, loads-unloaded, settle-right}
 use Rattle.isolation.specs.Ladder.{Answers, finished, Ends}
 use Rattle.isolation.specs.Laws.Ladder.{ends, check-answers, need-answers}
 use Rattle.isolation.specs.Laws.Fits.{right-fit}
-use Rattle.isolation.specs.Merge.{MayJoin, mergeLadder}
+use Rattle.isolation.specs.Ladders.{MayJoin, mergeLadder}
 
 -- what checks 4, 5, 6 (first, second), 11 (meet) and 12 (grant) say
 pub record MergeOk (k : K) (s t : ℕ) (e f : Entry) : Type 0 where
@@ -67,7 +67,7 @@ module _ {k : K} {s t : ℕ} {e f : Entry} (h : Core k) (ok : MergeOk k s t e f)
   other-stays : (p i : ℕ) (a : Entry) → k .slot p i ≡ some a → (Same a e → ⊥) → (Same a f → ⊥) → Has new p a
   other-stays = two-other (k .slot) (k .current) s _ (k .current) t _ (ok .first .at) (ok .second .at)
 
-  around : (p : ℕ) (a : Entry) → Stays k new p a
+  around : (p : ℕ) (a : Entry) → AroundStays k new p a
   around = around-stays k (λ p i a u n. other-stays p i a u (λ w. n (w .given ∙ ok .first .free)) (λ w. n (w .given ∙ ok .second .free)))
 
   -- a line of both is a line of e or of f
@@ -171,10 +171,10 @@ module _ {k : K} {s t : ℕ} {e f : Entry} (h : Core k) (ok : MergeOk k s t e f)
       go (first _ _ _) (second _ _ v) = not-none none refl v
 
   -- both has the rights of e, and its first line
-  came : (p i : ℕ) (a : Entry) → new p i ≡ some a → Came k new p a
+  came : (p i : ℕ) (a : Entry) → new p i ≡ some a → EntryCame k new p a
   came p i a u = go (inv p i a u)
     where
-      go : Fr p i a → Came k new p a
+      go : Fr p i a → EntryCame k new p a
       go (old v _ _) = old-came h v (around p a)
       go (first z _ v) =
           let w = same (some-inj v) in

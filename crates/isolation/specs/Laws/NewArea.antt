@@ -4,7 +4,7 @@ use mathlib.Core.Bool.{true, false≢true}
 use mathlib.Core.Logic.{_⊎_, inl, inr}
 use Prim.Native.Nat.{ℕ, _+_, _/_, _≤_, _<_}
 use native.Mathlib.Omega.{arith}
-use Rattle.loops.specs.Climb.{Reaches}
+use Rattle.loops.specs.Loops.{Reaches}
 use Rattle.tables.specs.State.{Opt, none, some, Entry, Area, nowhere, K}
 use Rattle.tables.specs.Laws.State.{some-inj, not-none, none-of, sameA}
 use Rattle.tables.specs.Update.{upd}
@@ -24,19 +24,19 @@ abbrev pub plus : K → ℕ → ℕ → Entry → ℕ → ℕ → Opt Area
 plus k p j e = upd (k .area) p j (some (areaOf e))
 
 -- q is present, by these areas
-abbrev pub There : (ℕ → ℕ → Opt Area) → ℕ → Type 0
-There area q = (a : Area) × (area q 0 ≡ some a)
+abbrev pub AreaThere : (ℕ → ℕ → Opt Area) → ℕ → Type 0
+AreaThere area q = (a : Area) × (area q 0 ≡ some a)
 
 -- what a new area asks, where the parents may change too
 pub record Joins (k : K) (p j : ℕ) (e : Entry) (up : ℕ → ℕ) : Type 0 where
   pub number : p < 16
   pub structure : j < 5
   pub same : (q : ℕ) → Present k q → up q ≡ k .parent q
-  pub header : There (plus k p j e) p
+  pub header : AreaThere (plus k p j e) p
   pub who : (k .current ≡ up p) ⊎ ((k .current ≡ p) × (0 < j))
   pub orphan : (q : ℕ) → plus k p j e q 0 ≡ none → up q ≡ 0
-  pub parent : (q : ℕ) → There (plus k p j e) q → There (plus k p j e) (up q)
-  pub walk : (q : ℕ) → There (plus k p j e) q → Reaches up 15 q
+  pub parent : (q : ℕ) → AreaThere (plus k p j e) q → AreaThere (plus k p j e) (up q)
+  pub walk : (q : ℕ) → AreaThere (plus k p j e) q → Reaches up 15 q
 
 -- an area is the new one or an old one
 data From (k : K) (p j : ℕ) (e : Entry) (q i : ℕ) (a : Area) : Type 0 where
@@ -54,7 +54,7 @@ module _ {k : K} {s p j : ℕ} {e : Entry} (f : FreeArea k s p j e) where
   pub area-stays : (q i : ℕ) (a : Area) → k .area q i ≡ some a → plus k p j e q i ≡ some a
   area-stays q i a u = upd-other (k .area) p j (some (areaOf e)) q i (λ z. not-none (k .area p j) (f .absent) (rw (z .0, z .1) at u)) ∙ u
 
-  pub header-stays : (q : ℕ) → Present k q → There (plus k p j e) q
+  pub header-stays : (q : ℕ) → Present k q → AreaThere (plus k p j e) q
   header-stays q (a, u) = (a, area-stays q 0 a u)
 
   -- who is absent was absent
@@ -62,7 +62,7 @@ module _ {k : K} {s p j : ℕ} {e : Entry} (f : FreeArea k s p j e) where
   was-absent q z = none-of (k .area q 0) (λ a u. not-none (plus k p j e q 0) z (area-stays q 0 a u))
 
   -- who is present was present, or is p with its header
-  pub was-present : (q : ℕ) → There (plus k p j e) q → Present k q ⊎ ((q ≡ p) × (j ≡ 0))
+  pub was-present : (q : ℕ) → AreaThere (plus k p j e) q → Present k q ⊎ ((q ≡ p) × (j ≡ 0))
   was-present q (a, u) = go (from k p j e q 0 a u)
     where
       go : From k p j e q 0 a → Present k q ⊎ ((q ≡ p) × (j ≡ 0))
@@ -74,7 +74,7 @@ module _ {k : K} {s p j : ℕ} {e : Entry} (f : FreeArea k s p j e) where
     range q i a (was v) = h .s2-range q i a v
     range q i a (now z y _) = rw (z, y) (t .number, t .structure)
 
-    owner : (q i : ℕ) (a : Area) → From k p j e q i a → There (plus k p j e) q
+    owner : (q i : ℕ) (a : Area) → From k p j e q i a → AreaThere (plus k p j e) q
     owner q i a (was v) = header-stays q (h .s2-absent q i a v)
     owner q i a (now z _ _) = rw z (t .header)
 

@@ -22,11 +22,10 @@ use Rattle.rules.specs.Laws.Ran.{pass}
 use Rattle.isolation.specs.Laws.Settled.{Loads, settle-right}
 use Rattle.isolation.specs.Ladder.{Answers, finished, Ends}
 use Rattle.isolation.specs.Laws.Ladder.{ends, check-answers}
-use Rattle.isolation.specs.Checks.{OwnOrChild}
+use Rattle.isolation.specs.Ladders.{OwnOrChild, packLadder}
 use Rattle.isolation.specs.Laws.Checks.{own-means}
 use Rattle.isolation.specs.Laws.Keep.{given-child, Has, still, itself}
-use Rattle.isolation.specs.Laws.Slots.{Fine, Stays, Came, slots-core, whole-stays, part-fine, old-came, came-equal}
-use Rattle.isolation.specs.Pack.{packLadder}
+use Rattle.isolation.specs.Laws.Slots.{Fine, AroundStays, EntryCame, slots-core, whole-stays, part-fine, old-came, came-equal}
 
 -- ── entries ──
 module _ {t : Table} (h : Right t) (p : ℕ) where
@@ -45,7 +44,7 @@ module _ {t : Table} (h : Right t) (p : ℕ) where
   stays : (q i : ℕ) (e : Entry) → t .k .slot q i ≡ some e → Has new q e
   stays q i e u = let (m, _, v) = pack-lowered q .now i e u in (m, v)
 
-  around : (q : ℕ) (e : Entry) → Stays (t .k) new q e
+  around : (q : ℕ) (e : Entry) → AroundStays (t .k) new q e
   around q e _ o = stays (t .k .parent q) (o .i) (o .f) (o .at)
 
   -- the ledger's line: each partition holds the lines that it held
@@ -88,7 +87,7 @@ module _ {t : Table} (h : Right t) (p : ℕ) where
       part-fine (h .core) v (itself a) (room q i a u) (h .core .s5-range q n a v)
       (λ g. record { child = given-child (h .core) q n a v g; cover = λ l x. pack-holds (a .given) l .1 (h .core .s7-cover q n a l v g x) }) (whole-stays (h .core) v (around q a)) (around q a)
 
-  came : (q i : ℕ) (a : Entry) → new q i ≡ some a → Came (t .k) new q a
+  came : (q i : ℕ) (a : Entry) → new q i ≡ some a → EntryCame (t .k) new q a
   came q i a u = let (n, _, v) = pack-lowered q .was i a u in old-came (h .core) v (around q a)
 
   pub pack-core : Core (packK t p)

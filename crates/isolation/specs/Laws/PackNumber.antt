@@ -4,12 +4,8 @@ use mathlib.Core.Bool.{Bool, true, false, _&&_, _||_}
 use Prim.Native.Nat.{ℕ, _+_, _≤_, _<_}
 use native.Mathlib.Nat.{zero-add}
 use native.Mathlib.Omega.{arith}
-use Rattle.loops.specs.Scan.{NoneBelow}
-use Rattle.loops.specs.Bit.{bitOf}
-use Rattle.loops.specs.Every.{any}
+use Rattle.loops.specs.Loops.{NoneBelow, bitOf, any, carried, count}
 use Rattle.loops.specs.Laws.Every.{none-of, any-of, any-more}
-use Rattle.loops.specs.Carry.{done}
-use Rattle.loops.specs.Count.{count}
 use Rattle.loops.specs.Laws.Count.{sum-more, count-le}
 use Rattle.tables.specs.State.{Opt, none, some, Entry, Table}
 use Rattle.tables.specs.Search.{isSome, isNone, free}
@@ -66,7 +62,7 @@ module _ (can : ℕ → Bool) (s : Packing) where
         goes-i : goes i ≡ true
         goes-i = rw (sym (c .same i (omega arith)) ∙ h .at, lower) refl
 
-  pub packed-number : Roomy can (s .slot) → done (packSlot can) s 32 .moved ≡ s .moved + count 32 goes
+  pub packed-number : Roomy can (s .slot) → carried (packSlot can) s 32 .moved ≡ s .moved + count 32 goes
   packed-number r = turns can s Counted
       (record { same = λ m b. refl; roomy = r; below = refl; number = omega (arith, count-le 0 goes) })
       (λ _ _ c f. stays c f) (λ _ _ c b j e h. moves c b j e h) .number

@@ -5,7 +5,7 @@ use mathlib.Core.List.{List, _++_, append-nil}
 use Prim.Native.Nat.{ℕ, zero, suc, _+_, _≤_, _<_}
 use native.Mathlib.Decide.{ℕ-discrete}
 use native.Mathlib.Omega.{arith}
-use Rattle.loops.specs.Carry.{done}
+use Rattle.loops.specs.Loops.{carried}
 use Rattle.tables.specs.State.{Opt, none, Entry}
 use Rattle.rules.specs.Pack.{Packing, moveSlot, packSlot}
 use Rattle.rules.specs.Laws.Pack.{Moves, turns, to-holds, to-empty, from-empty, slot-same, Tight, tight-stays, tight-moves, none-between}
@@ -66,7 +66,7 @@ module _ {can : ℕ → Bool} {slot : ℕ → Opt Entry} {i j : ℕ} {e : Entry}
       upTo : entriesOf new (suc i) ≡ entriesOf slot (suc i)
       upTo = now ∙ ap₂ (λ (xs : List Entry) (o : Opt Entry). xs ++ entryOnly o) (below ∙ sym was) (to-holds h)
 
-pub packed-order : (can : ℕ → Bool) (s : Packing) → entriesOf (done (packSlot can) s 32 .slot) 32 ≡ entriesOf (s .slot) 32
+pub packed-order : (can : ℕ → Bool) (s : Packing) → entriesOf (carried (packSlot can) s 32 .slot) 32 ≡ entriesOf (s .slot) 32
 packed-order can s =
     turns can s (λ i x. Tight can (x .slot) i × (entriesOf (x .slot) 32 ≡ entriesOf (s .slot) 32)) (record { below = λ n m e b. absurd (omega arith) }, refl)
     (λ _ _ (t, q) f. (tight-stays t f, q)) (λ _ _ (t, q) b _ _ h. (tight-moves t h, move-order t h b ∙ q)) .1

@@ -11,13 +11,12 @@ use Rattle.sound.specs.Sound.{Present}
 use Rattle.sound.specs.Core.{Core}
 use Rattle.sound.specs.Whole.{Right}
 use Rattle.rules.specs.Rules.{prepareK, done, prepare}
-use Rattle.isolation.specs.Checks.{OwnOrChild}
+use Rattle.isolation.specs.Ladders.{OwnOrChild, prepareLadder}
 use Rattle.isolation.specs.Laws.Checks.{FreeArea, free-answers, unset-means, is-none-means, own-means, long-means}
 use Rattle.isolation.specs.Laws.NewArea.{header-stays, was-absent, was-present, area-core}
 use Rattle.isolation.specs.Laws.Settled.{right-loads, settle-right}
 use Rattle.isolation.specs.Ladder.{Answers, finished, Ends}
 use Rattle.isolation.specs.Laws.Ladder.{ends, check-answers, lowest-answers}
-use Rattle.isolation.specs.Prepare.{prepareLadder}
 
 -- what checks 3 (who), 4, 5, 6, 8, 9 and 18 say
 pub record PrepareOk (k : K) (p s j : ℕ) (e : Entry) : Type 0 where

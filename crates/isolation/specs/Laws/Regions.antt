@@ -18,12 +18,11 @@ use Rattle.sound.specs.Laws.Tests.{not-says, not-of}
 use Rattle.sound.specs.Laws.Means.{eq-means, lt-means, le-means, and-means, not-means, has-means}
 use Rattle.sound.specs.Whole.{Right}
 use Rattle.rules.specs.Rules.{done, elsewhere, load, unload, readRegion}
-use Rattle.isolation.specs.Laws.Settled.{right-loads, loads-fewer, loads-more, settle-right, settled-same}
+use Rattle.isolation.specs.Laws.Settled.{right-loads, loads-fewer, loads-more, settle-right, right-same}
 use Rattle.isolation.specs.Ladder.{Answers, finished, Ends}
 use Rattle.isolation.specs.Laws.Ladder.{ends, check-answers, need-answers}
-use Rattle.isolation.specs.Checks.{OwnOrChild}
+use Rattle.isolation.specs.Ladders.{OwnOrChild, NoOtherRegion, loadLadder, unloadLadder, readRegionLadder}
 use Rattle.isolation.specs.Laws.Checks.{own-means}
-use Rattle.isolation.specs.Regions.{Nowhere, loadLadder, unloadLadder, readRegionLadder}
 
 -- ── load ──
 -- what checks 3 (who), 4, 5 (at, clear), 16 (region, once) and 19 (few) say
@@ -32,14 +31,14 @@ pub record LoadOk (b : Board) (t : Table) (p s r : ℕ) (e : Entry) : Type 0 whe
   pub at : t .k .slot p s ≡ some e
   pub clear : Clear (t .k .area) e
   pub region : r < 8
-  pub once : Nowhere t p s r
+  pub once : NoOtherRegion t p s r
   pub few : loadedPieces b (t .k .slot) (upd (t .region) p r (some s)) p ≤ 8
 
 abbrev pub LoadDone : Board → Table → ℕ → ℕ → ℕ → ℕ → ℕ → Table → Type 0
 LoadDone b t p s r v w t′ = (e : Entry) × LoadOk b t p s r e × (t′ ≡ settle (t .k) (upd (t .region) p r (some s)))
 
 module _ (board : Board) {t : Table} (h : Right t) (p s r : ℕ) where
-  nowhere-means : (not (elsewhere t p s r) ≡ true) ↔ Nowhere t p s r
+  nowhere-means : (not (elsewhere t p s r) ≡ true) ↔ NoOtherRegion t p s r
   unfolding elsewhere
   nowhere-means = (
     λ x q n u. not-says _ x (any-of 8 test q (h .eight p q s u) (means q .1 (n, (s, u, refl)))),
@@ -102,7 +101,7 @@ module _ {t : Table} (h : Right t) (p r : ℕ) where
   pub readRegion-exact : Answers (readRegionLadder t p r) (readRegion t p r)
   unfolding readRegion
   readRegion-exact =
-      rw (settled-same h)
+      rw (right-same h)
       (check-answers (own-means (t .k) p) λ _.
       check-answers (lt-means r 8) λ _.
       finished)

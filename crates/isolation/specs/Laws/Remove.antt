@@ -17,7 +17,7 @@ use Rattle.sound.specs.Sound.{Present, Rooted}
 use Rattle.sound.specs.Core.{Inside, Whole, Backed, Core}
 use Rattle.sound.specs.Properties.{Child}
 use Rattle.sound.specs.Whole.{Right}
-use Rattle.rules.specs.Rules.{ungive, zeroed, removeK, remove}
+use Rattle.rules.specs.Rules.{ungive, recordsZero, removeK, remove}
 use Rattle.isolation.specs.Laws.Keep.{entry-present, Has, still, inside-at, backed-at}
 use Rattle.isolation.specs.Laws.Settled.{right-loads, settle-right, loads-fewer}
 
@@ -33,7 +33,7 @@ pub record Goes (k : K) (c : ℕ) (m : ℕ → Bool) : Type 0 where
 -- ── records are zeroed ──
 module _ {A : Type 0} (m : ℕ → Bool) (f : ℕ → ℕ → Opt A) (q i : ℕ) where
   abbrev without : ℕ → ℕ → Opt A
-  without = zeroed m (λ j. none) f
+  without = recordsZero m (λ j. none) f
 
   without-stays : m q ≡ false → without q i ≡ f q i
   without-stays n = rw n refl

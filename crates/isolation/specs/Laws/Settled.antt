@@ -82,5 +82,5 @@ settle-right {k} {region} h b g = record {
     kept = loads-fewer g (λ p r i u. keep-some (openAt k p) (region p r) i u .0)
 
 -- a right table is settled: a service that only reads changes no word
-pub settled-same : {t : Table} → Right t → settle (t .k) (t .region) ≡ t
-settled-same h = same (right-settled h)
+pub right-same : {t : Table} → Right t → settle (t .k) (t .region) ≡ t
+right-same h = same (right-settled h)

@@ -10,10 +10,10 @@ use Rattle.tables.specs.Write.{withSlot}
 use Rattle.tables.specs.Lines.{In, Holds, Clear}
 use Rattle.sound.specs.Core.{Inside, Whole, Core}
 use Rattle.sound.specs.Properties.{Child}
-use Rattle.isolation.specs.Laws.Keep.{given-child, Has, Part, itself, inside-at, backed-at}
+use Rattle.isolation.specs.Laws.Keep.{given-child, Has, PartOf, itself, inside-at, backed-at}
 
 -- what soundness says of the given entry a of p: it is given to a child, which holds its lines
-pub record Lent (k : K) (new : ℕ → ℕ → Opt Entry) (p : ℕ) (a : Entry) : Type 0 where
+pub record LentToChild (k : K) (new : ℕ → ℕ → Opt Entry) (p : ℕ) (a : Entry) : Type 0 where
   pub child : Child k p (a .given)
   pub cover : (l : ℕ) → In l a → Holds new (a .given) l
 
@@ -21,13 +21,13 @@ pub record Lent (k : K) (new : ℕ → ℕ → Opt Entry) (p : ℕ) (a : Entry) 
 pub record Fine (k : K) (new : ℕ → ℕ → Opt Entry) (p i : ℕ) (a : Entry) : Type 0 where
   pub structure : (b : Area) × (k .area p (1 + i / 8) ≡ some b)
   pub range : a .start < a .stop
-  pub lent : (a .given ≡ 0 → ⊥) → Lent k new p a
+  pub lent : (a .given ≡ 0 → ⊥) → LentToChild k new p a
   pub inside : (p ≡ 0 → ⊥) → Inside new (k .parent) p a
   pub root : p ≡ 0 → a .rights ≡ allRights
   pub whole : a .whole ≡ true → Whole (k .area) new (k .parent) p a
 
 -- .. and of all slots: no two entries share a line, the root holds what it held, an entry that is an area stays, and those inside one grant have equal rights
-pub record Kept (k : K) (new : ℕ → ℕ → Opt Entry) : Type 0 where
+pub record SlotsKept (k : K) (new : ℕ → ℕ → Opt Entry) : Type 0 where
   pub fine : (p i : ℕ) (a : Entry) → new p i ≡ some a → Fine k new p i a
   pub apart : (p i j : ℕ) (a b : Entry) (l : ℕ) → new p i ≡ some a → new p j ≡ some b → In l a → In l b → i ≡ j
   pub root : (l : ℕ) → Holds new 0 l ↔ Holds (k .slot) 0 l
@@ -36,11 +36,11 @@ pub record Kept (k : K) (new : ℕ → ℕ → Opt Entry) : Type 0 where
       → (o : Inside new (k .parent) p a) (q : Inside new (k .parent) p b) → o .i ≡ q .i → a .rights ≡ b .rights
 
 -- what is around the entry e of p stays
-abbrev pub Stays : K → (ℕ → ℕ → Opt Entry) → ℕ → Entry → Type 0
-Stays k new p e = (p ≡ 0 → ⊥) → (o : Inside (k .slot) (k .parent) p e) → Has new (k .parent p) (o .f)
+abbrev pub AroundStays : K → (ℕ → ℕ → Opt Entry) → ℕ → Entry → Type 0
+AroundStays k new p e = (p ≡ 0 → ⊥) → (o : Inside (k .slot) (k .parent) p e) → Has new (k .parent p) (o .f)
 
 -- the entry a of p shares a line with an old one, around which all stays, and has its rights
-pub record Came (k : K) (new : ℕ → ℕ → Opt Entry) (p : ℕ) (a : Entry) : Type 0 where
+pub record EntryCame (k : K) (new : ℕ → ℕ → Opt Entry) (p : ℕ) (a : Entry) : Type 0 where
   pub j : ℕ
   pub e : Entry
   pub at : k .slot p j ≡ some e
@@ -48,15 +48,15 @@ pub record Came (k : K) (new : ℕ → ℕ → Opt Entry) (p : ℕ) (a : Entry) 
   pub was : In line e
   pub now : In line a
   pub rights : a .rights ≡ e .rights
-  pub stays : Stays k new p e
+  pub stays : AroundStays k new p e
 
 -- where all that is given stays, it does
 pub around-stays : (k : K) {new : ℕ → ℕ → Opt Entry} → ((p i : ℕ) (f : Entry) → k .slot p i ≡ some f → (f .given ≡ 0 → ⊥) → Has new p f)
-    → (p : ℕ) (e : Entry) → Stays k new p e
+    → (p : ℕ) (e : Entry) → AroundStays k new p e
 around-stays k s p e n o = s (k .parent p) (o .i) (o .f) (o .at) (λ z. n (omega arith))
 
 module _ {k : K} (h : Core k) {new : ℕ → ℕ → Opt Entry} where
-  pub slots-core : Kept k new → Core (withSlot k new)
+  pub slots-core : SlotsKept k new → Core (withSlot k new)
   slots-core c = record {
     s1 = h .s1;
     s1-current = h .s1-current;
@@ -85,7 +85,7 @@ module _ {k : K} (h : Core k) {new : ℕ → ℕ → Opt Entry} where
   }
 
   -- where what is around an old entry stays, a whole one is whole
-  pub whole-stays : {p i : ℕ} {a : Entry} → k .slot p i ≡ some a → Stays k new p a → a .whole ≡ true → Whole (k .area) new (k .parent) p a
+  pub whole-stays : {p i : ℕ} {a : Entry} → k .slot p i ≡ some a → AroundStays k new p a → a .whole ≡ true → Whole (k .area) new (k .parent) p a
   whole-stays {p} {i} {a} u s z =
       let w = h .s7-whole p i a u z in
       let o = h .s7-in p i a u (w .other) in
@@ -106,8 +106,8 @@ module _ {k : K} (h : Core k) {new : ℕ → ℕ → Opt Entry} where
       }
 
   -- a part of an old entry is fine ..
-  pub part-fine : {p i j : ℕ} {a e : Entry} → k .slot p j ≡ some e → Part a e → (b : Area) × (k .area p (1 + i / 8) ≡ some b) → a .start < a .stop
-      → ((a .given ≡ 0 → ⊥) → Lent k new p a) → (a .whole ≡ true → Whole (k .area) new (k .parent) p a) → Stays k new p e → Fine k new p i a
+  pub part-fine : {p i j : ℕ} {a e : Entry} → k .slot p j ≡ some e → PartOf a e → (b : Area) × (k .area p (1 + i / 8) ≡ some b) → a .start < a .stop
+      → ((a .given ≡ 0 → ⊥) → LentToChild k new p a) → (a .whole ≡ true → Whole (k .area) new (k .parent) p a) → AroundStays k new p e → Fine k new p i a
   part-fine {p} {j = j} {e = e} u w b r g m s = record {
     structure = b;
     range = r;
@@ -120,22 +120,22 @@ module _ {k : K} (h : Core k) {new : ℕ → ℕ → Opt Entry} where
   -- .. and so is an old entry
   pub old-fine : {p i : ℕ} {a : Entry} → k .slot p i ≡ some a
       → ((a .given ≡ 0 → ⊥) → (l : ℕ) → In l a → Holds (k .slot) (a .given) l → Holds new (a .given) l)
-      → Stays k new p a → Fine k new p i a
+      → AroundStays k new p a → Fine k new p i a
   old-fine {p} {i} {a} u c s = part-fine u (itself a) (h .s5 p i a u) (h .s5-range p i a u)
       (λ n. record { child = given-child h p i a u n; cover = λ l x. c n l x (h .s7-cover p i a l u n x) }) (whole-stays u s) s
 
   -- .. and comes from itself
-  pub old-came : {p i : ℕ} {a : Entry} → k .slot p i ≡ some a → Stays k new p a → Came k new p a
+  pub old-came : {p i : ℕ} {a : Entry} → k .slot p i ≡ some a → AroundStays k new p a → EntryCame k new p a
   old-came {p} {i} {a} u s =
       let r = h .s5-range p i a u in
       record { j = i; e = a; at = u; line = a .start; was = omega arith; now = omega arith; rights = refl; stays = s }
 
   -- what is around a is what was around the entry that it comes from ..
   module _ (apart : (p i j : ℕ) (a b : Entry) (l : ℕ) → new p i ≡ some a → new p j ≡ some b → In l a → In l b → i ≡ j) {p : ℕ} (n : p ≡ 0 → ⊥) where
-    was-around : {a : Entry} (c : Came k new p a) → Inside (k .slot) (k .parent) p (c .e)
+    was-around : {a : Entry} (c : EntryCame k new p a) → Inside (k .slot) (k .parent) p (c .e)
     was-around c = h .s7-in p (c .j) (c .e) (c .at) n
 
-    same-grant : {a : Entry} (c : Came k new p a) (o : Inside new (k .parent) p a) → o .i ≡ c .stays n (was-around c) .0
+    same-grant : {a : Entry} (c : EntryCame k new p a) (o : Inside new (k .parent) p a) → o .i ≡ c .stays n (was-around c) .0
     same-grant {a} c o =
         let u = was-around c in
         let (i, v) = c .stays n u in
@@ -144,7 +144,7 @@ module _ {k : K} (h : Core k) {new : ℕ → ℕ → Opt Entry} where
         apart (k .parent p) (o .i) i (o .f) (u .f) (c .line) (o .at) v (omega arith) (omega arith)
 
     -- .. so two inside one grant come from two inside one grant
-    pub came-equal : {a b : Entry} → Came k new p a → Came k new p b → (o : Inside new (k .parent) p a) (q : Inside new (k .parent) p b) → o .i ≡ q .i
+    pub came-equal : {a b : Entry} → EntryCame k new p a → EntryCame k new p b → (o : Inside new (k .parent) p a) (q : Inside new (k .parent) p b) → o .i ≡ q .i
         → a .rights ≡ b .rights
     came-equal c d o q z =
         let x = was-around c in

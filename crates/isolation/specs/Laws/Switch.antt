@@ -15,7 +15,7 @@ use Rattle.isolation.specs.Laws.Settled.{right-loads, settle-right}
 use Rattle.isolation.specs.Ladder.{Answers, finished, Ends}
 use Rattle.isolation.specs.Laws.Ladder.{ends, check-answers}
 use Rattle.isolation.specs.Laws.Checks.{is-child-means}
-use Rattle.isolation.specs.Switch.{ParentOrChild, switchLadder}
+use Rattle.isolation.specs.Ladders.{ParentOrChild, switchLadder}
 
 module _ {k : K} (h : Core k) where
   who-present : {p : ℕ} → ParentOrChild k p → Present k p

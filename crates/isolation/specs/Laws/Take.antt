@@ -17,11 +17,11 @@ use Rattle.sound.specs.Laws.Means.{eq-means, and-means, not-means, has-means}
 use Rattle.rules.specs.Rules.{takeK, done, take, returned}
 use Rattle.isolation.specs.Laws.Two.{From, old, first, second, same-place, two-from, two-first, two-old, two-other}
 use Rattle.isolation.specs.Laws.Keep.{given-child, child-other, same-clear, Has, still}
-use Rattle.isolation.specs.Laws.Slots.{Fine, Stays, Came, slots-core, part-fine, old-fine, old-came, came-equal}
+use Rattle.isolation.specs.Laws.Slots.{Fine, AroundStays, EntryCame, slots-core, part-fine, old-fine, old-came, came-equal}
 use Rattle.isolation.specs.Laws.Settled.{right-loads, settle-right}
 use Rattle.isolation.specs.Ladder.{Answers, finished, Ends}
 use Rattle.isolation.specs.Laws.Ladder.{ends, check-answers, need-answers, lowest-answers}
-use Rattle.isolation.specs.Take.{Returned, takeLadder}
+use Rattle.isolation.specs.Ladders.{Returned, takeLadder}
 
 -- what checks 4 (at), 6 (given) and 14 say: an entry f of the child, open and not given, has the range of e
 pub record TakeOk (k : K) (s j : ℕ) (e f : Entry) : Type 0 where
@@ -78,7 +78,7 @@ module _ {k : K} {s j : ℕ} {e f : Entry} (h : Core k) (ok : TakeOk k s j e f) 
           absurd (n (z .0, omega arith))
 
   -- around an entry that is left is not e
-  around : (p i : ℕ) (a : Entry) → k .slot p i ≡ some a → ((p ≡ e .given) × (i ≡ j) → ⊥) → Stays k new p a
+  around : (p i : ℕ) (a : Entry) → k .slot p i ≡ some a → ((p ≡ e .given) × (i ≡ j) → ⊥) → AroundStays k new p a
   around p i a u n y o =
       let r = h .s5-range p i a u in
       other-stays (k .parent p) (o .i) (o .f) (o .at)
@@ -114,10 +114,10 @@ module _ {k : K} {s j : ℕ} {e f : Entry} (h : Core k) (ok : TakeOk k s j e f) 
       go (old _ _ _) (second _ _ v) = not-none none refl v
       go (first _ _ _) (second _ _ v) = not-none none refl v
 
-  came : (p i : ℕ) (a : Entry) → new p i ≡ some a → Came k new p a
+  came : (p i : ℕ) (a : Entry) → new p i ≡ some a → EntryCame k new p a
   came p i a u = go (inv p i a u)
     where
-      go : Fr p i a → Came k new p a
+      go : Fr p i a → EntryCame k new p a
       go (old v _ n) = old-came h v (around p i a v n)
       go (first z _ v) =
           let w = same (some-inj v) in

@@ -6,7 +6,7 @@ use Rattle.tables.specs.Laws.State.{not-none}
 use Rattle.tables.specs.Lines.{Clear}
 use Rattle.isolation.specs.Laws.Two.{same-place, two, two-first, two-old}
 use Rattle.isolation.specs.Laws.Checks.{FreeEntry}
-use Rattle.isolation.specs.Checks.{FreeSlot}
+use Rattle.isolation.specs.Ladders.{FreeSlot}
 use Rattle.isolation.specs.Laws.Keep.{same-clear, Has}
 
 module _ {k : K} {s q n : ℕ} {e : Entry} (a : FreeEntry k s e) (b : FreeSlot k q n) (x y : Opt Entry) where

@@ -1,6 +1,7 @@
+-- src/lib.rt, keep: now (words .exit) ≡ kept numbers n words
 use Prim.Native.Nat.{_+_, _-_, _≤_}
 use lib.ListN.{getD}
-use Rattle.loops.specs.Rewrite.{Filling}
+use Rattle.loops.specs.Loops.{Filling}
 use Rattle.loops.specs.Laws.Rewrite.{fill-start, fill-put}
 use Rattle.keeping.specs.Laws.Keeping.{keep-end}
 use native.Mathlib.Omega.{arith}

@@ -1,3 +1,4 @@
+-- src/lib.rt, number: r ≡ getD words i 0
 use borrow.Author.Needs.{needs}
 use Rattle.keeping.proofs.number.Statement.{statement}
 use Rattle.keeping.proofs.number.Tie as tie

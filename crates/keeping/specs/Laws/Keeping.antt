@@ -8,7 +8,7 @@ use native.Mathlib.Omega.{arith}
 use lib.Dec.{leb}
 use lib.ListN.{getD}
 use borrow.Author.Tests.{le-leb, lt-leb}
-use Rattle.loops.specs.Rewrite.{Filling}
+use Rattle.loops.specs.Loops.{Filling}
 use Rattle.loops.specs.Laws.Rewrite.{tab-is}
 use Rattle.keeping.specs.Keeping.{kept}
 

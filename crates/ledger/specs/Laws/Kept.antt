@@ -28,10 +28,10 @@ use Rattle.sound.specs.Laws.Tests.{and-says, and-true}
 use Rattle.sound.specs.Laws.Properties.{siblings-one}
 use Rattle.sound.specs.Whole.{Right}
 use Rattle.sound.specs.Laws.List.{sound-means}
-use Rattle.rules.specs.Rules.{Result, done, refused, zeroed, remove, branch, create, delete, give, take, clearOut, serve, callOn, bootOn, wordsAfter}
+use Rattle.rules.specs.Rules.{Result, done, refused, recordsZero, remove, branch, create, delete, give, take, clearOut, serve, callOn, bootOn, wordsAfter}
 use Rattle.rules.specs.Laws.Each.{done-each}
 use Rattle.rules.specs.Ran.{outcomeOf}
-use Rattle.rules.specs.Calls.{callerOf, Answers}
+use Rattle.rules.specs.Calls.{callerOf, CallAnswers}
 use Rattle.rules.specs.Reads.{standsAfter}
 use Rattle.rules.specs.declared.Answer.{Answer}
 use Rattle.isolation.specs.Ladder.{Ends}
@@ -54,7 +54,7 @@ use Rattle.isolation.specs.Laws.ClearOut.{branch-goes, clear-done}
 use Rattle.isolation.specs.Laws.Pack.{pack-done, pack-holds}
 use Rattle.isolation.specs.Laws.Boot.{boot-exact, boot-holds, boot-right}
 use Rattle.isolation.specs.Whole.{serve-right, served, call-good, boot-good, afterAll}
-use Rattle.ledger.specs.Ledger.{Ledger, opening, Lines, among, adopt, enter, strikeAll, apply, childFor, struck, accepted, eventOf, noted, answerOn, linesOf, linesNamed, keptOn}
+use Rattle.ledger.specs.Ledger.{Ledger, opening, Lines, among, adopt, enter, strikeAll, apply, childFor, struck, accepted, eventOf, noted, answerOn, linesIn, linesNamed, keptOn}
 
 -- g is the ledger of a table of base to end: its partitions are those that hold the line, its tree is the table's
 pub record Keeps (base end : ℕ) (g : Ledger) (k : K) : Type 0 where
@@ -65,8 +65,8 @@ pub record Keeps (base end : ℕ) (g : Ledger) (k : K) : Type 0 where
 
 -- ── one call ──
 -- p is c, and line l is one of the entry's
-at-lines : (c p l : ℕ) {o : Opt Entry} {e : Entry} → o ≡ some e → (eqb p c && among l (linesOf o) ≡ true) ↔ ((p ≡ c) × In l e)
-unfolding among linesOf
+at-lines : (c p l : ℕ) {o : Opt Entry} {e : Entry} → o ≡ some e → (eqb p c && among l (linesIn o) ≡ true) ↔ ((p ≡ c) × In l e)
+unfolding among linesIn
 at-lines c p l {e = e} u = rw u (and-means (eq-means p c) (
   λ q. let (a, b) = and-means (le-means (e .start) l) (lt-means l (e .stop)) .0 q in record { from = a; to = b },
   λ x. and-means (le-means (e .start) l) (lt-means l (e .stop)) .1 (x .from, x .to),
@@ -93,7 +93,7 @@ module _ {base end : ℕ} {g : Ledger} {t : Table} (h : Right t) (s : Keeps base
 
   -- the lines of entry i of the caller
   abbrev lines : ℕ → Lines
-  lines i = linesOf (t .k .slot (t .k .current) i)
+  lines i = linesIn (t .k .slot (t .k .current) i)
 
   create-kept : (i : ℕ) {v w : ℕ} {t′ : Table} → create t i ≡ done v w t′ → Keeps base end (apply (adopt v (t .k .current)) g) (t′ .k)
   unfolding apply settle
@@ -110,7 +110,7 @@ module _ {base end : ℕ} {g : Ledger} {t : Table} (h : Right t) (s : Keeps base
 
   -- the caller's child that stands for the lines of an entry which take may have back is the one that the entry is given to: it has them, and no other child has
   pub child-for : {i j : ℕ} {e f : Entry} → TakeOk (t .k) i j e f → lowest 16 (childFor g (t .k .current) (lines i)) ≡ some (e .given)
-  unfolding childFor linesOf
+  unfolding childFor linesIn
   child-for {j = j} {e} {f} ok =
       let c = given-child (h .core) (t .k .current) _ e (ok .at) (ok .given) in
       let (a, u) = c .present in
@@ -139,7 +139,7 @@ module _ {base end : ℕ} {g : Ledger} {t : Table} (h : Right t) (s : Keeps base
   remove-kept : {c : ℕ} {m : ℕ → Bool} → Goes (t .k) c m → Keeps base end (apply (strikeAll m) g) (remove t c m .k)
   unfolding apply settle
   remove-kept {c} {m} ok =
-      kept refl refl (ap (zeroed m 0) (s .tree))
+      kept refl refl (ap (recordsZero m 0) (s .tree))
       (λ p l. Iff·trans (and-means (s .holders p l) (not-true (m p), λ q. ap not q)) (Iff·symm (remove-holds (h .core) ok p l)))
 
   delete-kept : (c : ℕ) {v w : ℕ} {t′ : Table} → delete t c ≡ done v w t′ → Keeps base end (apply (strikeAll (λ q. eqb q c)) g) (t′ .k)
@@ -178,8 +178,8 @@ module _ {base end : ℕ} {g : Ledger} {t : Table} (h : Right t) (s : Keeps base
 
 -- ── any list of calls ──
 -- the reader has the answers that `call` promises
-pub told : {board : Board} {l m : List ℕ} {w : ℕ} {a : Answer} → Answers board l w a m → a ≡ answerOn board l w
-told h = λ x. record { caller = record { 0 = h .caller x }; outcome = h .ran .outcome x; stands = h .stands x }
+pub told-answers : {board : Board} {l m : List ℕ} {w : ℕ} {a : Answer} → CallAnswers board l w a m → a ≡ answerOn board l w
+told-answers h = λ x. record { caller = record { 0 = h .caller x }; outcome = h .ran .outcome x; stands = h .stands x }
 
 module _ {base end : ℕ} where
   pub after-kept : {board : Board} {l : List ℕ} → Good board l → {g : Ledger} → Keeps base end g (view l .k) → (ws : List ℕ) → Keeps base end (keptOn board l g ws) (view (afterAll board l ws) .k)

@@ -18,10 +18,10 @@ use Rattle.sound.specs.Holders.{trail, holdersOf}
 use Rattle.rules.specs.Rules.{done, bootOn}
 use Rattle.isolation.specs.Whole.{afterAll, from-boot-sound}
 use Rattle.runs.specs.declared.Run.{Run}
-use Rattle.runs.specs.Runs.{deepestAt, runOf, runsOf, nth, On, Chain, Longest, Listed}
-use Rattle.runs.specs.Laws.RunLaws.{within, runs-longest, same-trail}
+use Rattle.runs.specs.Runs.{deepestAt, runOf, runsOf, nthRun, On, Chain, Longest, RunsListed}
+use Rattle.runs.specs.Laws.RunLaws.{run-within, runs-longest, same-trail}
 use Rattle.runs.specs.Laws.OneList.{longest-one}
-use Rattle.runs.specs.Laws.Meaning.{Told, Kept, done-told, short-told}
+use Rattle.runs.specs.Laws.Meaning.{Told, RunsRefused, done-told, short-told}
 use Rattle.ledger.specs.Ledger.{Ledger, opening, keptOn}
 use Rattle.ledger.specs.Laws.Kept.{Keeps, from-boot-kept}
 use Rattle.ledger.specs.Lists.{Lists}
@@ -35,19 +35,19 @@ SameNames g l m = (p : ℕ) → g .stands p l ≡ g .stands p m
 -- the longest runs of lines of base to end with the same names, in rising order
 pub record LedgerRuns (base end : ℕ) (g : Ledger) (rs : List Run) : Type 0 where
   pub chain : Chain base end rs
-  pub same : (i l m : ℕ) → i < length rs → On (nth rs i) l → On (nth rs i) m → SameNames g l m
-  pub differ : (i l m : ℕ) → suc i < length rs → On (nth rs i) l → On (nth rs (suc i)) m → SameNames g l m → ⊥
+  pub same : (i l m : ℕ) → i < length rs → On (nthRun rs i) l → On (nthRun rs i) m → SameNames g l m
+  pub differ : (i l m : ℕ) → suc i < length rs → On (nthRun rs i) l → On (nthRun rs (suc i)) m → SameNames g l m → ⊥
 
--- What demand 3 says of runs, of a ledger g and the words t of a table of base to end. Listed is what the writer of runs promises.
+-- What demand 3 says of runs, of a ledger g and the words t of a table of base to end. RunsListed is what the writer of runs promises.
 pub record RunsDemand (board : Board) (base end : ℕ) (g : Ledger) (t : List ℕ) : Type 0 where
   -- the runs are the ledger's, and name the last of the listing
   pub runs : LedgerRuns base end g (runsOf (view t .k))
-  pub deepest : (i l : ℕ) → i < length (runsOf (view t .k)) → On (nth (runsOf (view t .k)) i) l → holdersOf (view t .k) l ≡ trail (view t .k) (nth (runsOf (view t .k)) i .deepest .0) 15
+  pub deepest : (i l : ℕ) → i < length (runsOf (view t .k)) → On (nthRun (runsOf (view t .k)) i) l → holdersOf (view t .k) l ≡ trail (view t .k) (nthRun (runsOf (view t .k)) i .deepest .0) 15
   -- the ledger has one number of runs
   pub number : (rs : List Run) → LedgerRuns base end g rs → length rs ≡ length (runsOf (view t .k))
   -- runs is done with it, and the first records become the runs; or the list is too short
-  pub answer : {before after : List Run} {r : Outcome} → Listed board t before r after → length (runsOf (view t .k)) ≤ length before → Told t before r after
-  pub short : {before after : List Run} {r : Outcome} → Listed board t before r after → length before < length (runsOf (view t .k)) → Kept 17 before r after
+  pub answer : {before after : List Run} {r : Outcome} → RunsListed board t before r after → length (runsOf (view t .k)) ≤ length before → Told t before r after
+  pub short : {before after : List Run} {r : Outcome} → RunsListed board t before r after → length before < length (runsOf (view t .k)) → RunsRefused 17 before r after
 
 same-bool : (a b : Bool) → (a ≡ true) ↔ (b ≡ true) → a ≡ b
 same-bool true b f = sym (f .0 refl)
@@ -64,7 +64,7 @@ unfolding named
 named-length k [] = refl
 named-length k (r ∷ rs) = ap suc (named-length k rs)
 
-named-at : (k : K) (rs : List Run) (i : ℕ) → i < length rs → nth (named k rs) i ≡ runOf (nth rs i .start .0) (nth rs i .end .0) (deepestAt k (nth rs i .start .0))
+named-at : (k : K) (rs : List Run) (i : ℕ) → i < length rs → nthRun (named k rs) i ≡ runOf (nthRun rs i .start .0) (nthRun rs i .end .0) (deepestAt k (nthRun rs i .start .0))
 unfolding named
 named-at k [] i b = absurd (omega arith)
 named-at k (r ∷ rs) zero b = refl
@@ -90,8 +90,8 @@ module _ {board : Board} {base end : ℕ} {g : Ledger} {t : List ℕ} (h : Sound
     same-holders q = one-list (lists-same (λ p. (λ x. sym (q p) ∙ x, λ x. q p ∙ x)) (lists l (a .0) (a .1))) (lists m (b .0) (b .1))
 
   -- a line of a record of a chain
-  in-memory : {rs : List Run} → Chain base end rs → (i l : ℕ) → i < length rs → On (nth rs i) l → (base ≤ l) × (l < end)
-  in-memory c i l b o = let w = within c i b in (omega arith, omega arith)
+  in-memory : {rs : List Run} → Chain base end rs → (i l : ℕ) → i < length rs → On (nthRun rs i) l → (base ≤ l) × (l < end)
+  in-memory c i l b o = let w = run-within c i b in (omega arith, omega arith)
 
   ledger-runs : LedgerRuns base end g (runsOf k)
   ledger-runs =
@@ -108,10 +108,10 @@ module _ {board : Board} {base end : ℕ} {g : Ledger} {t : List ℕ} (h : Sound
     low : (i : ℕ) → i < length (named k rs) → i < length rs
     low i b = rw (named-length k rs) at b
 
-    named-on : (i l : ℕ) → i < length (named k rs) → On (nth (named k rs) i) l → On (nth rs i) l
+    named-on : (i l : ℕ) → i < length (named k rs) → On (nthRun (named k rs) i) l → On (nthRun rs i) l
     named-on i l b o = rw (named-at k rs i (low i b)) at o
 
-    start-on : (i : ℕ) → i < length rs → On (nth rs i) (nth rs i .start .0)
+    start-on : (i : ℕ) → i < length rs → On (nthRun rs i) (nthRun rs i .start .0)
     start-on i b = (omega arith, w .chain .long i b)
 
     named-chain : Chain (k .base) (k .stop) (named k rs)
@@ -130,9 +130,9 @@ module _ {board : Board} {base end : ℕ} {g : Ledger} {t : List ℕ} (h : Sound
           let c = low i b in
           let p = named-on i l b o in
           let q = start-on i c in
-          let e = w .same i l (nth rs i .start .0) c p q in
+          let e = w .same i l (nthRun rs i .start .0) c p q in
           rw (named-at k rs i c)
-          (same-holders l (nth rs i .start .0) (in-memory (w .chain) i l c p) (in-memory (w .chain) i (nth rs i .start .0) c q) e ∙ same-trail k (nth rs i .start .0) _ refl);
+          (same-holders l (nthRun rs i .start .0) (in-memory (w .chain) i l c p) (in-memory (w .chain) i (nthRun rs i .start .0) c q) e ∙ same-trail k (nthRun rs i .start .0) _ refl);
       differ = λ i l m b o p q.
           let c = low (suc i) b in
           let x = named-on i l (omega arith) o in

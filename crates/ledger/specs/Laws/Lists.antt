@@ -10,10 +10,10 @@ use lib.ListN.{length}
 use lib.Seq.{ext-getD}
 use borrow.Author.Tests.{eqb-true}
 use Rattle.loops.specs.Laws.Every.{all-of}
-use Rattle.loops.specs.Count.{count}
+use Rattle.loops.specs.Loops.{count}
 use Rattle.loops.specs.Laws.Count.{count-none, without, without-same, without-other, count-without}
 use Rattle.sound.specs.Laws.Tests.{not-of}
-use Rattle.ledger.specs.Lists.{nth, Stands, Once, Lists}
+use Rattle.ledger.specs.Lists.{nthName, Stands, Once, Lists}
 
 -- of a test that says the same
 pub lists-same : {P Q : ℕ → Type 0} {up : ℕ → ℕ} {hs : List ℕ} → ((p : ℕ) → P p ↔ Q p) → Lists P up hs → Lists Q up hs
@@ -21,7 +21,7 @@ lists-same f w = record { exactly = λ p. Iff·trans (w .exactly p) (f p); root 
 
 module _ {P : ℕ → Type 0} {up : ℕ → ℕ} {hs : List ℕ} (w : Lists P up hs) where
   -- who stands in it and is not the root stands after its parent
-  after-parent : (c : ℕ) → (c ≡ 0 → ⊥) → Stands c hs → (i : ℕ) × (suc i < length hs) × (nth hs (suc i) ≡ c) × (nth hs i ≡ up c)
+  after-parent : (c : ℕ) → (c ≡ 0 → ⊥) → Stands c hs → (i : ℕ) × (suc i < length hs) × (nthName hs (suc i) ≡ c) × (nthName hs i ≡ up c)
   after-parent c n (zero, _, y) = absurd (n (sym y ∙ w .root .1))
   after-parent c n (suc i, b, y) = (i, b, y, sym (w .next i b) ∙ ap up y)
 
@@ -31,18 +31,18 @@ module _ {P : ℕ → Type 0} {up : ℕ → ℕ} {hs : List ℕ} (w : Lists P up
       let (i, a, u, v) = after-parent c m x in
       let (j, b, s, t) = after-parent d n y in
       let e = w .once i j (omega arith) (omega arith) (v ∙ q ∙ sym t) in
-      sym u ∙ ap (λ (k : ℕ). nth hs (suc k)) e ∙ s
+      sym u ∙ ap (λ (k : ℕ). nthName hs (suc k)) e ∙ s
 
 -- ── there is one such list ──
 module _ {P : ℕ → Type 0} {up : ℕ → ℕ} where
-  along : {hs ks : List ℕ} → Lists P up hs → Lists P up ks → (i : ℕ) → i < length hs → (i < length ks) × (nth hs i ≡ nth ks i)
+  along : {hs ks : List ℕ} → Lists P up hs → Lists P up ks → (i : ℕ) → i < length hs → (i < length ks) × (nthName hs i ≡ nthName ks i)
   along v w zero b = (w .root .0, v .root .1 ∙ sym (w .root .1))
   along {hs} {ks} v w (suc i) b =
       let (a, q) = along v w i (omega arith) in
-      let n : nth hs (suc i) ≡ 0 → ⊥ = λ z. let y = v .once (suc i) 0 b (v .root .0) (z ∙ sym (v .root .1)) in omega arith in
-      let (j, c, r, s) = after-parent w (nth hs (suc i)) n (w .exactly _ .1 (v .exactly _ .0 (suc i, b, refl))) in
+      let n : nthName hs (suc i) ≡ 0 → ⊥ = λ z. let y = v .once (suc i) 0 b (v .root .0) (z ∙ sym (v .root .1)) in omega arith in
+      let (j, c, r, s) = after-parent w (nthName hs (suc i)) n (w .exactly _ .1 (v .exactly _ .0 (suc i, b, refl))) in
       let e : j ≡ i = w .once j i (omega arith) a (s ∙ v .next i b ∙ q) in
-      (omega arith, sym r ∙ ap (λ (k : ℕ). nth ks (suc k)) e)
+      (omega arith, sym r ∙ ap (λ (k : ℕ). nthName ks (suc k)) e)
 
   pub one-list : {hs ks : List ℕ} → Lists P up hs → Lists P up ks → hs ≡ ks
   one-list {hs} {ks} v w = ext-getD 0 hs ks (go (decLt (length hs) (length ks)) (decLt (length ks) (length hs))) (λ i b. along v w i b .1)
@@ -72,9 +72,9 @@ module _ (f : ℕ → Bool) (x : ℕ) (xs : List ℕ) (e : (p : ℕ) → Stands 
       go n (zero, _, q) = absurd (n (sym q))
       go n (suc i, a, q) = (i, omega arith, q)
 
-pub counted : (n : ℕ) (f : ℕ → Bool) (hs : List ℕ) → ((p : ℕ) → Stands p hs ↔ (f p ≡ true)) → ((p : ℕ) → Stands p hs → p < n) → Once hs → length hs ≡ count n f
-counted n f [] e b o = sym (eqb-true _ 0 (count-none n f ∙ all-of n (λ k. not (f k)) (λ k _. not-of (f k) (λ q. let (i, a, _) = e k .1 q in omega arith))))
-counted n f (x ∷ xs) e b o =
+pub names-counted : (n : ℕ) (f : ℕ → Bool) (hs : List ℕ) → ((p : ℕ) → Stands p hs ↔ (f p ≡ true)) → ((p : ℕ) → Stands p hs → p < n) → Once hs → length hs ≡ count n f
+names-counted n f [] e b o = sym (eqb-true _ 0 (count-none n f ∙ all-of n (λ k. not (f k)) (λ k _. not-of (f k) (λ q. let (i, a, _) = e k .1 q in omega arith))))
+names-counted n f (x ∷ xs) e b o =
     let here : Stands x (x ∷ xs) = (0, omega arith, refl) in
-    let c = counted n (without f x) xs (rest f x xs e o) (λ p (i, a, q). b p (suc i, omega arith, q)) (rest-once f x xs e o) in
+    let c = names-counted n (without f x) xs (rest f x xs e o) (λ p (i, a, q). b p (suc i, omega arith, q)) (rest-once f x xs e o) in
     omega (arith, c, count-without f x n (b x here) (e x .0 here))

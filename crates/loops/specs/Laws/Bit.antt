@@ -4,7 +4,7 @@ use mathlib.Core.Bool.{Bool, true, false, not}
 use Prim.Native.Nat.{ℕ, zero, suc, _%_, _≤_, _<_}
 use native.Mathlib.Omega.{arith}
 use lib.Dec.{eqb}
-use Rattle.loops.specs.Bit.{bitOf}
+use Rattle.loops.specs.Loops.{bitOf}
 
 -- a flag that is written as a bit reads back
 pub flag-bit : (b : Bool) → eqb (bitOf b) 1 ≡ b

@@ -7,7 +7,7 @@ use native.Mathlib.Decide.{ℕ-discrete}
 use native.Mathlib.Omega.{arith}
 use lib.Dec.{eqb}
 use borrow.Author.Tests.{eq-eqb, ne-eqb}
-use Rattle.loops.specs.Climb.{climb, Reaches, at-root, by-step, reaches}
+use Rattle.loops.specs.Loops.{climb, Reaches, at-root, by-step, reaches}
 
 -- p gets to 0 in n steps, and not before
 pub data Steps (up : ℕ → ℕ) : ℕ → ℕ → Type 0 where

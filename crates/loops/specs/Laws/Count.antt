@@ -8,13 +8,10 @@ use native.Mathlib.Numerals.{add-one}
 use native.Mathlib.Omega.{arith}
 use lib.Dec.{eqb}
 use borrow.Author.Tests.{eq-eqb, ne-eqb, eqb-true, eqb-false}
-use Rattle.loops.specs.Bit.{bitOf}
+use Rattle.loops.specs.Loops.{bitOf, all, any, carried, sum, count}
 use Rattle.loops.specs.Laws.Bit.{bit-le, bit-zero}
-use Rattle.loops.specs.Every.{all, any}
 use Rattle.loops.specs.Laws.Every.{not-any, all-ext, all-more, all-zero}
-use Rattle.loops.specs.Carry.{done}
 use Rattle.loops.specs.Laws.Carry.{done-none, done-more, done-keeps, done-ext}
-use Rattle.loops.specs.Count.{sum, count}
 
 -- At i, x is the sum below i, and at most b was added a turn.
 pub record Summing (f : ℕ → ℕ) (b n i x : ℕ) : Type 0 where
@@ -88,7 +85,7 @@ module _ (n : ℕ) (f : ℕ → Bool) where
 
 -- numbers of two kinds that exclude each other
 pub count-apart : (n : ℕ) (f g : ℕ → Bool) → ((k : ℕ) → f k ≡ true → g k ≡ false) → count n (λ k. f k || g k) ≡ count n f + count n g
-unfolding sum done
+unfolding sum carried
 count-apart zero f g h = refl
 count-apart (suc n) f g h = omega (arith, count-apart n f g h, bits (f n) (g n) (h n))
   where
@@ -100,7 +97,7 @@ count-apart (suc n) f g h = omega (arith, count-apart n f g h, bits (f n) (g n) 
 
 -- of numbers that are each at most the other
 pub sum-fewer : (n : ℕ) (f g : ℕ → ℕ) → ((k : ℕ) → k < n → f k ≤ g k) → sum n f ≤ sum n g
-unfolding sum done
+unfolding sum carried
 sum-fewer zero f g h = omega arith
 sum-fewer (suc n) f g h = omega (arith, sum-fewer n f g (λ k b. h k (omega arith)), h n (omega arith))
 
@@ -126,7 +123,7 @@ without-other f x k h = rw (ne-eqb k x h) (and-true (f k))
 
 -- a count without one number that counts is one less
 pub count-without : (f : ℕ → Bool) (x n : ℕ) → x < n → f x ≡ true → count n f ≡ count n (without f x) + 1
-unfolding sum done
+unfolding sum carried
 count-without f x zero h q = absurd (omega arith)
 count-without f x (suc n) h q = go (ℕ-discrete x n) (count-without f x n)
   where

@@ -7,8 +7,7 @@ use native.Mathlib.Omega.{arith}
 use borrow.Author.Count.{below-more}
 use borrow.Author.Tests.{not-true, not-false}
 use Rattle.loops.specs.Laws.Scan.{Seeking, Sought, seek-law, seek-none, seek-ext, seek-map}
-use Rattle.loops.specs.Scan.{NoneBelow}
-use Rattle.loops.specs.Every.{any, all}
+use Rattle.loops.specs.Loops.{NoneBelow, any, all}
 
 -- At i, f held of no number below i: with the laws of `Seeking`, for a loop that returns true where f holds and gives `any n f`.
 abbrev pub Missing : (ℕ → Bool) → ℕ → ℕ → Type 0

@@ -7,11 +7,9 @@ use native.Mathlib.Nat.{pow-suc}
 use native.Mathlib.Omega.{arith}
 use lib.Count.{trailingZeros, under}
 use lib.Pow.{pow-mono, shr-shr}
-use Rattle.loops.specs.Bit.{bitOf}
+use Rattle.loops.specs.Loops.{bitOf, rest, hitOr, seek, mapFrom, mapOf}
 use Rattle.loops.specs.Laws.Bit.{bit-le}
-use Rattle.loops.specs.Scan.{rest, hitOr, seek}
 use Rattle.loops.specs.Laws.Scan.{seek-law, seek-first, seek-none, Sought}
-use Rattle.loops.specs.Map.{mapFrom, mapOf}
 
 -- n bits make a number below 2^n
 pub map-lt : (f : ℕ → Bool) (i n : ℕ) → mapFrom f i n < 2 ^ n

@@ -5,7 +5,7 @@ use Prim.Native.Nat.{ℕ, _+_, _≤_, _<_}
 use native.Mathlib.Omega.{arith}
 use lib.Dec.{eqb}
 use lib.Bits.{bitOr, or-add-and, and-le-l, and-le-r}
-use Rattle.loops.specs.Every.{all}
+use Rattle.loops.specs.Loops.{all}
 use Rattle.loops.specs.Laws.Every.{all-zero, all-more}
 use Rattle.loops.specs.Laws.Count.{zero-both}
 

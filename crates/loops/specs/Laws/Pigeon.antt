@@ -3,9 +3,8 @@ use mathlib.Core.Path.{_≡_, refl, subst, _∙_}
 use mathlib.Core.Bool.{Bool, true}
 use Prim.Native.Nat.{ℕ, suc, _+_, _≤_, _<_}
 use native.Mathlib.Omega.{arith}
-use Rattle.loops.specs.Count.{count}
+use Rattle.loops.specs.Loops.{count, Reaches}
 use Rattle.loops.specs.Laws.Count.{count-le, without, without-other, count-without}
-use Rattle.loops.specs.Climb.{Reaches}
 use Rattle.loops.specs.Laws.Climb.{Steps, no-step, one-step, steps-one, steps→reaches, reaches→steps, reaches-more}
 
 -- who is fewer steps away is another

@@ -7,7 +7,7 @@ use native.Mathlib.Omega.{arith}
 use lib.ListN.{length, getD, set, length-set}
 use lib.Seq.{getD-set-same, getD-set-other, ext-getD}
 use borrow.Author.Count.{below-more}
-use Rattle.loops.specs.Rewrite.{tabFrom, tab, Filling}
+use Rattle.loops.specs.Loops.{tabFrom, tab, Filling}
 
 -- the first n elements of l, each by g from its index and itself
 abbrev pub each : ℕ → (ℕ → ℕ → ℕ) → List ℕ → List ℕ

@@ -6,7 +6,7 @@ use Prim.Native.Nat.{ℕ, zero, suc, _+_, _≤_, _<_, _-_}
 use native.Mathlib.Numerals.{add-one}
 use native.Mathlib.Omega.{arith}
 use borrow.Author.Count.{below-more}
-use Rattle.loops.specs.Scan.{rest, hitOr, seek, NoneBelow}
+use Rattle.loops.specs.Loops.{rest, hitOr, seek, NoneBelow}
 
 -- At i, no number below i was a hit: what the search from 0 gives, the search from i gives.
 pub record Seeking {A : Type 0} (f : ℕ → Bool) (hit : ℕ → A) (e : A) (n i : ℕ) : Type 0 where

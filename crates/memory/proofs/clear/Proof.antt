@@ -1,3 +1,4 @@
+-- src/lib.rt, clear: Wrote (λ n. 0) b i end b′
 use mathlib.Core.Path.{refl, sym, _∙_}
 use Prim.Native.Nat.{_-_, _≤_}
 use Rattle.memory.specs.ByteRecords.{Wrote}

@@ -1,3 +1,4 @@
+-- src/lib.rt, clear_record: Wrote (λ n. 0) b (8 + 320 * p .0) (328 + 320 * p .0) b′
 use mathlib.Core.Path.{refl, sym, _∙_}
 use Rattle.memory.specs.Laws.ByteRecords.{zero-cleared, wrote-at}
 use native.Mathlib.Omega.{arith}

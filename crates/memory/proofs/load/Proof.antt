@@ -1,3 +1,4 @@
+-- src/lib.rt, load: (now (t .exit) ≡ wordsOf b) × Top (wordsOf b) r
 use mathlib.Core.Path.{_≡_}
 use Prim.Native.Nat.{_-_, _%_, _≤_}
 use Rattle.memory.specs.ByteRecords.{Loading}

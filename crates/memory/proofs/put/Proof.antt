@@ -1,3 +1,4 @@
+-- src/lib.rt, put: now (b .exit) ≡ putWord b i w
 use mathlib.Core.Path.{_∙_}
 use Rattle.memory.specs.Laws.Quads.{put-halves}
 use native.Mathlib.Omega.{arith}

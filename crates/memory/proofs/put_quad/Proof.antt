@@ -1,3 +1,4 @@
+-- src/lib.rt, put_quad: now (b .exit) ≡ putQuad b i x
 use lib.ListN.{length-set}
 use native.Mathlib.Omega.{arith}
 use borrow.Author.Needs.{needs}

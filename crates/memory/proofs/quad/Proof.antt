@@ -1,3 +1,4 @@
+-- src/lib.rt, quad: Quad b i r
 use Rattle.memory.specs.Laws.Quads.{quad-pairs}
 use native.Mathlib.Omega.{arith}
 use borrow.Author.Needs.{needs}

@@ -1,3 +1,4 @@
+-- src/lib.rt, store: now (b .exit) ≡ bytesOf t
 use mathlib.Core.Path.{refl, sym, _∙_}
 use Prim.Native.Nat.{_+_, _*_, _-_, _≤_}
 use Rattle.memory.specs.Bytes.{byteOf}

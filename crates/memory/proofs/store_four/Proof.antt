@@ -1,3 +1,4 @@
+-- src/lib.rt, store_four: Wrote (byteOf t) b (8 * k) (8 * k + 32) b′
 use mathlib.Core.Path.{refl, sym, _∙_}
 use Prim.Native.Nat.{_+_, _*_, _-_, _≤_}
 use Rattle.memory.specs.Bytes.{byteOf}

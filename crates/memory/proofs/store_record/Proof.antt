@@ -1,3 +1,4 @@
+-- src/lib.rt, store_record: Wrote (byteOf t) b (8 + 320 * p .0) (328 + 320 * p .0) b′
 use mathlib.Core.Path.{_≡_, refl, sym, _∙_}
 use Prim.Native.Nat.{_*_, _-_, _%_, _≤_}
 use native.Mathlib.Nat.{add-zero}

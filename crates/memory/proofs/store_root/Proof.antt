@@ -1,3 +1,4 @@
+-- src/lib.rt, store_root: now (b .exit) ≡ bytesOf t
 use Rattle.memory.specs.Laws.ByteRecords.{root-stored}
 use native.Mathlib.Omega.{arith}
 use borrow.Author.Needs.{needs}

@@ -1,3 +1,4 @@
+-- src/lib.rt, word: r ≡ wordFrom b i
 use Rattle.memory.specs.Laws.Quads.{word-halves}
 use native.Mathlib.Omega.{arith}
 use borrow.Author.Needs.{needs}

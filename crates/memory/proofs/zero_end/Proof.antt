@@ -1,3 +1,4 @@
+-- src/lib.rt, zero_end: ZeroEnd b r
 use mathlib.Core.Path.{_≡_, sym, _∙_}
 use Prim.Native.Nat.{_%_}
 use borrow.Author.Tests.{not-false}

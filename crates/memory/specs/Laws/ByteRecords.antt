@@ -10,9 +10,9 @@ use lib.ListN.{length, getD, set, replicate, length-replicate, getD-replicate, l
 use borrow.Author.Tests.{eq-eqb, ne-eqb, lt-ltb, le-ltb}
 use lib.Seq.{ext-getD, getD-set-same, getD-set-other}
 use Rattle.loops.specs.Laws.Carry.{done-keeps}
-use Rattle.loops.specs.Rewrite.{tabFrom}
+use Rattle.loops.specs.Loops.{tabFrom}
 use Rattle.loops.specs.Laws.Rewrite.{tab-at, tab-is, tab-ext, fill-start, fill-put}
-use Rattle.words.specs.Parts.{pack}
+use Rattle.words.specs.Parts.{packParts}
 use Rattle.tables.specs.View.{recordWord, areaWordAt}
 use Rattle.tables.specs.State.{none, Table}
 use Rattle.tables.specs.Encode.{headerWord, structureWord, slotWord, partWord, wordFor, encode}
@@ -57,7 +57,7 @@ end-on {b} {k} {n} e q z = record { within = omega (arith, e .within); zero = λ
 module _ {b : List ℕ} {n : ℕ} (e : ZeroEnd b n) where
   zero-at : (k : ℕ) → n ≤ k → k < 641 → wordAt b k ≡ 0
   unfolding wordAt tabFrom
-  zero-at k h g = ap (pack octets) (tab-ext 8 _ (λ j. 0) (λ j q. e .zero (8 * k + j) (omega arith) (omega arith)))
+  zero-at k h g = ap (packParts octets) (tab-ext 8 _ (λ j. 0) (λ j q. e .zero (8 * k + j) (omega arith) (omega arith)))
 
   -- the words from there on are zero, as they were
   pub load-rest : {k : ℕ} {t : List ℕ} → Loading b k t → n ≤ k → t ≡ wordsOf b
@@ -180,7 +180,7 @@ unfolding tabFrom
 tells-after {b = b} {s} {p = p} w h t = record {
   zero = λ e i x y.
       w .after i (omega arith)
-      ∙ t .zero (ap (pack octets) (tab-ext 8 (λ n. getD b (8 + 320 * p + n) 0) _ (λ n q. sym (w .after (8 + 320 * p + n) (omega arith)))) ∙ e) i x y;
+      ∙ t .zero (ap (packParts octets) (tab-ext 8 (λ n. getD b (8 + 320 * p + n) 0) _ (λ n q. sym (w .after (8 + 320 * p + n) (omega arith)))) ∙ e) i x y;
 }
 
 -- ── the root alone ──

@@ -7,9 +7,9 @@ use native.Mathlib.Omega.{arith}
 use lib.Dec.{ltb, lit<}
 use lib.ListN.{length, getD, List·getD-eq-default}
 use borrow.Author.Tests.{ltb-true, ltb-false}
-use Rattle.loops.specs.Rewrite.{tab, tabFrom}
+use Rattle.loops.specs.Loops.{tab, tabFrom}
 use Rattle.loops.specs.Laws.Rewrite.{length-tab, tab-at, tab-getD, tab-ext}
-use Rattle.words.specs.Parts.{pack, unpack}
+use Rattle.words.specs.Parts.{packParts, unpack}
 use Rattle.words.specs.Laws.Parts.{pack-unpack, unpack-pack, pack-lt}
 use Rattle.tables.specs.Fitting.{Words}
 use Rattle.tables.specs.View.{recordWord}
@@ -42,7 +42,7 @@ pub words-there : (n : ℕ) (l : List ℕ) → length l ≡ n → ((k : ℕ) →
 unfolding wordAt
 words-there n l h small =
     tab-ext n _ _
-    (λ k q. ap (pack octets) (octets-at n l k q) ∙ pack-unpack octets (getD l k 0) (small k q) tt)
+    (λ k q. ap (packParts octets) (octets-at n l k q) ∙ pack-unpack octets (getD l k 0) (small k q) tt)
     ∙ tab-getD n l h
 
 pub words-bytes : (l : List ℕ) → length l ≡ 641 → ((k : ℕ) → k < 641 → getD l k 0 < 2 ^ 64) → wordsOf (bytesOf l) ≡ l
@@ -50,7 +50,7 @@ unfolding wordsOf bytesOf
 words-bytes l h small = words-there 641 l h small
 
 -- the bytes of a word that is packed from eight bytes are these
-byteAt-pack : (f : ℕ → ℕ) (j : ℕ) → ((j : ℕ) → j < 8 → f j < 256) → j < 8 → byteAt (pack octets (tab 8 f)) j ≡ f j
+byteAt-pack : (f : ℕ → ℕ) (j : ℕ) → ((j : ℕ) → j < 8 → f j < 256) → j < 8 → byteAt (packParts octets (tab 8 f)) j ≡ f j
 unfolding byteAt tabFrom
 byteAt-pack f j small h =
     ap (λ (l : List ℕ). getD l j 0) (unpack-pack octets (tab 8 f) (search lit<)) ∙ tab-at 8 f j h
@@ -88,15 +88,15 @@ record-byte l p n a b =
     tab-at 5128 (byteOf l) (8 + 320 * p + n) (omega arith) ∙ rw (i, j) refl
 
 -- a record's words are those of its bytes
-pub record-word : (b : List ℕ) (p o : ℕ) → p < 16 → o < 40 → recordWord (wordsOf b) p o ≡ pack octets (tab 8 (λ j. recordByte b p (8 * o + j)))
+pub record-word : (b : List ℕ) (p o : ℕ) → p < 16 → o < 40 → recordWord (wordsOf b) p o ≡ packParts octets (tab 8 (λ j. recordByte b p (8 * o + j)))
 unfolding wordsOf recordWord wordAt recordByte
 record-word b p o h k =
     tab-at 641 (wordAt b) (1 + 40 * p + o) (omega arith)
-    ∙ ap (pack octets) (tab-ext 8 _ _ (λ j q. ap (λ (n : ℕ). getD b n 0) (omega arith)))
+    ∙ ap (packParts octets) (tab-ext 8 _ _ (λ j q. ap (λ (n : ℕ). getD b n 0) (omega arith)))
 
 -- so a record of which no byte changes keeps its words
 pub record-stays : (b c : List ℕ) (p : ℕ) → p < 16 → ((n : ℕ) → n < 320 → recordByte c p n ≡ recordByte b p n) → (o : ℕ) → o < 40 → recordWord (wordsOf c) p o ≡ recordWord (wordsOf b) p o
 record-stays b c p h same o k =
     record-word c p o h k
-    ∙ ap (pack octets) (tab-ext 8 _ _ (λ j q. same (8 * o + j) (omega arith)))
+    ∙ ap (packParts octets) (tab-ext 8 _ _ (λ j q. same (8 * o + j) (omega arith)))
     ∙ sym (record-word b p o h k)

@@ -10,8 +10,7 @@ use lib.Dec.{eqb}
 use lib.ListN.{getD}
 use borrow.Author.Tests.{eqb-true}
 use Rattle.loops.specs.Laws.Every.{all-at}
-use Rattle.loops.specs.Carry.{done}
-use Rattle.loops.specs.Rewrite.{tabFrom}
+use Rattle.loops.specs.Loops.{carried, tabFrom}
 use Rattle.memory.specs.Bytes.{wordFrom, byteAt, putWord}
 use Rattle.memory.specs.Quads.{quadAt, Quad, putQuad, turned, zeroEight}
 
@@ -53,7 +52,7 @@ low-bytes w = (omega arith, omega arith, omega arith, omega arith, omega arith)
 
 -- a word is put as its two halves, each turned round
 pub put-halves : (b : List ℕ) (i w : ℕ) {x y : ℕ} → w < 2 ^ 64 → x ≡ turned (w / 0x1_0000_0000) → y ≡ turned (w % 0x1_0000_0000) → putQuad (putQuad b i x) (i + 4) y ≡ putWord b i w
-unfolding done byteAt
+unfolding carried byteAt
 put-halves b i w small e f =
     let u = high-bytes w small in
     let v = low-bytes w in

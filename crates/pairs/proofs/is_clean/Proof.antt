@@ -1,4 +1,5 @@
-use Rattle.words.specs.Kind.{zeroed-sum}
+-- src/lib.rt, is_clean: r ≡ zeroed pair w
+use Rattle.words.specs.Laws.Kind.{zeroed-sum}
 use Rattle.pairs.specs.Word.{pair}
 use borrow.Author.Needs.{needs}
 use Rattle.pairs.proofs.is_clean.Statement.{statement}

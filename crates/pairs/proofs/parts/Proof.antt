@@ -1,3 +1,4 @@
+-- src/lib.rt, parts: r ≡ parted word
 use mathlib.Core.Path.{ap, sym, _∙_}
 use Rattle.pairs.specs.Pair.{parted}
 use Rattle.pairs.specs.declared.PairWritten.the-variants.{Pair}

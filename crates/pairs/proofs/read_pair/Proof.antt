@@ -1,3 +1,4 @@
+-- src/lib.rt, read_pair: r ≡ reads rbar rlar
 use mathlib.Core.Path.{sym, _∙_}
 use mathlib.Core.Bool.{true≢false}
 use native.Mathlib.Omega.{arith}

@@ -1,3 +1,4 @@
+-- src/lib.rt, write_pair: r ≡ writes (plain start end rights)
 use native.Mathlib.Omega.{arith}
 use Rattle.pairs.specs.Pair.{plain}
 use Rattle.pairs.specs.Laws.Answers.{writes-unread, writes-empty, writes-past, writes-by}

@@ -3,7 +3,8 @@ use mathlib.Core.Path.{_≡_, refl, ap, sym, subst, _∙_}
 use mathlib.Core.Bool.{Bool, true, false, cond, not, true≢false}
 use Prim.Native.Nat.{ℕ, _-_, _≤_, _<_, _^_}
 use native.Mathlib.Omega.{arith}
-use Rattle.words.specs.Kind.{writing, fieldsIn, zeroed, zeroed-means, write-done}
+use Rattle.words.specs.Kind.{writing, fieldsIn, zeroed}
+use Rattle.words.specs.Laws.Kind.{zeroed-means, write-done}
 use Rattle.words.specs.Words.{slot}
 use Rattle.words.specs.Laws.Kinds.{slot-range}
 use Rattle.words.specs.declared.Written.{Written}
@@ -12,8 +13,8 @@ use Rattle.tables.specs.State.{some, Entry}
 use Rattle.tables.specs.Encode.{slotFor, slotWord}
 use Rattle.pairs.specs.Word.{pair}
 use Rattle.pairs.specs.declared.pair_word.PairFields.{PairFields}
-use Rattle.pairs.specs.Pair.{Readable, readable, fieldsOf, saidBy, Fair, pairOf, entryIn, joined, halves, writes, openWord, reads, parted}
-use Rattle.pairs.specs.Laws.Pair.{readable-says, readable-true, of-range, Good, entry-done, entry-none}
+use Rattle.pairs.specs.Pair.{Readable, readable, fieldsOf, saidBy, Fair, pairOf, entryOfPair, oneWord, halves, writes, openWord, reads, parted}
+use Rattle.pairs.specs.Laws.Pair.{readable-says, readable-true, of-range, GoodPair, entry-done, entry-none}
 use Rattle.pairs.specs.declared.PairWritten.{PairWritten}
 use Rattle.pairs.specs.declared.PairWritten.the-variants.{Pair, Refused}
 
@@ -53,10 +54,10 @@ module _ (e : Entry) where
       y ∙ ap parted (x ∙ ap (λ (m : ℕ). writing pair (fieldsWith m)) q ∙ write-done pair (fieldsOf e) (of-range e h)) ∙ sym (writes-done e h)
 
 -- ── reading ──
-module _ (rbar rlar : ℕ) {w : ℕ} (q : w ≡ joined rbar rlar) where
-  refused : (Good w → ⊥) → NotWritten 22 ≡ reads rbar rlar
+module _ (rbar rlar : ℕ) {w : ℕ} (q : w ≡ oneWord rbar rlar) where
+  refused : (GoodPair w → ⊥) → NotWritten 22 ≡ reads rbar rlar
   unfolding openWord
-  refused h = sym (ap openWord (entry-none w h)) ∙ ap (λ (v : ℕ). openWord (entryIn v)) q
+  refused h = sym (ap openWord (entry-none w h)) ∙ ap (λ (v : ℕ). openWord (entryOfPair v)) q
 
   -- a zero bit is set; or a field is not as it should be
   pub reads-set : zeroed pair w ≡ false → NotWritten 22 ≡ reads rbar rlar
@@ -69,9 +70,9 @@ module _ (rbar rlar : ℕ) {w : ℕ} (q : w ≡ joined rbar rlar) where
     pub reads-is : {o : Written} → zeroed pair w ≡ true → Fair f → o ≡ writing slot (slotFor (saidBy f) true) → o ≡ reads rbar rlar
     unfolding openWord slotWord
     reads-is e h y =
-        let g : Good w = record { zeroed = zeroed-means pair w .0 e; fair = subst Fair p h } in
+        let g : GoodPair w = record { zeroed = zeroed-means pair w .0 e; fair = subst Fair p h } in
         y
         ∙ write-done slot (slotFor (saidBy f) true) (slot-range (slotFor (saidBy f) true) (omega arith) (omega (arith, h .rising, h .below)) (omega (arith, h .below)))
         ∙ ap (λ (x : PairFields). openWord (some (saidBy x))) p
         ∙ sym (ap openWord (entry-done w g))
-        ∙ ap (λ (v : ℕ). openWord (entryIn v)) q
+        ∙ ap (λ (v : ℕ). openWord (entryOfPair v)) q

@@ -7,7 +7,7 @@ use native.Mathlib.Omega.{arith}
 use Rattle.words.specs.declared.Written.the-variants.{Word, Refused as NotWritten}
 use Rattle.tables.specs.State.{Opt, none, some, Entry, entry}
 use Rattle.tables.specs.Encode.{slotWord}
-use Rattle.pairs.specs.Pair.{Readable, bare, pairOf, entryIn, joined, halves, writes, openWord, reads}
+use Rattle.pairs.specs.Pair.{Readable, bare, pairOf, entryOfPair, oneWord, halves, writes, openWord, reads}
 use Rattle.pairs.specs.Exactly.{registers, Pairs, Written as WrittenBy}
 use Rattle.pairs.specs.Laws.Word.{printed-pair}
 use Rattle.pairs.specs.Laws.Pair.{pair-back, pair-only}
@@ -16,10 +16,10 @@ use Rattle.pairs.specs.declared.Registers.{Registers}
 use Rattle.pairs.specs.declared.PairWritten.the-variants.{Pair, Refused}
 
 -- ── two registers and one word ──
-joined-halves : (w : ℕ) → joined (halves w .rbar) (halves w .rlar) ≡ w
+joined-halves : (w : ℕ) → oneWord (halves w .rbar) (halves w .rlar) ≡ w
 joined-halves w = omega arith
 
-halves-joined : (a b : ℕ) → b < 2 ^ 32 → halves (joined a b) ≡ registers a b
+halves-joined : (a b : ℕ) → b < 2 ^ 32 → halves (oneWord a b) ≡ registers a b
 halves-joined a b h =
     let x : (a * 2 ^ 32 + b) / 2 ^ 32 ≡ a = omega arith in
     let y : (a * 2 ^ 32 + b) % 2 ^ 32 ≡ b = omega arith in
@@ -30,41 +30,41 @@ pair-part u = cc
 
 -- ── what was written reads back ──
 module _ (e : Entry) (a b : ℕ) (h : Readable e) (q : writes e ≡ Pair (registers a b)) where
-  joins : joined a b ≡ pairOf e
+  joins : oneWord a b ≡ pairOf e
   joins =
       let s : halves (pairOf e) ≡ registers a b = pair-part (sym (writes-done e h) ∙ q) in
-      sym (ap (λ (x : Registers). joined (x .rbar) (x .rlar)) s) ∙ joined-halves (pairOf e)
+      sym (ap (λ (x : Registers). oneWord (x .rbar) (x .rlar)) s) ∙ joined-halves (pairOf e)
 
   back : reads a b ≡ Word (slotWord (some (bare e)) true)
   unfolding openWord
-  back = ap (λ (w : ℕ). openWord (entryIn w)) joins ∙ ap openWord (pair-back e h)
+  back = ap (λ (w : ℕ). openWord (entryOfPair w)) joins ∙ ap openWord (pair-back e h)
 
   own : e .given ≡ 0 → e .whole ≡ false → reads a b ≡ Word (slotWord (some e) true)
   own g w = back ∙ ap₂ (λ (n : ℕ) (x : Bool). Word (slotWord (some (entry (e .start) (e .stop) n (e .rights) x)) true)) (sym g) (sym w)
 
 -- ── what reads was written ──
 module _ (a b : ℕ) (h : a < 2 ^ 32) (k : b < 2 ^ 32) where
-  told : (x : Entry) → entryIn (joined a b) ≡ some x → Readable x × (x .given ≡ 0) × (x .whole ≡ false) × (writes x ≡ Pair (registers a b))
+  told : (x : Entry) → entryOfPair (oneWord a b) ≡ some x → Readable x × (x .given ≡ 0) × (x .whole ≡ false) × (writes x ≡ Pair (registers a b))
   told x q =
-      let o = pair-only (joined a b) x (omega arith) q in
+      let o = pair-only (oneWord a b) x (omega arith) q in
       (o .readable, o .plain, o .not-whole, writes-done x (o .readable) ∙ ap (λ (w : ℕ). Pair (halves w)) (sym (o .written)) ∙ ap Pair (halves-joined a b k))
 
   only : (w : ℕ) → reads a b ≡ Word w → (e : Entry) × Readable e × (e .given ≡ 0) × (e .whole ≡ false) × (w ≡ slotWord (some e) true) × (writes e ≡ Pair (registers a b))
   unfolding openWord
-  only w q = go (entryIn (joined a b)) refl q
+  only w q = go (entryOfPair (oneWord a b)) refl q
     where
-      go : (o : Opt Entry) → entryIn (joined a b) ≡ o → openWord o ≡ Word w → (e : Entry) × Readable e × (e .given ≡ 0) × (e .whole ≡ false) × (w ≡ slotWord (some e) true) × (writes e ≡ Pair (registers a b))
+      go : (o : Opt Entry) → entryOfPair (oneWord a b) ≡ o → openWord o ≡ Word w → (e : Entry) × Readable e × (e .given ≡ 0) × (e .whole ≡ false) × (w ≡ slotWord (some e) true) × (writes e ≡ Pair (registers a b))
       go none p u = absurd (let z : _≡_ {A = ℕ} 0 1 = cc in omega arith)
       go (some x) p u = let (r, g, v, y) = told x p in (x, r, g, v, (cc), y)
 
   unwritten : (reads a b ≡ NotWritten 22) ↔ (WrittenBy a b → ⊥)
   unfolding openWord
-  unwritten = (λ q t. no-both (t .0) (t .1) (t .2) q, λ n. go n (entryIn (joined a b)) refl)
+  unwritten = (λ q t. no-both (t .0) (t .1) (t .2) q, λ n. go n (entryOfPair (oneWord a b)) refl)
     where
-      no-both : (e : Entry) → Readable e → writes e ≡ Pair (registers a b) → openWord (entryIn (joined a b)) ≡ NotWritten 22 → ⊥
+      no-both : (e : Entry) → Readable e → writes e ≡ Pair (registers a b) → openWord (entryOfPair (oneWord a b)) ≡ NotWritten 22 → ⊥
       no-both e r p q = let u = back e a b r p in let z : _≡_ {A = ℕ} 0 1 = cc in omega arith
 
-      go : (WrittenBy a b → ⊥) → (o : Opt Entry) → entryIn (joined a b) ≡ o → openWord o ≡ NotWritten 22
+      go : (WrittenBy a b → ⊥) → (o : Opt Entry) → entryOfPair (oneWord a b) ≡ o → openWord o ≡ NotWritten 22
       go n none p = refl
       go n (some x) p = let (r, g, v, y) = told x p in absurd (n (x, r, y))
 

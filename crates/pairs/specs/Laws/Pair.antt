@@ -5,14 +5,14 @@ use Prim.Native.Nat.{ℕ, _+_, _-_, _%_, _^_, _<_}
 use native.Mathlib.Omega.{arith}
 use lib.Dec.{eqb, ltb, leb}
 use borrow.Author.Tests.{lt-ltb, ltb-true, le-leb, leb-true, eqb-true, eq-eqb}
-use Rattle.words.specs.Kind.{fieldsIn, wordOf, zeroed, InRange, Zeroed, zeroed-means}
-use Rattle.words.specs.Laws.Kind.{word-back, fields-back, word-zeroed}
+use Rattle.words.specs.Kind.{fieldsIn, wordOf, zeroed, InRange, Zeroed}
+use Rattle.words.specs.Laws.Kind.{zeroed-means, word-back, fields-back, word-zeroed}
 use Rattle.tables.specs.State.{none, some, Entry, entry}
 use Rattle.tables.specs.Laws.State.{some-inj, not-none}
 use Rattle.pairs.specs.Word.{pair}
 use Rattle.pairs.specs.Laws.Word.{pair-range, pair-lawful, access-small}
 use Rattle.pairs.specs.declared.pair_word.PairFields.{PairFields}
-use Rattle.pairs.specs.Pair.{Readable, readable, bare, fieldsOf, saidBy, Fair, fair, pairOf, entryIn}
+use Rattle.pairs.specs.Pair.{Readable, readable, bare, fieldsOf, saidBy, Fair, fair, pairOf, entryOfPair}
 
 -- ── tests as propositions ──
 pub readable-says : (e : Entry) → readable e ≡ true → Readable e
@@ -84,30 +84,30 @@ said-readable : (f : PairFields) → Fair f → Readable (saidBy f)
 said-readable f h = record { read = refl; rising = omega (arith, h .rising); below = omega (arith, h .below) }
 
 -- ── words that tell an entry ──
-pub record Good (w : ℕ) : Type 0 where
+pub record GoodPair (w : ℕ) : Type 0 where
   pub zeroed : Zeroed pair w
   pub fair : Fair (fieldsIn pair w)
 
-good-says : (w : ℕ) → zeroed pair w && fair (fieldsIn pair w) ≡ true → Good w
+good-says : (w : ℕ) → zeroed pair w && fair (fieldsIn pair w) ≡ true → GoodPair w
 good-says w q =
     let a = and-eq-true-iff (zeroed pair w) _ .0 q in
     record { zeroed = zeroed-means pair w .0 (a .0); fair = fair-says (fieldsIn pair w) (a .1) }
 
-pub entry-done : (w : ℕ) → Good w → entryIn w ≡ some (saidBy (fieldsIn pair w))
-unfolding entryIn
+pub entry-done : (w : ℕ) → GoodPair w → entryOfPair w ≡ some (saidBy (fieldsIn pair w))
+unfolding entryOfPair
 entry-done w h = rw (zeroed-means pair w .1 (h .zeroed), fair-true (fieldsIn pair w) (h .fair)) refl
 
 -- a word that is not, or one that is with the entry
-entry-either : (w : ℕ) → (b : Bool) → zeroed pair w && fair (fieldsIn pair w) ≡ b → (x : Entry) → cond b (some (saidBy (fieldsIn pair w))) none ≡ some x → Good w × (saidBy (fieldsIn pair w) ≡ x)
+entry-either : (w : ℕ) → (b : Bool) → zeroed pair w && fair (fieldsIn pair w) ≡ b → (x : Entry) → cond b (some (saidBy (fieldsIn pair w))) none ≡ some x → GoodPair w × (saidBy (fieldsIn pair w) ≡ x)
 entry-either w true g x p = (good-says w g, some-inj p)
 entry-either w false g x p = not-none none refl p
 
-pub entry-says : (w : ℕ) (x : Entry) → entryIn w ≡ some x → Good w × (saidBy (fieldsIn pair w) ≡ x)
-unfolding entryIn
+pub entry-says : (w : ℕ) (x : Entry) → entryOfPair w ≡ some x → GoodPair w × (saidBy (fieldsIn pair w) ≡ x)
+unfolding entryOfPair
 entry-says w x q = entry-either w _ refl x q
 
-pub entry-none : (w : ℕ) → (Good w → ⊥) → entryIn w ≡ none
-unfolding entryIn
+pub entry-none : (w : ℕ) → (GoodPair w → ⊥) → entryOfPair w ≡ none
+unfolding entryOfPair
 entry-none w h = go (zeroed pair w && fair (fieldsIn pair w)) refl
   where
     go : (b : Bool) → zeroed pair w && fair (fieldsIn pair w) ≡ b → cond b (some (saidBy (fieldsIn pair w))) none ≡ none
@@ -116,13 +116,13 @@ entry-none w h = go (zeroed pair w && fair (fieldsIn pair w)) refl
 
 -- ── what is written reads back to the same range and rights ──
 module _ (e : Entry) (h : Readable e) where
-  good-pair : Good (pairOf e)
+  good-pair : GoodPair (pairOf e)
   good-pair = record {
     zeroed = word-zeroed pair-lawful (fieldsOf e) (of-range e h);
     fair = subst Fair (sym (fields-back pair-lawful (fieldsOf e) (of-range e h))) (of-fair e h);
   }
 
-  pub pair-back : entryIn (pairOf e) ≡ some (bare e)
+  pub pair-back : entryOfPair (pairOf e) ≡ some (bare e)
   pair-back =
       entry-done (pairOf e) good-pair
       ∙ ap (λ (f : PairFields). some (saidBy f)) (fields-back pair-lawful (fieldsOf e) (of-range e h))
@@ -135,7 +135,7 @@ pub record Only (w : ℕ) (x : Entry) : Type 0 where
   pub plain : x .given ≡ 0
   pub not-whole : x .whole ≡ false
 
-pub pair-only : (w : ℕ) (x : Entry) → w < 2 ^ 64 → entryIn w ≡ some x → Only w x
+pub pair-only : (w : ℕ) (x : Entry) → w < 2 ^ 64 → entryOfPair w ≡ some x → Only w x
 pair-only w x b q =
     let (g, s) = entry-says w x q in
     subst (Only w) s (record {

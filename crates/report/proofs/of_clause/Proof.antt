@@ -1,3 +1,4 @@
+-- src/lib.rt, of_clause: take (r .len) (r .bytes) ≡ printedLine (Fails n p)
 use native.Mathlib.Omega.{arith}
 use Rattle.report.specs.Laws.Report.{one-one, one-two, two-one, two-two}
 use borrow.Author.Needs.{needs}

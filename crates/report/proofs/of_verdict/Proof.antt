@@ -1,11 +1,12 @@
+-- src/lib.rt, of_verdict: take (r .len) (r .bytes) ≡ printedLine v
 use mathlib.Core.Path.{refl, sym, ap, _∙_}
-use Rattle.report.specs.Report.{printed}
+use Rattle.report.specs.Report.{printedLine}
 use borrow.Author.Needs.{needs}
 use Rattle.report.proofs.of_verdict.Statement.{statement}
 use Rattle.report.proofs.of_verdict.Tie as tie
 
 pub of-verdict-spec : {M : Type 1} → statement M
-unfolding printed
+unfolding printedLine
 of-verdict-spec =
     tie.close
     (tie.spec
@@ -13,6 +14,6 @@ of-verdict-spec =
     (λ c. search needs)
     (λ c κs. c .before .before .before .pre .fails _ _ (c .before .v .given .1))
     (λ c. search needs)
-    (λ c. ap printed (sym (c .enum-told .given .1)))
-    (λ c. c .of-clause .ensures ∙ ap printed (sym (c .before .before .v .given .1)))
-    (λ c. ap printed (sym (c .enum-told2 .given .1))))
+    (λ c. ap printedLine (sym (c .enum-told .given .1)))
+    (λ c. c .of-clause .ensures ∙ ap printedLine (sym (c .before .before .v .given .1)))
+    (λ c. ap printedLine (sym (c .enum-told2 .given .1))))

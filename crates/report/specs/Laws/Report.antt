@@ -5,7 +5,7 @@ use Prim.Native.Nat.{ℕ, _+_, _-_, _/_, _%_, _≤_, _<_}
 use native.Mathlib.Omega.{arith}
 use borrow.Author.Tests.{lt-ltb, le-ltb}
 use Rattle.verdict.specs.declared.Verdict.the-variants.{Fails}
-use Rattle.report.specs.Report.{decimal, printed}
+use Rattle.report.specs.Report.{decimal, printedLine}
 
 -- a number of one digit, and one from 10 to 19
 one : (n : ℕ) {a : ℕ} → n < 10 → a ≡ 48 + n → decimal n ≡ a ∷ []
@@ -20,18 +20,18 @@ two n b c q =
     rw (le-ltb n 10 b, q, x, y) refl
 
 module _ (n p : ℕ) {a b : ℕ} where
-  pub one-one : n < 10 → p < 10 → a ≡ 48 + n → b ≡ 48 + p → 83 ∷ a ∷ 32 ∷ b ∷ 10 ∷ [] ≡ printed (Fails n (record { 0 = p }))
-  unfolding printed
+  pub one-one : n < 10 → p < 10 → a ≡ 48 + n → b ≡ 48 + p → 83 ∷ a ∷ 32 ∷ b ∷ 10 ∷ [] ≡ printedLine (Fails n (record { 0 = p }))
+  unfolding printedLine
   one-one x y u v = rw (one n x u, one p y v) refl
 
-  pub one-two : n < 10 → 10 ≤ p → p < 16 → a ≡ 48 + n → b ≡ 48 + (p - 10) → 83 ∷ a ∷ 32 ∷ 49 ∷ b ∷ 10 ∷ [] ≡ printed (Fails n (record { 0 = p }))
-  unfolding printed
+  pub one-two : n < 10 → 10 ≤ p → p < 16 → a ≡ 48 + n → b ≡ 48 + (p - 10) → 83 ∷ a ∷ 32 ∷ 49 ∷ b ∷ 10 ∷ [] ≡ printedLine (Fails n (record { 0 = p }))
+  unfolding printedLine
   one-two x y z u v = rw (one n x u, two p y (omega arith) v) refl
 
-  pub two-one : 10 ≤ n → n < 12 → p < 10 → a ≡ 48 + (n - 10) → b ≡ 48 + p → 83 ∷ 49 ∷ a ∷ 32 ∷ b ∷ 10 ∷ [] ≡ printed (Fails n (record { 0 = p }))
-  unfolding printed
+  pub two-one : 10 ≤ n → n < 12 → p < 10 → a ≡ 48 + (n - 10) → b ≡ 48 + p → 83 ∷ 49 ∷ a ∷ 32 ∷ b ∷ 10 ∷ [] ≡ printedLine (Fails n (record { 0 = p }))
+  unfolding printedLine
   two-one x y z u v = rw (two n x (omega arith) u, one p z v) refl
 
-  pub two-two : 10 ≤ n → n < 12 → 10 ≤ p → p < 16 → a ≡ 48 + (n - 10) → b ≡ 48 + (p - 10) → 83 ∷ 49 ∷ a ∷ 32 ∷ 49 ∷ b ∷ 10 ∷ [] ≡ printed (Fails n (record { 0 = p }))
-  unfolding printed
+  pub two-two : 10 ≤ n → n < 12 → 10 ≤ p → p < 16 → a ≡ 48 + (n - 10) → b ≡ 48 + (p - 10) → 83 ∷ 49 ∷ a ∷ 32 ∷ 49 ∷ b ∷ 10 ∷ [] ≡ printedLine (Fails n (record { 0 = p }))
+  unfolding printedLine
   two-two x y z w u v = rw (two n x (omega arith) u, two p z (omega arith) v) refl

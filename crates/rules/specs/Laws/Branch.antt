@@ -6,12 +6,12 @@ use native.Mathlib.Decide.{ℕ-discrete}
 use native.Mathlib.Omega.{arith}
 use lib.Dec.{eqb}
 use borrow.Author.Tests.{eq-eqb, ne-eqb}
-use Rattle.loops.specs.Climb.{climb, Reaches, at-root, by-step}
+use Rattle.loops.specs.Loops.{climb, Reaches, at-root, by-step}
 use Rattle.loops.specs.Laws.Climb.{climb-root, climb-lost, climb-suc, Steps, no-step, one-step, steps-one, reaches→steps}
 use Rattle.loops.specs.Laws.Pigeon.{climb-within}
 use Rattle.tables.specs.Update.{upd1}
 use Rattle.tables.specs.Laws.Update.{upd1-same, upd1-other}
-use Rattle.rules.specs.Rules.{zeroed, branch}
+use Rattle.rules.specs.Rules.{recordsZero, branch}
 use Rattle.rules.specs.Branch.{Under, itself, below}
 
 module _ (up : ℕ → ℕ) (p : ℕ) where
@@ -34,7 +34,7 @@ module _ (up : ℕ → ℕ) (p : ℕ) where
       below z (meets-under n (up q) (ℕ-discrete (up q) 0) (ℕ-discrete (up q) p) (sym (meets-up n q z e) ∙ h))
 
   -- the walk stops at p, so its parent does not count
-  meets-cut : (n q : ℕ) → Dec (q ≡ 0) → Dec (q ≡ p) → climb (zeroed (λ q. eqb q p) 0 up) (λ k. false) false (λ r above. eqb r p || above) q n ≡ meets q n
+  meets-cut : (n q : ℕ) → Dec (q ≡ 0) → Dec (q ≡ p) → climb (recordsZero (λ q. eqb q p) 0 up) (λ k. false) false (λ r above. eqb r p || above) q n ≡ meets q n
   unfolding climb
   meets-cut zero q d e = refl
   meets-cut (suc n) q (yes z) e = rw (eq-eqb q 0 z) refl
@@ -83,7 +83,7 @@ module _ (up : ℕ → ℕ) (p : ℕ) where
         stays q (yes z) = rw (upd1-same up p 0 q z) (omega arith)
         stays q (no z) = rw (upd1-other up p 0 q z) (small q)
 
-  pub branch-cut : (q : ℕ) → branch (zeroed (λ q. eqb q p) 0 up) p q ≡ branch up p q
+  pub branch-cut : (q : ℕ) → branch (recordsZero (λ q. eqb q p) 0 up) p q ≡ branch up p q
   unfolding branch
   branch-cut q = meets-cut 15 q (ℕ-discrete q 0) (ℕ-discrete q p)
 

@@ -140,10 +140,10 @@ unfolding bootOn
 boot-brief l base end = checked 1 _ (omega arith) (checked 7 _ (omega arith) (brief-done (omega arith)))
 
 -- ── what an outcome shows ──
-pub first-small : {res : Result} → Brief res → {v w : ℕ} → outcomeOf res ≡ Done v w → v < 2 ^ 32
+pub brief-first : {res : Result} → Brief res → {v w : ℕ} → outcomeOf res ≡ Done v w → v < 2 ^ 32
 unfolding outcomeOf
-first-small (brief-done h) q = let e = done-first q in omega arith
-first-small (brief-refused h) q = absurd (refused-done q)
+brief-first (brief-done h) q = let e = done-first q in omega arith
+brief-first (brief-refused h) q = absurd (refused-done q)
 
 pub number-small : {res : Result} → Brief res → {n : ℕ} → outcomeOf res ≡ Refused n → n < 2 ^ 8
 unfolding outcomeOf

@@ -28,7 +28,7 @@ use Rattle.rules.specs.Rules.{refused, check, uses, known, perform, serv
 use Rattle.rules.specs.Ran.{Ran}
 use Rattle.rules.specs.Laws.Ran.{ran-one, ran-refused, ran-as, pass, fail}
 use Rattle.rules.specs.Reads.{onlyReads, standsAfter}
-use Rattle.rules.specs.Calls.{callerOf, Answers}
+use Rattle.rules.specs.Calls.{callerOf, CallAnswers}
 
 pub caller-small : (board : Board) (l : List ℕ) → callerOf board l < 16
 unfolding callerOf
@@ -39,7 +39,7 @@ caller-small board l = go (sound board l)
     go false = omega arith
 
 -- two results are equal: the answer, and every word
-pub answers-one : {board : Board} {before : List ℕ} {w : ℕ} {r s : Answer} {a b : List ℕ} → Answers board before w r a → Answers board before w s b → (r ≡ s) × (a ≡ b)
+pub answers-one : {board : Board} {before : List ℕ} {w : ℕ} {r s : Answer} {a b : List ℕ} → CallAnswers board before w r a → CallAnswers board before w s b → (r ≡ s) × (a ≡ b)
 answers-one x y =
     let (o, l) = ran-one (x .ran) (y .ran) in
     (same (x .caller ∙ sym (y .caller)) o (x .stands ∙ sym (y .stands)), l)
@@ -108,16 +108,16 @@ module _ (board : Board) (l : List ℕ) (w : ℕ) where
 
 -- ── the exits ──
 module _ (board : Board) (l : List ℕ) (w : ℕ) where
-  pub answers-unsound : sound board l ≡ false → Answers board l w (record { caller = record { 0 = 0 }; outcome = Refused 1; stands = true }) l
+  pub answers-unsound : sound board l ≡ false → CallAnswers board l w (record { caller = record { 0 = 0 }; outcome = Refused 1; stands = true }) l
   unfolding callerOf callOn standsAfter
   answers-unsound h = record { caller = rw h refl; ran = ran-refused (rw h refl); stands = rw h refl }
 
   module _ (h : sound board l ≡ true) {c : Partition} (q : view l .k .current ≡ c .0) where
     pub answers-served : {f : CallFields} {r : Outcome} {b : Bool} {m : List ℕ} → reading call w ≡ Fields f → Ran (serve board (view l) f) l r m
-        → b ≡ eqb (f .service) 11 || eqb (f .service) 12 → Answers board l w (record { caller = c; outcome = r; stands = b }) m
+        → b ≡ eqb (f .service) 11 || eqb (f .service) 12 → CallAnswers board l w (record { caller = c; outcome = r; stands = b }) m
     unfolding callerOf callOn serveRead standsAfter onlyReads
     answers-served z ran e = record { caller = rw h (sym q); ran = ran-as (rw (h, z) refl) ran; stands = rw (h, z) e }
 
-    pub answers-unread : {n : ℕ} → reading call w ≡ Unread n → Answers board l w (record { caller = c; outcome = Refused n; stands = true }) l
+    pub answers-unread : {n : ℕ} → reading call w ≡ Unread n → CallAnswers board l w (record { caller = c; outcome = Refused n; stands = true }) l
     unfolding callerOf callOn serveRead standsAfter onlyReads
     answers-unread z = record { caller = rw h (sym q); ran = ran-refused (rw (h, z) refl); stands = rw (h, z) refl }

@@ -7,8 +7,7 @@ use native.Mathlib.Decide.{ℕ-discrete, decLt}
 use native.Mathlib.Omega.{arith}
 use lib.Dec.{eqb}
 use borrow.Author.Tests.{eq-eqb, ne-eqb}
-use Rattle.loops.specs.Scan.{NoneBelow}
-use Rattle.loops.specs.Carry.{done}
+use Rattle.loops.specs.Loops.{NoneBelow, carried}
 use Rattle.loops.specs.Laws.Carry.{done-keeps}
 use Rattle.tables.specs.State.{Opt, none, some, Entry, Table}
 use Rattle.tables.specs.Laws.State.{some-inj, not-none}
@@ -44,7 +43,7 @@ turn can i s P stay move = go (s .slot i) refl (lowest i (freeIn can (s .slot)))
 pub turns : (can : ℕ → Bool) (s : Packing) (P : ℕ → Packing → Type 0) → P 0 s
     → ((i : ℕ) (x : Packing) → P i x → ((e : Entry) → x .slot i ≡ some e → NoneBelow (freeIn can (x .slot)) i) → P (i + 1) x)
     → ((i : ℕ) (x : Packing) → P i x → i < 32 → (j : ℕ) (e : Entry) → Moves can (x .slot) i j e → P (i + 1) (moveEntry i j x))
-    → P 32 (done (packSlot can) s 32)
+    → P 32 (carried (packSlot can) s 32)
 turns can s P start stay move =
     done-keeps (packSlot can) s P 32 start (λ i x b h. turn can i x (P (i + 1)) (stay i x h) (move i x h b))
 
@@ -127,7 +126,7 @@ move-lowered g h = record {
       (m, omega (arith, now-le h x), w);
 }
 
-pub packed-lowered : (can : ℕ → Bool) (s : Packing) → Lowered (s .slot) (done (packSlot can) s 32 .slot)
+pub packed-lowered : (can : ℕ → Bool) (s : Packing) → Lowered (s .slot) (carried (packSlot can) s 32 .slot)
 packed-lowered can s = turns can s (λ _ x. Lowered (s .slot) (x .slot)) (lowered-same (s .slot)) (λ _ _ g _. g) (λ _ _ g _ _ _ h. move-lowered g h)
 
 -- each in a usable slot
@@ -141,22 +140,22 @@ move-roomy {can} {i = i} {j} g h m a u = let (n, v, w) = came h m a u in at (g n
     at q (there _ z) = rw z q
     at q (moved _ z) = rw z (to-usable h)
 
-pub packed-roomy : (can : ℕ → Bool) (s : Packing) → Roomy can (s .slot) → Roomy can (done (packSlot can) s 32 .slot)
+pub packed-roomy : (can : ℕ → Bool) (s : Packing) → Roomy can (s .slot) → Roomy can (carried (packSlot can) s 32 .slot)
 packed-roomy can s start = turns can s (λ _ x. Roomy can (x .slot)) start (λ _ _ g _. g) (λ _ _ g _ _ _ h. move-roomy g h)
 
 -- no line in two of them
-abbrev pub Apart : (ℕ → Opt Entry) → Type 0
-Apart slot = (m n : ℕ) (a b : Entry) (l : ℕ) → slot m ≡ some a → slot n ≡ some b → In l a → In l b → m ≡ n
+abbrev pub SlotsApart : (ℕ → Opt Entry) → Type 0
+SlotsApart slot = (m n : ℕ) (a b : Entry) (l : ℕ) → slot m ≡ some a → slot n ≡ some b → In l a → In l b → m ≡ n
 
-pub packed-apart : (can : ℕ → Bool) (s : Packing) → Apart (s .slot) → Apart (done (packSlot can) s 32 .slot)
-packed-apart can s start = turns can s (λ _ x. Apart (x .slot)) start (λ _ _ g _. g) (λ i x g _ j e h m n a b l u v y z.
+pub packed-apart : (can : ℕ → Bool) (s : Packing) → SlotsApart (s .slot) → SlotsApart (carried (packSlot can) s 32 .slot)
+packed-apart can s start = turns can s (λ _ x. SlotsApart (x .slot)) start (λ _ _ g _. g) (λ i x g _ j e h m n a b l u v y z.
     let (o, w, c) = came h m a u in
     let (q, t, d) = came h n b v in
     let same : o ≡ q = g o q a b l w t y z in
     now-one (rw same at c) d)
 
 -- at most one entry a turn moves
-pub packed-few : (can : ℕ → Bool) (s : Packing) (n : ℕ) → done (packSlot can) s n .moved ≤ s .moved + n
+pub packed-few : (can : ℕ → Bool) (s : Packing) (n : ℕ) → carried (packSlot can) s n .moved ≤ s .moved + n
 packed-few can s n = done-keeps (packSlot can) s (λ i x. x .moved ≤ s .moved + i) n (omega arith)
     (λ i x b h. turn can i x (λ y. y .moved ≤ s .moved + (i + 1)) (λ _. omega arith) (λ _ _ _. omega arith))
 
@@ -201,12 +200,12 @@ module _ {can : ℕ → Bool} {slot : ℕ → Opt Entry} {i : ℕ} (t : Tight ca
             let d = before n a (omega arith) v y (decLt j n) in
             free-same m (omega arith) ∙ t .below n m a (omega arith) v c
 
-pub packed-tight : (can : ℕ → Bool) (s : Packing) → Tight can (done (packSlot can) s 32 .slot) 32
+pub packed-tight : (can : ℕ → Bool) (s : Packing) → Tight can (carried (packSlot can) s 32 .slot) 32
 packed-tight can s = turns can s (λ i x. Tight can (x .slot) i) (record { below = λ n m e b. absurd (omega arith) })
     (λ _ _ t f. tight-stays t f) (λ _ _ t _ _ _ h. tight-moves t h)
 
 -- where none is left, no turn changes anything
-pub tight-same : (can : ℕ → Bool) (s : Packing) → Tight can (s .slot) 32 → done (packSlot can) s 32 ≡ s
+pub tight-same : (can : ℕ → Bool) (s : Packing) → Tight can (s .slot) 32 → carried (packSlot can) s 32 ≡ s
 tight-same can s t = done-keeps (packSlot can) s (λ _ x. x ≡ s) 32 refl (λ i x b z. ap (packSlot can i) z ∙ turn can i s (λ y. y ≡ s) (λ _. refl)
     (λ j e h. absurd (false≢true (sym (t .below i j e b (h .at) (h .low .below)) ∙ h .low .holds))))
 
@@ -237,7 +236,7 @@ module _ {can : ℕ → Bool} {slot : ℕ → Opt Entry} {i j : ℕ} {e : Entry}
 
 -- whatever is so of each slot that a region names, and not of an empty one, stays so
 pub packed-named : (can : ℕ → Bool) (s : Packing) (Q : Opt Entry → Type 0) → (Q none → ⊥) → ((r m : ℕ) → s .region r ≡ some m → Q (s .slot m))
-    → (r m : ℕ) → done (packSlot can) s 32 .region r ≡ some m → Q (done (packSlot can) s 32 .slot m)
+    → (r m : ℕ) → carried (packSlot can) s 32 .region r ≡ some m → Q (carried (packSlot can) s 32 .slot m)
 packed-named can s Q empty start =
     turns can s (λ _ x. (r m : ℕ) → x .region r ≡ some m → Q (x .slot m)) start (λ _ _ g _. g) (λ i x g _ j e h r m u.
     let (n, v, w) = rename-from i j (x .region r) m u in
@@ -246,7 +245,7 @@ packed-named can s Q empty start =
 -- no slot twice: the slot that an entry moves to was empty, so no region named it
 pub packed-once : (can : ℕ → Bool) (s : Packing) → ((r m : ℕ) → s .region r ≡ some m → s .slot m ≡ none → ⊥)
     → ((r q m : ℕ) → s .region r ≡ some m → s .region q ≡ some m → r ≡ q)
-    → (r q m : ℕ) → done (packSlot can) s 32 .region r ≡ some m → done (packSlot can) s 32 .region q ≡ some m → r ≡ q
+    → (r q m : ℕ) → carried (packSlot can) s 32 .region r ≡ some m → carried (packSlot can) s 32 .region q ≡ some m → r ≡ q
 packed-once can s full start =
     turns can s (λ _ x. ((r m : ℕ) → x .region r ≡ some m → x .slot m ≡ none → ⊥) × ((r q m : ℕ) → x .region r ≡ some m → x .region q ≡ some m → r ≡ q)) (full, start)
     (λ _ _ g _. g) (λ i x g _ j e h. (
@@ -266,7 +265,7 @@ packed-once can s full start =
     same h n o m f g (moved y _) (moved z _) = y ∙ sym z
 
 -- .. and none is loaded or emptied
-pub packed-loaded : (can : ℕ → Bool) (s : Packing) (r : ℕ) → isSome (done (packSlot can) s 32 .region r) ≡ isSome (s .region r)
+pub packed-loaded : (can : ℕ → Bool) (s : Packing) (r : ℕ) → isSome (carried (packSlot can) s 32 .region r) ≡ isSome (s .region r)
 unfolding rename
 packed-loaded can s r = turns can s (λ _ x. isSome (x .region r) ≡ isSome (s .region r)) refl (λ _ _ g _. g) (λ i x g _ j e h. at i j (x .region r) ∙ g)
   where
@@ -276,7 +275,7 @@ packed-loaded can s r = turns can s (λ _ x. isSome (x .region r) ≡ isSome (s 
 
 -- a region that named an entry names it still
 pub packed-follows : (can : ℕ → Bool) (s : Packing) (r m : ℕ) (a : Entry) → s .region r ≡ some m → s .slot m ≡ some a
-    → (n : ℕ) × (done (packSlot can) s 32 .region r ≡ some n) × (done (packSlot can) s 32 .slot n ≡ some a)
+    → (n : ℕ) × (carried (packSlot can) s 32 .region r ≡ some n) × (carried (packSlot can) s 32 .slot n ≡ some a)
 packed-follows can s r m a u v =
     turns can s (λ _ x. (n : ℕ) × (x .region r ≡ some n) × (x .slot n ≡ some a)) (m, u, v) (λ _ _ g _. g) (λ i x (n, y, z) _ j e h.
     let (o, q, w) = rename-to i j n in

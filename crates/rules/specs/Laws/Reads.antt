@@ -26,7 +26,7 @@ use Rattle.sound.specs.Laws.Settled.{right-settled, settled-words}
 use Rattle.rules.specs.Rules.{Result, refused, check, need, readRegion, find, known, perform, serve, serveRead, callOn, wordsAfter}
 use Rattle.rules.specs.Laws.Each.{perform-at}
 use Rattle.rules.specs.Reads.{onlyReads, standsAfter}
-use Rattle.rules.specs.Calls.{Answers}
+use Rattle.rules.specs.Calls.{CallAnswers}
 use Rattle.rules.specs.declared.Answer.{Answer}
 
 -- ── a rule that leaves the words l: done with their own table, or refused ──
@@ -74,13 +74,13 @@ reads-stand board l w small = go (sound board l) refl
     go true h q = serve-stands (same h) board (reading call w) q
     go false h q = refl
 
-pub answers-stand : {board : Board} {l : List ℕ} {w : ℕ} {r : Answer} {m : List ℕ} → Words l → Answers board l w r m → r .stands ≡ true → m ≡ l
+pub answers-stand : {board : Board} {l : List ℕ} {w : ℕ} {r : Answer} {m : List ℕ} → Words l → CallAnswers board l w r m → r .stands ≡ true → m ≡ l
 answers-stand {board} {l} {w} small h q = h .ran .words ∙ reads-stand board l w small (sym (h .stands) ∙ q)
 
 -- ── on a copy: its words are copied back, or they stand ──
-module _ {board : Board} {l a : List ℕ} {w : ℕ} {r : Answer} {m : List ℕ} (copy : a ≡ l) (h : Answers board a w r m) where
-  pub answers-copied : {n : List ℕ} → n ≡ m → Answers board l w r n
+module _ {board : Board} {l a : List ℕ} {w : ℕ} {r : Answer} {m : List ℕ} (copy : a ≡ l) (h : CallAnswers board a w r m) where
+  pub answers-copied : {n : List ℕ} → n ≡ m → CallAnswers board l w r n
   answers-copied e = rw (← copy, e) h
 
-  pub answers-left : Words l → r .stands ≡ true → Answers board l w r l
+  pub answers-left : Words l → r .stands ≡ true → CallAnswers board l w r l
   answers-left small q = answers-copied (sym (answers-stand (subst Words (sym copy) small) h q ∙ copy))

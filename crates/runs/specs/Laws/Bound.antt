@@ -7,7 +7,7 @@ use native.Mathlib.Decide.{decLt, ℕ-discrete}
 use native.Mathlib.Omega.{arith}
 use lib.ListN.{length}
 use borrow.Author.Tests.{eq-eqb, ne-eqb}
-use Rattle.loops.specs.Count.{count}
+use Rattle.loops.specs.Loops.{count}
 use Rattle.loops.specs.Laws.Count.{count-le, without, without-other, count-without}
 use Rattle.tables.specs.State.{some, Entry, K}
 use Rattle.tables.specs.Laws.State.{same-at}
@@ -15,8 +15,8 @@ use Rattle.tables.specs.Lines.{Holds}
 use Rattle.sound.specs.Core.{Core}
 use Rattle.sound.specs.Holders.{heir, deepest}
 use Rattle.runs.specs.declared.Run.{Run}
-use Rattle.runs.specs.Runs.{deepestAt, runsOf, nth}
-use Rattle.runs.specs.Laws.RunLaws.{within, Runs, runs-to}
+use Rattle.runs.specs.Runs.{deepestAt, runsOf, nthRun}
+use Rattle.runs.specs.Laws.RunLaws.{run-within, Runs, runs-to}
 use Rattle.runs.specs.Laws.Pieces.{in-table, heir-is, heir-holds}
 
 -- an entry starts at line l
@@ -107,18 +107,18 @@ module _ {k : K} (h : Core k) where
 
   -- the runs' first lines are such
   module _ {rs : List Run} (w : Runs k (k .base) (k .stop) rs) where
-    run-starts : (i : ℕ) → i < length rs → Starts k (nth rs i .start .0)
+    run-starts : (i : ℕ) → i < length rs → Starts k (nthRun rs i .start .0)
     run-starts zero b = rw (w .chain .from) base-starts
-    run-starts (suc i) b = go (nth rs i .end .0 - 1) (omega (arith, w .chain .next i b, w .chain .long i (omega arith)))
+    run-starts (suc i) b = go (nthRun rs i .end .0 - 1) (omega (arith, w .chain .next i b, w .chain .long i (omega arith)))
       where
-        go : (l : ℕ) → nth rs (suc i) .start .0 ≡ l + 1 → Starts k (nth rs (suc i) .start .0)
+        go : (l : ℕ) → nthRun rs (suc i) .start .0 ≡ l + 1 → Starts k (nthRun rs (suc i) .start .0)
         go l q =
             let c = w .chain in
             let n = c .next i b in
             let x = c .long i (omega arith) in
             let y = c .long (suc i) b in
-            let s = within c i (omega arith) .0 in
-            let t = within c (suc i) b .1 in
+            let s = run-within c i (omega arith) .0 in
+            let t = run-within c (suc i) b .1 in
             rw q (other-starts l (omega arith) (omega arith) (λ z. w .differ i b (sym (w .same i l (omega arith) (omega arith, omega arith)) ∙ z ∙ w .same (suc i) (l + 1) b (omega arith, omega arith))))
 
 pub runs-bound : {k : K} → Core k → length (runsOf k) ≤ 512

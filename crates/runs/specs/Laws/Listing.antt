@@ -18,11 +18,11 @@ use Rattle.decide.specs.Decide.{Decided}
 use Rattle.runs.specs.declared.Run.{Run}
 use Rattle.runs.specs.declared.listing.Plan.{Plan}
 use Rattle.runs.specs.Laws.Stored.{firsts}
-use Rattle.runs.specs.Runs.{runsOf, runsOutcome, runsRecords, Listed}
+use Rattle.runs.specs.Runs.{runsOf, runsOutcome, runsRecords, RunsListed}
 use Rattle.runs.specs.Laws.RunLaws.{runs-few}
 use Rattle.runs.specs.Laws.Bound.{runs-bound}
 use Rattle.runs.specs.Laws.Pieces.{stop-small}
-use Rattle.runs.specs.Places.{InOrder}
+use Rattle.runs.specs.Places.{AllInOrder}
 use Rattle.runs.specs.Marks.{runAt, markOf, marksOver, MarksAt}
 use Rattle.runs.specs.Laws.Marks.{read-back, marks-short}
 use Rattle.runs.specs.Listing.{refusal, writing, planOf, marksIn}
@@ -36,7 +36,7 @@ module _ {board : Board} {t : List ℕ} {r : Bool} {o c : List ℕ} (d : Decided
   pub decided-sound : not r ≡ false → sound board t ≡ true
   decided-sound q = sym (d .says) ∙ not-false r q
 
-  pub decided-order : not r ≡ false → InOrder (view t .k) o
+  pub decided-order : not r ≡ false → AllInOrder (view t .k) o
   decided-order q = record { counts = c; orders = d .orders (not-false r q) }
 
 module _ (board : Board) (t : List ℕ) (size : ℕ) where
@@ -107,12 +107,12 @@ marks-at board t size {w} {i} made h = go (sound board t) (leb (length (runsOf (
 abbrev pub written : List ℕ → List Run → Plan → List Run
 written w before p = firsts (runAt w) (p .number) ++ drop (p .number) before
 
-pub listed : (board : Board) (t : List ℕ) {w : List ℕ} (before : List Run) → MarksOf board t w → Listed board t before (planOf board t (length before) .outcome) (written w before (planOf board t (length before)))
+pub listed : (board : Board) (t : List ℕ) {w : List ℕ} (before : List Run) → MarksOf board t w → RunsListed board t before (planOf board t (length before) .outcome) (written w before (planOf board t (length before)))
 unfolding planOf marksIn runsOutcome runsRecords
 listed board t {w} before made = go (sound board t) (leb (length (runsOf (view t .k))) (length before)) refl refl
   where
     go : (a b : Bool) → sound board t ≡ a → leb (length (runsOf (view t .k))) (length before) ≡ b
-        → Listed board t before (planOf board t (length before) .outcome) (written w before (planOf board t (length before)))
+        → RunsListed board t before (planOf board t (length before) .outcome) (written w before (planOf board t (length before)))
     go true true p q =
         let e : w ≡ marksOver 641 (view t .k) t = made p ∙ rw p refl in
         record { outcome = rw (p, q) refl; records = rw (p, q, e) (ap (λ (rs : List Run). rs ++ drop (length (runsOf (view t .k))) before) (read-back (tested board t p) (stop-small t) t)) }

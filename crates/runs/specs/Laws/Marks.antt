@@ -22,8 +22,8 @@ use Rattle.sound.specs.Core.{Core}
 use Rattle.runs.specs.declared.Run.{Run}
 use Rattle.runs.specs.declared.pieces.Piece.{Piece}
 use Rattle.runs.specs.Laws.Stored.{firsts, length-firsts, firsts-at, firsts-is}
-use Rattle.runs.specs.Runs.{deepestAt, runOf, runsOf, nth, On}
-use Rattle.runs.specs.Laws.RunLaws.{within, Runs, runs-to}
+use Rattle.runs.specs.Runs.{deepestAt, runOf, runsOf, nthRun, On}
+use Rattle.runs.specs.Laws.RunLaws.{run-within, Runs, runs-to}
 use Rattle.runs.specs.Laws.OneList.{one-list}
 use Rattle.runs.specs.Laws.Bound.{Starts, base-starts, other-starts, starts-few, runs-bound}
 use Rattle.runs.specs.Pieces.{pieceEnd}
@@ -39,7 +39,7 @@ run-is w i p q = ap₂ (λ (f g : MarkFields). runOf (f .line .0) (g .line .0) (
 
 -- ── the loop ──
 -- at line l, n runs have begun, the last of them with deepest holder d (16 where none has), and their marks are made; b is what stood there before
-pub record Marking (k : K) (b : List ℕ) (l n d : ℕ) (w : List ℕ) : Type 0 where
+pub record MarkingRuns (k : K) (b : List ℕ) (l n d : ℕ) (w : List ℕ) : Type 0 where
   pub size : length w ≡ 513
   pub from : k .base ≤ l
   pub to : l ≤ k .stop
@@ -54,7 +54,7 @@ pub record Marking (k : K) (b : List ℕ) (l n d : ℕ) (w : List ℕ) : Type 0 
   pub whole : (i : ℕ) → i < n → getD w i 0 ≡ markFor (lowAt w i) (whoAt w i)
   pub rest : (i : ℕ) → n ≤ i → getD w i 0 ≡ getD b i 0
 
-pub mark-start : {k : K} {b : List ℕ} {l : ℕ} → Core k → length b ≡ 513 → l ≡ k .base → Marking k b l 0 16 b
+pub mark-start : {k : K} {b : List ℕ} {l : ℕ} → Core k → length b ≡ 513 → l ≡ k .base → MarkingRuns k b l 0 16 b
 mark-start h s q = record {
   size = s;
   from = omega arith;
@@ -82,7 +82,7 @@ module _ {w : List ℕ} {n last l d : ℕ} where
   pub marked-new : {m : ℕ} → m ≡ markFor l d → (d ≡ last → ⊥) → Marked w n last l d (n + 1) (set w n m)
   marked-new made q = record { number = rw (ne-eqb d last q) refl; marks = rw (ne-eqb d last q, made) refl }
 
-module _ {k : K} (h : Core k) {b : List ℕ} {l n c : ℕ} {w : List ℕ} (inv : Marking k b l n c w) where
+module _ {k : K} (h : Core k) {b : List ℕ} {l n c : ℕ} {w : List ℕ} (inv : MarkingRuns k b l n c w) where
   pub marks-few : n ≤ 512
   marks-few = starts-few h (inv .starts) (inv .up)
 
@@ -97,7 +97,7 @@ module _ {k : K} (h : Core k) {b : List ℕ} {l n c : ℕ} {w : List ℕ} (inv :
     piece j u v = piece-same h l j u (omega (arith, ends)) ∙ sym deepest
 
     -- the run goes on
-    goes-on : d ≡ c → Marking k b e n d w
+    goes-on : d ≡ c → MarkingRuns k b e n d w
     goes-on q = record {
       size = inv .size;
       from = omega (arith, inv .from, after);
@@ -123,7 +123,7 @@ module _ {k : K} (h : Core k) {b : List ℕ} {l n c : ℕ} {w : List ℕ} (inv :
             go (no m) = piece j (omega arith) z ∙ q ∙ sym (inv .last i (omega arith))
 
     -- another begins
-    begins : (d ≡ c → ⊥) → Marking k b e (n + 1) d (set w n (markFor l d))
+    begins : (d ≡ c → ⊥) → MarkingRuns k b e (n + 1) d (set w n (markFor l d))
     begins q = record {
       size = length-set w n (markFor l d) ∙ inv .size;
       from = omega (arith, inv .from, after);
@@ -205,16 +205,16 @@ module _ {k : K} (h : Core k) {b : List ℕ} {l n c : ℕ} {w : List ℕ} (inv :
         whole i x (yes z) = rw (z, here-low, here-who) here
         whole i x (no z) = rw (there i z) (inv .whole i (omega arith))
 
-    pub mark-on : {r : ℕ} {v : List ℕ} → Marked w n c l d r v → Marking k b e r d v
+    pub mark-on : {r : ℕ} {v : List ℕ} → Marked w n c l d r v → MarkingRuns k b e r d v
     mark-on {r} {v} m = go (eqb d c) refl (m .number) (m .marks)
       where
-        go : (x : Bool) → eqb d c ≡ x → r ≡ cond x n (n + 1) → v ≡ cond x w (set w n (markFor l d)) → Marking k b e r d v
+        go : (x : Bool) → eqb d c ≡ x → r ≡ cond x n (n + 1) → v ≡ cond x w (set w n (markFor l d)) → MarkingRuns k b e r d v
         go true z p q = rw (p, q) (goes-on (eqb-true d c z))
         go false z p q = rw (p, q) (begins (eqb-false d c z))
 
 -- ── the walk: the marks, the places and the way ──
 pub record Walk (k : K) (o b : List ℕ) (l n c d : ℕ) (s y w : List ℕ) : Type 0 where
-  pub marking : Marking k b l n c w
+  pub marking : MarkingRuns k b l n c w
   pub passed : Passed k o l s
   pub way : Way k l d y
 
@@ -240,7 +240,7 @@ module _ {k : K} {o b : List ℕ} where
     walk-nearer x q = omega (arith, q, piece-after k l x)
 
 -- ── the end of memory ──
-module _ {k : K} (h : Core k) {b : List ℕ} {l n c : ℕ} {w : List ℕ} (inv : Marking k b l n c w) (stops : k .stop ≤ l) (few : k .stop < 2 ^ 27) {m : ℕ} (made : m ≡ markFor l 0) where
+module _ {k : K} (h : Core k) {b : List ℕ} {l n c : ℕ} {w : List ℕ} (inv : MarkingRuns k b l n c w) (stops : k .stop ≤ l) (few : k .stop < 2 ^ 27) {m : ℕ} (made : m ≡ markFor l 0) where
   -- the marks with the one after the last, and the runs between them
   abbrev v : List ℕ
   v = set w n m
@@ -284,7 +284,7 @@ module _ {k : K} (h : Core k) {b : List ℕ} {l n c : ℕ} {w : List ℕ} (inv :
   size : length rs ≡ n
   size = length-firsts (runAt v) n
 
-  at : (i : ℕ) → i < n → nth rs i ≡ runAt v i
+  at : (i : ℕ) → i < n → nthRun rs i ≡ runAt v i
   at i x = firsts-at (runAt v) n i (runOf 0 0 0) x
 
   runs : Runs k (k .base) (k .stop) rs
@@ -300,23 +300,23 @@ module _ {k : K} (h : Core k) {b : List ℕ} {l n c : ℕ} {w : List ℕ} (inv :
     differ = λ i x. differ i (omega (arith, size));
   }
     where
-      to : (i : ℕ) → suc i ≡ n → nth rs i .end .0 ≡ k .stop
+      to : (i : ℕ) → suc i ≡ n → nthRun rs i .end .0 ≡ k .stop
       to i z = ap (λ (r : Run). r .end .0) (at i (omega arith)) ∙ next-is i ∙ ap (lowAt v) z ∙ end-low
 
-      next : (i : ℕ) → suc i < n → nth rs (suc i) .start .0 ≡ nth rs i .end .0
+      next : (i : ℕ) → suc i < n → nthRun rs (suc i) .start .0 ≡ nthRun rs i .end .0
       next i x = ap (λ (r : Run). r .start .0) (at (suc i) x) ∙ sym (ap (λ (r : Run). r .end .0) (at i (omega arith)) ∙ next-is i)
 
-      long : (i : ℕ) → i < n → nth rs i .start .0 < nth rs i .end .0
+      long : (i : ℕ) → i < n → nthRun rs i .start .0 < nthRun rs i .end .0
       long i x = rw (at i x) (omega (arith, next-is i, next-up i x .0))
 
-      same : (i j : ℕ) → i < n → On (nth rs i) j → deepestAt k j ≡ nth rs i .deepest .0
+      same : (i j : ℕ) → i < n → On (nthRun rs i) j → deepestAt k j ≡ nthRun rs i .deepest .0
       same i j x o =
           let p : On (runAt v i) j = subst (λ (r : Run). On r j) (at i x) o in
           let q = next-up i x in
           inv .same i j x (omega (arith, low-is i x)) (omega (arith, next-is i)) (λ y. omega (arith, next-is i, low-is (suc i) y))
           ∙ sym (ap (λ (r : Run). r .deepest .0) (at i x) ∙ who-is i x)
 
-      differ : (i : ℕ) → suc i < n → nth rs i .deepest .0 ≡ nth rs (suc i) .deepest .0 → ⊥
+      differ : (i : ℕ) → suc i < n → nthRun rs i .deepest .0 ≡ nthRun rs (suc i) .deepest .0 → ⊥
       differ i x q =
           let y : i < n = omega arith in
           inv .differ i x (sym (ap (λ (r : Run). r .deepest .0) (at i y) ∙ who-is i y) ∙ q ∙ ap (λ (r : Run). r .deepest .0) (at (suc i) x) ∙ who-is (suc i) x)
@@ -335,7 +335,7 @@ module _ {k : K} (h : Core k) {b : List ℕ} {l n c : ℕ} {w : List ℕ} (inv :
     where
       go : (i : ℕ) → Dec (i < n) → Dec (i ≡ n) → getD v i 0 ≡ markOf k b i
       go i (yes x) e =
-          let r = ap (λ (l : List Run). nth l i) (sym all) ∙ at i x in
+          let r = ap (λ (l : List Run). nthRun l i) (sym all) ∙ at i x in
           rw (lt-ltb i (length (runsOf k)) (omega (arith, number)), r, mark-is i x) (inv .whole i x)
       go i (no x) (yes e) = rw (le-ltb i (length (runsOf k)) (omega (arith, number)), eq-eqb i (length (runsOf k)) (e ∙ number)) (ap (λ (j : ℕ). getD v j 0) e ∙ after-last)
       go i (no x) (no e) =
@@ -366,12 +366,12 @@ module _ {k : K} (h : Core k) (few : k .stop < 2 ^ 27) (b : List ℕ) where
   unfolding runsOf
   laws = runs-to k (k .base) (k .stop) (h .s1)
 
-  mark-at : (i : ℕ) → i < length all-runs → (getD (marksOver 641 k b) i 0 ≡ markFor (nth all-runs i .start .0) (nth all-runs i .deepest .0)) × (nth all-runs i .deepest .0 < 16)
+  mark-at : (i : ℕ) → i < length all-runs → (getD (marksOver 641 k b) i 0 ≡ markFor (nthRun all-runs i .start .0) (nthRun all-runs i .deepest .0)) × (nthRun all-runs i .deepest .0 < 16)
   unfolding markOf
   mark-at i x = (
     tab-at 641 (markOf k b) i (omega (arith, runs-bound h)) ∙ rw (lt-ltb i (length all-runs) x) refl,
-    rw (← (laws .same i (nth all-runs i .start .0) x (omega arith, laws .chain .long i x)))
-        (deepest-small h (omega (arith, within (laws .chain) i x .0)) (omega (arith, within (laws .chain) i x .1, laws .chain .long i x))),
+    rw (← (laws .same i (nthRun all-runs i .start .0) x (omega arith, laws .chain .long i x)))
+        (deepest-small h (omega (arith, run-within (laws .chain) i x .0)) (omega (arith, run-within (laws .chain) i x .1, laws .chain .long i x))),
   )
 
   mark-last : getD (marksOver 641 k b) (length all-runs) 0 ≡ markFor (k .stop) 0
@@ -379,18 +379,18 @@ module _ {k : K} (h : Core k) (few : k .stop < 2 ^ 27) (b : List ℕ) where
   mark-last = tab-at 641 (markOf k b) (length all-runs) (omega (arith, runs-bound h)) ∙ rw (le-ltb (length all-runs) (length all-runs) (omega arith), eq-eqb (length all-runs) (length all-runs) refl) refl
 
   -- where run i starts, and who holds it
-  fields-at : (i : ℕ) → i < length all-runs → (lowAt (marksOver 641 k b) i ≡ nth all-runs i .start .0) × (whoAt (marksOver 641 k b) i ≡ nth all-runs i .deepest .0)
+  fields-at : (i : ℕ) → i < length all-runs → (lowAt (marksOver 641 k b) i ≡ nthRun all-runs i .start .0) × (whoAt (marksOver 641 k b) i ≡ nthRun all-runs i .deepest .0)
   fields-at i x =
       let (m, s) = mark-at i x in
-      let z : nth all-runs i .start .0 < 2 ^ 27 = omega (arith, within (laws .chain) i x .1, laws .chain .long i x) in
+      let z : nthRun all-runs i .start .0 < 2 ^ 27 = omega (arith, run-within (laws .chain) i x .1, laws .chain .long i x) in
       (ap lineIn m ∙ line-in _ _ z s, ap holderIn m ∙ holder-in _ _ z s)
 
-  run-at : (i : ℕ) → i < length all-runs → runAt (marksOver 641 k b) i ≡ nth all-runs i
+  run-at : (i : ℕ) → i < length all-runs → runAt (marksOver 641 k b) i ≡ nthRun all-runs i
   run-at i x =
       let (start, deepest) = fields-at i x in
       rw (start, deepest, go (ℕ-discrete (suc i) (length all-runs))) refl
     where
-      go : Dec (suc i ≡ length all-runs) → lowAt (marksOver 641 k b) (i + 1) ≡ nth all-runs i .end .0
+      go : Dec (suc i ≡ length all-runs) → lowAt (marksOver 641 k b) (i + 1) ≡ nthRun all-runs i .end .0
       go (yes z) =
           let e : i + 1 ≡ length all-runs = omega arith in
           let j : length all-runs - 1 ≡ i = omega arith in
@@ -411,7 +411,7 @@ module _ {k : K} (h : Core k) (few : k .stop < 2 ^ 27) (b : List ℕ) where
       short : (i : ℕ) → i < length all-runs → getD (marksOver 641 k b) i 0 < 2 ^ 32
       short i x =
           let (m, s) = mark-at i x in
-          rw m (mark-small _ (omega (arith, within (laws .chain) i x .1, laws .chain .long i x)) s)
+          rw m (mark-small _ (omega (arith, run-within (laws .chain) i x .1, laws .chain .long i x)) s)
 
       go : Dec (i + 1 ≡ length all-runs) → getD (marksOver 641 k b) (i + 1) 0 < 2 ^ 32
       go (yes z) = rw (z, mark-last) (mark-small _ few (omega arith))

@@ -7,16 +7,16 @@ use native.Mathlib.Omega.{arith}
 use Rattle.tables.specs.State.{K}
 use Rattle.sound.specs.Holders.{trail}
 use Rattle.runs.specs.declared.Run.{Run}
-use Rattle.runs.specs.Runs.{deepestAt, runOf, runsOf, nth, On, Chain, Longest}
-use Rattle.runs.specs.Laws.RunLaws.{tail-chain, within, Runs, trail-one, runs-longest}
+use Rattle.runs.specs.Runs.{deepestAt, runOf, runsOf, nthRun, On, Chain, Longest}
+use Rattle.runs.specs.Laws.RunLaws.{tail-chain, run-within, Runs, trail-one, runs-longest}
 
 -- no record goes past m
 end-within : {l m : ℕ} (r : Run) (rs : List Run) → Chain l m (r ∷ rs) → r .end .0 ≤ m
-end-within r rs c = within c 0 (omega arith) .1
+end-within r rs c = run-within c 0 (omega arith) .1
 
 -- the last one ends at m: none comes after it
 no-more : {l m : ℕ} (r s : Run) (rs : List Run) → r .end .0 ≡ m → Chain l m (r ∷ s ∷ rs) → ⊥
-no-more r s rs e c = omega (arith, e, c .next 0 (omega arith), c .long 1 (omega arith), within c 1 (omega arith) .1)
+no-more r s rs e c = omega (arith, e, c .next 0 (omega arith), c .long 1 (omega arith), run-within c 1 (omega arith) .1)
 
 module _ {k : K} where
   -- the runs after the first
@@ -67,12 +67,12 @@ module _ {k : K} where
 longest-runs : {k : K} {rs : List Run} → Longest k rs → Runs k (k .base) (k .stop) rs
 longest-runs {k} {rs} h = record {
   chain = h .chain;
-  same = λ i j b o. trail-one k j (nth rs i .deepest .0) (h .same i j b o);
+  same = λ i j b o. trail-one k j (nthRun rs i .deepest .0) (h .same i j b o);
   differ = λ i b q.
-      let o : On (nth rs i) (nth rs i .start .0) = (omega arith, h .chain .long i (omega arith)) in
-      let p : On (nth rs (suc i)) (nth rs (suc i) .start .0) = (omega arith, h .chain .long (suc i) b) in
-      h .differ i (nth rs i .start .0) (nth rs (suc i) .start .0) b o p
-      (h .same i (nth rs i .start .0) (omega arith) o ∙ ap (λ (p : ℕ). trail k p 15) q ∙ sym (h .same (suc i) (nth rs (suc i) .start .0) b p));
+      let o : On (nthRun rs i) (nthRun rs i .start .0) = (omega arith, h .chain .long i (omega arith)) in
+      let p : On (nthRun rs (suc i)) (nthRun rs (suc i) .start .0) = (omega arith, h .chain .long (suc i) b) in
+      h .differ i (nthRun rs i .start .0) (nthRun rs (suc i) .start .0) b o p
+      (h .same i (nthRun rs i .start .0) (omega arith) o ∙ ap (λ (p : ℕ). trail k p 15) q ∙ sym (h .same (suc i) (nthRun rs (suc i) .start .0) b p));
 }
 
 -- what meets the laws is the runs

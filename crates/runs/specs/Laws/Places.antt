@@ -19,11 +19,11 @@ use Rattle.decide.specs.Order.{linesOf, linesAt, placed, Rows}
 use Rattle.decide.specs.Laws.Order.{lines-of}
 use Rattle.runs.specs.Laws.Pieces.{in-table, found, hop-found}
 use Rattle.runs.specs.Pieces.{Hopped}
-use Rattle.runs.specs.Places.{InOrder, Passing, Passed}
+use Rattle.runs.specs.Places.{AllInOrder, EndsBy, Passed}
 
 -- the search for p's place: the places are as they were
 pub record Hopping (k : K) (o : List ℕ) (l p a : ℕ) (s : List ℕ) : Type 0 where
-  pub passing : Passing k o p l a
+  pub passing : EndsBy k o p l a
   pub passed : Passed k o l s
 
 -- ── places ──
@@ -39,15 +39,15 @@ module _ {k : K} {o : List ℕ} where
   pub passed-later : {l m : ℕ} {s : List ℕ} → l ≤ m → Passed k o l s → Passed k o m s
   passed-later b h = record { size = h .size; at = λ p c. record { past = λ a d. omega (arith, h .at p c .past a d) } }
 
-  pub passed-set : {l p a : ℕ} {s : List ℕ} → Passed k o l s → Passing k o p l a → Passed k o l (set s p a)
+  pub passed-set : {l p a : ℕ} {s : List ℕ} → Passed k o l s → EndsBy k o p l a → Passed k o l (set s p a)
   passed-set {l} {p} {a} {s} h w = record { size = length-set s p a ∙ h .size; at = λ q b. go q b (ℕ-discrete q p) }
     where
-      go : (q : ℕ) → q < 16 → Dec (q ≡ p) → Passing k o q l (getD (set s p a) q 0)
+      go : (q : ℕ) → q < 16 → Dec (q ≡ p) → EndsBy k o q l (getD (set s p a) q 0)
       go q b (yes z) = rw (z, getD-set-same s p a 0 (omega (arith, h .size))) w
       go q b (no z) = rw (getD-set-other s p q a 0 z) (h .at q b)
 
 -- ── the exits of the code: p holds line l ──
-module _ {k : K} {o : List ℕ} (h : Core k) (w : InOrder k o) {p l : ℕ} (u : Holds (k .slot) p l) where
+module _ {k : K} {o : List ℕ} (h : Core k) (w : AllInOrder k o) {p l : ℕ} (u : Holds (k .slot) p l) where
   there : present k p ≡ true
   unfolding present
   there =
@@ -68,7 +68,7 @@ module _ {k : K} {o : List ℕ} (h : Core k) (w : InOrder k o) {p l : ℕ} (u : 
     below : b < n
     start : lowOf (linesAt k p (placed o p b)) ≤ l
 
-  ahead : {a : ℕ} → Passing k o p l a → Ahead a
+  ahead : {a : ℕ} → EndsBy k o p l a → Ahead a
   unfolding lowOf highOf
   ahead {a} inv =
       let v = lines-of k p (u .i) (u .e) (u .at) in
@@ -82,13 +82,13 @@ module _ {k : K} {o : List ℕ} (h : Core k) (w : InOrder k o) {p l : ℕ} (u : 
       go b c x y (yes d) = absurd (omega (arith, inv .past b d, y, u .holds .to))
       go b c x y (no d) = record { b = b; from = omega arith; below = c; start = omega (arith, x, u .holds .from) }
 
-  pub pass-in : {a : ℕ} → Passing k o p l a → (p < 16) × (a < 32) × (placed o p a < 32)
+  pub pass-in : {a : ℕ} → EndsBy k o p l a → (p < 16) × (a < 32) × (placed o p a < 32)
   pass-in {a} inv =
       let q = ahead inv in
       let c : a < n = omega (arith, q .from, q .below) in
       (in-table h p (u .i) (u .e) (u .at) .0, omega (arith, rows .ordered .few), rows .ordered .under a c)
 
-  module _ {a : ℕ} (inv : Passing k o p l a) (f : SlotFields) (seen : k .slot p (placed o p a) ≡ entryIn f) where
+  module _ {a : ℕ} (inv : EndsBy k o p l a) (f : SlotFields) (seen : k .slot p (placed o p a) ≡ entryIn f) where
     -- what stands there is an entry
     is : k .slot p (placed o p a) ≡ some (entryOf f)
     unfolding entryIn linesOf
@@ -110,7 +110,7 @@ module _ {k : K} {o : List ℕ} (h : Core k) (w : InOrder k o) {p l : ℕ} (u : 
     high = ap highOf (lines-of k p (placed o p a) (entryOf f) is)
 
     -- it ends by the line
-    pub pass-on : f .end .0 ≤ l → Passing k o p l (a + 1)
+    pub pass-on : f .end .0 ≤ l → EndsBy k o p l (a + 1)
     pass-on b = record { past = λ c d. go c d (ℕ-discrete c a) }
       where
         go : (c : ℕ) → c < a + 1 → Dec (c ≡ a) → highOf (linesAt k p (placed o p c)) ≤ l

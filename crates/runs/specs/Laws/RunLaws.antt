@@ -13,14 +13,14 @@ use Rattle.loops.specs.Laws.Climb.{climb-root, climb-suc}
 use Rattle.tables.specs.State.{K}
 use Rattle.sound.specs.Holders.{deepest, trail, holdersOf}
 use Rattle.runs.specs.declared.Run.{Run}
-use Rattle.runs.specs.Runs.{deepestAt, runOf, joined, runsFrom, runsOf, nth, On, Chain, Longest}
+use Rattle.runs.specs.Runs.{deepestAt, runOf, joinedRuns, runsFrom, runsOf, nthRun, On, Chain, Longest}
 
 -- ── chains ──
 -- a record alone
 one-chain : (r : Run) → r .start .0 < r .end .0 → Chain (r .start .0) (r .end .0) (r ∷ [])
 one-chain r h = record { some = omega arith; from = refl; to = refl; next = λ i b. absurd (omega arith); long = long }
   where
-    long : (i : ℕ) → i < 1 → nth (r ∷ []) i .start .0 < nth (r ∷ []) i .end .0
+    long : (i : ℕ) → i < 1 → nthRun (r ∷ []) i .start .0 < nthRun (r ∷ []) i .end .0
     long zero b = h
     long (suc i) b = absurd (omega arith)
 
@@ -34,11 +34,11 @@ more-chain r s rs h c = record {
   long = long;
 }
   where
-    next : (i : ℕ) → suc i < suc (suc (length rs)) → nth (r ∷ s ∷ rs) (suc i) .start .0 ≡ nth (r ∷ s ∷ rs) i .end .0
+    next : (i : ℕ) → suc i < suc (suc (length rs)) → nthRun (r ∷ s ∷ rs) (suc i) .start .0 ≡ nthRun (r ∷ s ∷ rs) i .end .0
     next zero b = c .from
     next (suc i) b = c .next i (omega arith)
 
-    long : (i : ℕ) → i < suc (suc (length rs)) → nth (r ∷ s ∷ rs) i .start .0 < nth (r ∷ s ∷ rs) i .end .0
+    long : (i : ℕ) → i < suc (suc (length rs)) → nthRun (r ∷ s ∷ rs) i .start .0 < nthRun (r ∷ s ∷ rs) i .end .0
     long zero b = h
     long (suc i) b = c .long i (omega arith)
 
@@ -57,12 +57,12 @@ earlier-chain : {l m : ℕ} (s : ℕ) (r : Run) (rs : List Run) → s < r .end .
 earlier-chain {l} {m} s r rs h c = record { some = omega arith; from = refl; to = to; next = next; long = long }
   where
     at : ℕ → Run
-    at = nth (runOf s (r .end .0) (r .deepest .0) ∷ rs)
+    at = nthRun (runOf s (r .end .0) (r .deepest .0) ∷ rs)
 
     to : at (suc (length rs) - 1) .end .0 ≡ m
     to = let e : suc (length rs) - 1 ≡ length rs = omega arith in rw e (go (length rs) (rw e at (c .to)))
       where
-        go : (i : ℕ) → nth (r ∷ rs) i .end .0 ≡ m → at i .end .0 ≡ m
+        go : (i : ℕ) → nthRun (r ∷ rs) i .end .0 ≡ m → at i .end .0 ≡ m
         go zero q = q
         go (suc i) q = q
 
@@ -75,14 +75,14 @@ earlier-chain {l} {m} s r rs h c = record { some = omega arith; from = refl; to 
     long (suc i) b = c .long (suc i) b
 
 -- each record lies in l to m
-pub within : {l m : ℕ} {rs : List Run} → Chain l m rs → (i : ℕ) → i < length rs → (l ≤ nth rs i .start .0) × (nth rs i .end .0 ≤ m)
-within {l} {m} {rs} c i b = (up i b, down (length rs - 1 - i) i (omega arith) b)
+pub run-within : {l m : ℕ} {rs : List Run} → Chain l m rs → (i : ℕ) → i < length rs → (l ≤ nthRun rs i .start .0) × (nthRun rs i .end .0 ≤ m)
+run-within {l} {m} {rs} c i b = (up i b, down (length rs - 1 - i) i (omega arith) b)
   where
-    up : (i : ℕ) → i < length rs → l ≤ nth rs i .start .0
+    up : (i : ℕ) → i < length rs → l ≤ nthRun rs i .start .0
     up zero b = omega (arith, c .from)
     up (suc i) b = omega (arith, up i (omega arith), c .next i b, c .long i (omega arith))
 
-    down : (n i : ℕ) → i + n ≡ length rs - 1 → i < length rs → nth rs i .end .0 ≤ m
+    down : (n i : ℕ) → i + n ≡ length rs - 1 → i < length rs → nthRun rs i .end .0 ≤ m
     down zero i e b = let z : i ≡ length rs - 1 = omega arith in rw z (omega (arith, c .to))
     down (suc n) i e b = omega (arith, down n (suc i) (omega arith) (omega arith), c .next i (omega arith), c .long (suc i) (omega arith))
 
@@ -90,15 +90,15 @@ within {l} {m} {rs} c i b = (up i b, down (length rs - 1 - i) i (omega arith) b)
 -- the runs of the lines l to m: what `Longest` says, of the deepest holder alone
 pub record Runs (k : K) (l m : ℕ) (rs : List Run) : Type 0 where
   pub chain : Chain l m rs
-  pub same : (i j : ℕ) → i < length rs → On (nth rs i) j → deepestAt k j ≡ nth rs i .deepest .0
-  pub differ : (i : ℕ) → suc i < length rs → nth rs i .deepest .0 ≡ nth rs (suc i) .deepest .0 → ⊥
+  pub same : (i j : ℕ) → i < length rs → On (nthRun rs i) j → deepestAt k j ≡ nthRun rs i .deepest .0
+  pub differ : (i : ℕ) → suc i < length rs → nthRun rs i .deepest .0 ≡ nthRun rs (suc i) .deepest .0 → ⊥
 
 module _ {k : K} where
   -- the run of one line
   alone : (l : ℕ) → Runs k l (l + 1) (runOf l (l + 1) (deepestAt k l) ∷ [])
   alone l = record { chain = one-chain (runOf l (l + 1) (deepestAt k l)) (omega arith); same = same; differ = λ i b. absurd (omega arith) }
     where
-      same : (i j : ℕ) → i < 1 → On (nth (runOf l (l + 1) (deepestAt k l) ∷ []) i) j → deepestAt k j ≡ nth (runOf l (l + 1) (deepestAt k l) ∷ []) i .deepest .0
+      same : (i j : ℕ) → i < 1 → On (nthRun (runOf l (l + 1) (deepestAt k l) ∷ []) i) j → deepestAt k j ≡ nthRun (runOf l (l + 1) (deepestAt k l) ∷ []) i .deepest .0
       same zero j b o = let z : j ≡ l = omega arith in ap (deepestAt k) z
       same (suc i) j b o = absurd (omega arith)
 
@@ -111,7 +111,7 @@ module _ {k : K} where
   }
     where
       at : ℕ → Run
-      at = nth (runOf l (r .end .0) (r .deepest .0) ∷ rs)
+      at = nthRun (runOf l (r .end .0) (r .deepest .0) ∷ rs)
 
       here : (j : ℕ) → On (runOf l (r .end .0) (r .deepest .0)) j → Dec (j ≡ l) → deepestAt k j ≡ r .deepest .0
       here j o (yes z) = ap (deepestAt k) z ∙ q
@@ -130,7 +130,7 @@ module _ {k : K} where
   another l r rs n w = record { chain = more-chain (runOf l (l + 1) (deepestAt k l)) r rs (omega arith) (w .chain); same = same; differ = differ }
     where
       at : ℕ → Run
-      at = nth (runOf l (l + 1) (deepestAt k l) ∷ r ∷ rs)
+      at = nthRun (runOf l (l + 1) (deepestAt k l) ∷ r ∷ rs)
 
       same : (i j : ℕ) → i < suc (suc (length rs)) → On (at i) j → deepestAt k j ≡ at i .deepest .0
       same zero j b o = let z : j ≡ l = omega arith in ap (deepestAt k) z
@@ -140,8 +140,8 @@ module _ {k : K} where
       differ zero b = n
       differ (suc i) b = w .differ i (omega arith)
 
-  join : {m : ℕ} (l : ℕ) (rs : List Run) → Runs k (l + 1) m rs → Runs k l m (joined k l rs)
-  unfolding joined
+  join : {m : ℕ} (l : ℕ) (rs : List Run) → Runs k (l + 1) m rs → Runs k l m (joinedRuns k l rs)
+  unfolding joinedRuns
   join l [] w = absurd (omega (arith, w .chain .some))
   join {m} l (r ∷ rs) w = go (eqb (deepestAt k l) (r .deepest .0)) refl
     where
@@ -151,7 +151,7 @@ module _ {k : K} where
       go false q = another l r rs (eqb-false _ _ q) w
 
   runs-from : (n l : ℕ) → Runs k l (l + suc n) (runsFrom k l (suc n))
-  unfolding runsFrom joined
+  unfolding runsFrom joinedRuns
   runs-from zero l = alone l
   runs-from (suc n) l =
       let e : l + suc (suc n) ≡ (l + 1) + suc n = omega arith in
@@ -166,8 +166,8 @@ runs-to k l m b = go (m - l) refl
 
 -- there are no more runs than lines
 module _ (k : K) where
-  join-few : (l : ℕ) (rs : List Run) → length (joined k l rs) ≤ suc (length rs)
-  unfolding joined
+  join-few : (l : ℕ) (rs : List Run) → length (joinedRuns k l rs) ≤ suc (length rs)
+  unfolding joinedRuns
   join-few l [] = omega arith
   join-few l (r ∷ rs) = go (eqb (deepestAt k l) (r .deepest .0))
     where

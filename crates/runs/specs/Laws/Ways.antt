@@ -6,7 +6,8 @@ use native.Mathlib.Decide.{ℕ-discrete}
 use native.Mathlib.Omega.{arith}
 use lib.ListN.{getD, set, replicate, length-replicate, length-set, getD-replicate}
 use lib.Seq.{getD-set-same, getD-set-other}
-use Rattle.words.specs.Kind.{fieldsIn, wordOf, writing, write-done}
+use Rattle.words.specs.Kind.{fieldsIn, wordOf, writing}
+use Rattle.words.specs.Laws.Kind.{write-done}
 use Rattle.words.specs.Words.{mark}
 use Rattle.words.specs.Laws.Kinds.{mark-range, mark-small, line-in, holder-in}
 use Rattle.words.specs.Kinds.{lineIn, holderIn, markFor}
@@ -20,13 +21,13 @@ use Rattle.runs.specs.declared.pieces.Piece.{Piece}
 use Rattle.runs.specs.Pieces.{endAt, Hopped, Descent}
 use Rattle.runs.specs.Laws.Pieces.{holder-small, end-after, same-end, same-heir, piece-start, descent-here, descent-last, descent-down}
 use Rattle.runs.specs.Places.{Passed}
-use Rattle.runs.specs.Ways.{Short, kept, lowAt, whoAt, Climbs, Climbing, Climbed, Way, Standing, Pieced}
+use Rattle.runs.specs.Ways.{Short, wordWritten, lowAt, whoAt, Climbs, Climbing, Climbed, Way, Standing, Pieced}
 
 -- of fields in range it is the mark
-pub kept-mark : {w : Written} (f : MarkFields) → f .line .0 < 2 ^ 27 → f .holder .0 < 16 → w ≡ writing mark f → Short w × (kept w ≡ wordOf mark f)
+pub kept-mark : {w : Written} (f : MarkFields) → f .line .0 < 2 ^ 27 → f .holder .0 < 16 → w ≡ writing mark f → Short w × (wordWritten w ≡ wordOf mark f)
 kept-mark f a b e =
     let q = e ∙ write-done mark f (mark-range f a b) in
-    (subst Short (sym q) (mark-small f a b), ap kept q)
+    (subst Short (sym q) (mark-small f a b), ap wordWritten q)
 
 -- ── up ──
 -- two results are equal

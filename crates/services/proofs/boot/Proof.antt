@@ -1,3 +1,4 @@
+-- src/lib.rt, boot: Ran (bootOn t base end) t r t′
 use lib.ListN.{length-replicate}
 use Prim.Native.Nat.{ℕ}
 use Rattle.rules.specs.Laws.Ran.{ran-refused, ran-as, ran-copied, ran-kept}

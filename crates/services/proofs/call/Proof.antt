@@ -1,3 +1,4 @@
+-- src/lib.rt, call: CallAnswers board t word r t′
 use Rattle.tables.specs.Laws.Top.{top-16}
 use Rattle.sound.specs.Laws.Holders.{wrong-length}
 use Rattle.rules.specs.Laws.Calls.{answers-unsound}

@@ -9,7 +9,7 @@ use native.Mathlib.Omega.{arith}
 use lib.Dec.{eqb}
 use borrow.Author.Tests.{eq-eqb, ne-eqb, eqb-true}
 use Rattle.loops.specs.Laws.Every.{bool-ext}
-use Rattle.loops.specs.Count.{count}
+use Rattle.loops.specs.Loops.{count}
 use Rattle.loops.specs.Laws.Count.{count-le, count-ext, count-one, count-apart, count-fewer, without, count-without}
 use Rattle.tables.specs.State.{Opt, none, some, Area, K, Table}
 use Rattle.tables.specs.Laws.State.{not-none, none-of}
@@ -34,7 +34,7 @@ use Rattle.services.specs.Zeroed.{zeroRecords}
 use Rattle.services.specs.Laws.Zeroed.{zero-one, zero-more, zero-same}
 use Rattle.rules.specs.Ran.{Ran}
 use Rattle.rules.specs.Laws.Ran.{ran-done, pass}
-use Rattle.blocks.specs.Laws.SlotExits.{child-now}
+use Rattle.blocks.specs.Laws.GiveExits.{child-now}
 use Rattle.services.specs.DeleteExits.{ungiven}
 use Rattle.services.specs.ClearExits.{branchOf, Cleared, Zero}
 

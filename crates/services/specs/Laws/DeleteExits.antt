@@ -12,7 +12,7 @@ use Rattle.tables.specs.Laws.State.{none-of}
 use Rattle.tables.specs.Update.{upd, upd1}
 use Rattle.tables.specs.Laws.Update.{row-same}
 use Rattle.settling.specs.UpTo.{upTo}
-use Rattle.settling.specs.Laws.UpTo.{up-above, up-start, up-more, up-end, upd1-keep, upd-keep, row-put}
+use Rattle.settling.specs.Laws.UpTo.{up-above, up-start, up-more, up-end, upd1-keep, upd-keep, upd-row-put}
 use Rattle.tables.specs.View.{view, entryOf}
 use Rattle.tables.specs.Encode.{encode, Canon, Is}
 use Rattle.tables.specs.Laws.Encode.{canon-is}
@@ -30,7 +30,7 @@ use Rattle.services.specs.Laws.Zeroed.{zero-one}
 use Rattle.rules.specs.Ran.{Ran}
 use Rattle.rules.specs.Laws.Ran.{ran-refused, ran-done, pass, fail}
 use Rattle.blocks.specs.Laws.RegionExits.{entry-none, entry-there}
-use Rattle.blocks.specs.Laws.SlotExits.{child-now}
+use Rattle.blocks.specs.Laws.GiveExits.{child-now}
 use Rattle.services.specs.DeleteExits.{ungiveAt, ungiven}
 
 -- ── one slot ──
@@ -97,7 +97,7 @@ module _ {t : Table} {c p n : ℕ} {l : List ℕ} (inv : Ungiving t c p n l) whe
       slots : upd (upd1 (t .k .slot) c row) c n (ungive p (upd1 (t .k .slot) c row c n)) ≡ upd1 (t .k .slot) c (upTo (n + 1) new (t .k .slot c))
       slots =
           ap (λ (e : Opt Entry). upd (upd1 (t .k .slot) c row) c n (ungive p e)) old
-          ∙ row-put (t .k .slot) c row n (new n)
+          ∙ upd-row-put (t .k .slot) c row n (new n)
           ∙ ap (upd1 (t .k .slot) c) (up-more n new (t .k .slot c))
 
       next : ungiveAt (ungivenTo t c p n) c p n ≡ ungivenTo t c p (n + 1)

@@ -7,7 +7,7 @@ use native.Mathlib.Decide.{ℕ-discrete}
 use native.Mathlib.Omega.{arith}
 use borrow.Author.Tests.{eq-eqb, ne-eqb}
 use Rattle.loops.specs.Laws.Scan.{seek-first, seek-none}
-use Rattle.loops.specs.Carry.{done}
+use Rattle.loops.specs.Loops.{carried}
 use Rattle.loops.specs.Laws.Carry.{done-none, done-more}
 use Rattle.words.specs.declared.regions_word.Region.{Region}
 use Rattle.words.specs.declared.regions_word.RegionsFields.{RegionsFields}
@@ -17,8 +17,8 @@ use Rattle.tables.specs.Laws.State.{none-of}
 use Rattle.tables.specs.Update.{upd, upd1}
 use Rattle.tables.specs.Laws.Update.{upd1-same, upd1-other, row-same, row-other}
 use Rattle.settling.specs.UpTo.{upTo}
-use Rattle.settling.specs.Laws.UpTo.{up-above, up-start, up-more, up-end, upd1-keep, upd-keep, row-put}
-use Rattle.tables.specs.View.{view, nth, entryOf}
+use Rattle.settling.specs.Laws.UpTo.{up-above, up-start, up-more, up-end, upd1-keep, upd-keep, upd-row-put}
+use Rattle.tables.specs.View.{view, nthRegion, entryOf}
 use Rattle.tables.specs.Encode.{Canon, Is}
 use Rattle.tables.specs.Laws.Encode.{canon-is, is-canon}
 use Rattle.tables.specs.Laws.Back.{Fit}
@@ -39,7 +39,7 @@ use Rattle.blocks.specs.Laws.RegionExits.{region-none, region-some, entry-none,
 use Rattle.services.specs.PackExits.{renameAt, renamed, movedTo, packTable, CanPack, Turned}
 
 -- ── one region ──
-module _ {l : List ℕ} {p : ℕ} {f : RegionsFields} {x : Region} (v : SeenRegions l p f) (i j r : ℕ) (h : r < 8) (is : x ≡ nth f r) where
+module _ {l : List ℕ} {p : ℕ} {f : RegionsFields} {x : Region} (v : SeenRegions l p f) (i j r : ℕ) (h : r < 8) (is : x ≡ nthRegion f r) where
   -- the words stay where the region does
   region-same : Canon l → view l .region p r ≡ rename i j (view l .region p r) → Is l (renameAt (view l) p i j r)
   region-same c e = subst (Is l) same (canon-is c)
@@ -95,7 +95,7 @@ module _ {t : Table} {p i j n : ℕ} {l : List ℕ} (inv : Renaming t p i j n l)
       regions : upd (upd1 (t .region) p row) p n (rename i j (upd1 (t .region) p row p n)) ≡ upd1 (t .region) p (upTo (n + 1) new (t .region p))
       regions =
           ap (λ (o : Opt ℕ). upd (upd1 (t .region) p row) p n (rename i j o)) old
-          ∙ row-put (t .region) p row n (new n)
+          ∙ upd-row-put (t .region) p row n (new n)
           ∙ ap (upd1 (t .region) p) (up-more n new (t .region p))
 
       next : renameAt (renamedTo t p i j n) p i j n ≡ renamedTo t p i j (n + 1)
@@ -120,7 +120,7 @@ module _ {t : Table} {p i j n : ℕ} {l : List ℕ} (inv : Renaming t p i j n l)
 -- ── one turn ──
 -- one value of a function of two numbers is one value of its row
 upd-row : {A : Type 0} (f : ℕ → ℕ → A) (p i : ℕ) (a : A) → upd f p i a ≡ upd1 f p (upd1 (f p) i a)
-upd-row f p i a = ap (λ (g : ℕ → ℕ → _). upd g p i a) (sym (upd1-keep f p)) ∙ row-put f p (f p) i a
+upd-row f p i a = ap (λ (g : ℕ → ℕ → _). upd g p i a) (sym (upd1-keep f p)) ∙ upd-row-put f p (f p) i a
 
 -- a function of every value
 upd1-map : {A B : Type 0} (g : A → B) (f : ℕ → A) (i : ℕ) (a : A) → upd1 (λ m. g (f m)) i (g a) ≡ (λ m. g (upd1 f i a m))
@@ -132,7 +132,7 @@ upd1-map g f i a = λ x m. at m (ℕ-discrete m i) x
 
 -- two values of one row
 two-row : {A : Type 0} (f : ℕ → ℕ → A) (p i j : ℕ) (a b : A) → upd (upd f p j a) p i b ≡ upd1 f p (upd1 (upd1 (f p) j a) i b)
-two-row f p i j a b = ap (λ (g : ℕ → ℕ → _). upd g p i b) (upd-row f p j a) ∙ row-put f p (upd1 (f p) j a) i b
+two-row f p i j a b = ap (λ (g : ℕ → ℕ → _). upd g p i b) (upd-row f p j a) ∙ upd-row-put f p (upd1 (f p) j a) i b
 
 -- the lowest number of 32 and the lowest below i
 module _ (f : ℕ → Bool) (i : ℕ) where
@@ -221,8 +221,8 @@ module _ {l : List ℕ} {p i moved : ℕ} (c : CanPack l p i moved) where
 -- at n, the words and the number are those of so many turns
 pub record Packs (t : Table) (p n : ℕ) (l : List ℕ) (moved : ℕ) : Type 0 where
   pub within : n ≤ 32
-  pub is : Is l (packTable t p (done (packSlot (usable (t .k) p)) (packingOf t p 0) n))
-  pub number : moved ≡ done (packSlot (usable (t .k) p)) (packingOf t p 0) n .moved
+  pub is : Is l (packTable t p (carried (packSlot (usable (t .k) p)) (packingOf t p 0) n))
+  pub number : moved ≡ carried (packSlot (usable (t .k) p)) (packingOf t p 0) n .moved
 
 -- a row put over a row
 row-over : {A : Type 0} (f : ℕ → ℕ → A) (p : ℕ) (a b : ℕ → A) → upd1 (upd1 f p a) p b ≡ upd1 f p b
@@ -248,12 +248,12 @@ pack-start {l} {p} c h = record {
   number = ap (λ (s : Packing). s .moved) (sym first);
 }
   where
-    first : done (packSlot (usable (view l .k) p)) (packingOf (view l) p 0) 0 ≡ packingOf (view l) p 0
+    first : carried (packSlot (usable (view l .k) p)) (packingOf (view l) p 0) 0 ≡ packingOf (view l) p 0
     first = done-none (packSlot (usable (view l .k) p)) (packingOf (view l) p 0)
 
 module _ {t : Table} {p n : ℕ} {l : List ℕ} {moved : ℕ} (inv : Packs t p n l moved) where
   abbrev so-far : Packing
-  so-far = done (packSlot (usable (t .k) p)) (packingOf t p 0) n
+  so-far = carried (packSlot (usable (t .k) p)) (packingOf t p 0) n
 
   pub can-turn : p < 16 → n < 32 → CanPack l p n moved
   unfolding openAt
@@ -278,7 +278,7 @@ module _ {t : Table} {p n : ℕ} {l : List ℕ} {moved : ℕ} (inv : Packs t p n
       turned : Turned (packTable t p so-far) p n (so-far .moved) m r
       turned = subst (λ (x : Table). Turned x p n (so-far .moved) m r) (inv .is .viewed) (subst (λ (k : ℕ). Turned (view l) p n k m r) (inv .number) h)
 
-      next : done (packSlot (usable (t .k) p)) (packingOf t p 0) (n + 1) ≡ packSlot (usable (t .k) p) n so-far
+      next : carried (packSlot (usable (t .k) p)) (packingOf t p 0) (n + 1) ≡ packSlot (usable (t .k) p) n so-far
       next = done-more (packSlot (usable (t .k) p)) (packingOf t p 0) n
 
       over : (s u : Packing) → packTable (packTable t p s) p u ≡ packTable t p u
@@ -320,5 +320,5 @@ pub pack-end : {l m : List ℕ} {p n moved : ℕ} → Right (view l) → ownOrCh
 unfolding pack packed
 pack-end {l} {m} {p} {n} h own inv b =
     let z : n ≡ 32 = omega (arith, inv .within) in
-    let is : Is m (packTable (view l) p (packed (view l) p)) = subst (λ (k : ℕ). Is m (packTable (view l) p (done (packSlot (usable (view l .k) p)) (packingOf (view l) p 0) k))) z (inv .is) in
+    let is : Is m (packTable (view l) p (packed (view l) p)) = subst (λ (k : ℕ). Is m (packTable (view l) p (carried (packSlot (usable (view l .k) p)) (packingOf (view l) p 0) k))) z (inv .is) in
     rw (inv .number, z) (ran-done (pass 3 own refl) (settled-words is (pack-settled h p)))

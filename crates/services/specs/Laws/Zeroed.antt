@@ -9,11 +9,11 @@ use Rattle.tables.specs.State.{none, Table}
 use Rattle.tables.specs.Update.{upd1}
 use Rattle.tables.specs.Laws.Update.{upd1-same, upd1-other}
 use Rattle.tables.specs.Write.{clearRecord}
-use Rattle.rules.specs.Rules.{zeroed}
+use Rattle.rules.specs.Rules.{recordsZero}
 use Rattle.services.specs.Zeroed.{zeroRecords}
 
 -- ── one record ──
-one : {A : Type 0} (f : ℕ → A) (p : ℕ) (a : A) → upd1 f p a ≡ zeroed (λ q. eqb q p) a f
+one : {A : Type 0} (f : ℕ → A) (p : ℕ) (a : A) → upd1 f p a ≡ recordsZero (λ q. eqb q p) a f
 one f p a = λ x q. at q (ℕ-discrete q p) x
   where
     at : (q : ℕ) → Dec (q ≡ p) → upd1 f p a q ≡ cond (eqb q p) a (f q)
@@ -35,7 +35,7 @@ zero-one t p = λ x. record {
 }
 
 -- ── those of n after those of m ──
-more : {A : Type 0} (m n : ℕ → Bool) (a : A) (f : ℕ → A) → zeroed n a (zeroed m a f) ≡ zeroed (λ q. m q || n q) a f
+more : {A : Type 0} (m n : ℕ → Bool) (a : A) (f : ℕ → A) → recordsZero n a (recordsZero m a f) ≡ recordsZero (λ q. m q || n q) a f
 more {A} m n a f = λ x q. at (m q) (n q) (f q) x
   where
     at : (b c : Bool) (o : A) → cond c a (cond b a o) ≡ cond (b || c) a o

@@ -1,3 +1,4 @@
+-- src/lib.rt, kept_region: q ≡ regionFor (keep (view t .opened (p .0)) (named r))
 use mathlib.Core.Path.{refl, _∙_}
 use Rattle.tables.specs.View.{named}
 use Rattle.tables.specs.Encode.{regionFor}

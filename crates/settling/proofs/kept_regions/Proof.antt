@@ -1,11 +1,12 @@
-use Rattle.tables.specs.View.{nth}
+-- src/lib.rt, kept_regions: r ≡ regionsFor (λ i. keep (view t .opened (p .0)) (view t .region (p .0) i))
+use Rattle.tables.specs.View.{nthRegion}
 use Rattle.tables.specs.Laws.Kept.{kept-regions}
 use borrow.Author.Needs.{needs}
 use Rattle.settling.proofs.kept_regions.Statement.{statement}
 use Rattle.settling.proofs.kept_regions.Tie as tie
 
 pub kept-regions-spec : {M : Type 1} → statement M
-unfolding nth
+unfolding nthRegion
 kept-regions-spec =
     tie.close
     (tie.spec

@@ -1,3 +1,4 @@
+-- src/lib.rt, settle_regions: Is t′ (keepRegions (view t) (p .0))
 use mathlib.Core.Path.{ap, _∙_}
 use Rattle.words.specs.Kind.{writing}
 use Rattle.words.specs.Words.{regions}

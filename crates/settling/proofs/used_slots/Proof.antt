@@ -1,5 +1,6 @@
+-- src/lib.rt, used_slots: UsedEnd (view t .k) (p .0) r
 use Rattle.tables.specs.View.{view}
-use Rattle.settling.specs.Laws.Settled.{Absent, absent-start, absent-more, ends-here, ends-none}
+use Rattle.settling.specs.Laws.Settled.{AbsentStructures, absent-structures-start, absent-more, ends-here, ends-none}
 use native.Mathlib.Omega.{arith}
 use borrow.Author.Needs.{needs}
 use Rattle.settling.proofs.used_slots.Statement.{statement}
@@ -9,9 +10,9 @@ pub used-slots-spec : {M : Type 1} → statement M
 used-slots-spec =
     tie.close
     (tie.spec
-    (λ t p j₀ j. Absent (view t .k) (p .0) j)
+    (λ t p j₀ j. AbsentStructures (view t .k) (p .0) j)
     (λ t p j₀ j. j)
-    (λ c. absent-start)
+    (λ c. absent-structures-start)
     (λ c. search needs)
     (λ c κs. (c .before .before .pre, omega (arith, c .before .loop .inv .within)))
     (λ c. omega (arith, c .before .before .before .loop .inv .within))

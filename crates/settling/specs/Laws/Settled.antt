@@ -29,10 +29,10 @@ use Rattle.tables.specs.Store.{stored}
 use Rattle.tables.specs.Laws.Store.{store-word}
 use Rattle.tables.specs.Settle.{openBit, openAt, keep, settle, settled}
 use Rattle.tables.specs.Kept.{keepRegions}
-use Rattle.tables.specs.Laws.Kept.{keep-some}
+use Rattle.tables.specs.Laws.Kept.{kept-some}
 use Rattle.settling.specs.Areas.{AreasOf, off, clearOf}
 use Rattle.settling.specs.Laws.Areas.{clear-quick}
-use Rattle.settling.specs.Settled.{Housed, Named, Ends, offEntry, Came, Gone, settleSlot, settleRecord, Fixed, Nearer, SlotDone, RecordDone}
+use Rattle.settling.specs.Settled.{Housed, RegionsNamed, UsedEnd, offEntry, Came, Gone, settleSlot, settleRecord, Fixed, Nearer, SlotDone, RecordDone}
 
 -- ── two results are equal ──
 pub slot-done-one : {P : Table → Type 0} {p i : ℕ} {l m o : List ℕ} → SlotDone P p i l m → SlotDone P p i l o → m ≡ o
@@ -41,10 +41,10 @@ slot-done-one x y = is-one (x .is) (y .is)
 pub record-done-one : {P : Table → Type 0} {p : ℕ} {l m o : List ℕ} → RecordDone P p l m → RecordDone P p l o → m ≡ o
 record-done-one x y = is-one (x .is) (y .is)
 
-pub ends-one : {k : K} {p n m : ℕ} → Ends k p n → Ends k p m → n ≡ m
+pub ends-one : {k : K} {p n m : ℕ} → UsedEnd k p n → UsedEnd k p m → n ≡ m
 ends-one {k} {p} x y = omega (arith, x .is, y .is, not-below x y, not-below y x)
   where
-    not-below : {n m : ℕ} (x : Ends k p n) (y : Ends k p m) → x .j < y .j → ⊥
+    not-below : {n m : ℕ} (x : UsedEnd k p n) (y : UsedEnd k p m) → x .j < y .j → ⊥
     not-below x y b =
         let (a, u) = y .last (omega arith) in
         let z : 1 + (y .j - 1) ≡ y .j = omega arith in
@@ -52,15 +52,15 @@ ends-one {k} {p} x y = omega (arith, x .is, y .is, not-below x y, not-below y x)
 
 -- ── how far slots are in use ──
 -- the structures of p from j on are absent
-pub record Absent (k : K) (p j : ℕ) : Type 0 where
+pub record AbsentStructures (k : K) (p j : ℕ) : Type 0 where
   pub within : j ≤ 4
   pub gone : (i : ℕ) → j ≤ i → i < 4 → k .area p (1 + i) ≡ none
 
-pub absent-start : {k : K} {p : ℕ} → Absent k p 4
-absent-start = record { within = omega arith; gone = λ i a b. absurd (omega arith) }
+pub absent-structures-start : {k : K} {p : ℕ} → AbsentStructures k p 4
+absent-structures-start = record { within = omega arith; gone = λ i a b. absurd (omega arith) }
 
-module _ {l : List ℕ} {p j : ℕ} {f : StructureFields} (inv : Absent (view l .k) p j) (h : 0 < j) (v : SeenStructure l p (j - 1) f) where
-  pub absent-more : f .present ≡ false → Absent (view l .k) p (j - 1)
+module _ {l : List ℕ} {p j : ℕ} {f : StructureFields} (inv : AbsentStructures (view l .k) p j) (h : 0 < j) (v : SeenStructure l p (j - 1) f) where
+  pub absent-more : f .present ≡ false → AbsentStructures (view l .k) p (j - 1)
   unfolding structureArea
   absent-more n = record { within = omega (arith, inv .within); gone = λ i a b. go i a b (ℕ-discrete i (j - 1)) }
     where
@@ -68,18 +68,18 @@ module _ {l : List ℕ} {p j : ℕ} {f : StructureFields} (inv : Absent (view l 
       go i a b (yes z) = rw z (v .area ∙ rw n refl)
       go i a b (no z) = inv .gone i (omega arith) b
 
-  pub ends-here : f .present ≡ true → Ends (view l .k) p (8 * j)
+  pub ends-here : f .present ≡ true → UsedEnd (view l .k) p (8 * j)
   unfolding structureArea
   ends-here n =
       let z : 1 + (j - 1) ≡ j = omega arith in
       let u : view l .k .area p (1 + (j - 1)) ≡ some (record { lo = f .start .0; hi = f .end .0 }) = v .area ∙ rw n refl in
       record { j = j; is = refl; within = inv .within; gone = inv .gone; last = λ b. (record { lo = f .start .0; hi = f .end .0 }, rw z at u) }
 
-pub ends-none : {k : K} {p j : ℕ} → Absent k p j → j ≤ 0 → Ends k p (8 * j)
+pub ends-none : {k : K} {p j : ℕ} → AbsentStructures k p j → j ≤ 0 → UsedEnd k p (8 * j)
 ends-none {j = j} inv h = record { j = j; is = refl; within = inv .within; gone = inv .gone; last = λ b. absurd (omega arith) }
 
 -- no slot behind them is in use
-ends-empty : {k : K} {p n : ℕ} → Housed k → Ends k p n → (i : ℕ) → n ≤ i → i < 32 → k .slot p i ≡ none
+ends-empty : {k : K} {p n : ℕ} → Housed k → UsedEnd k p n → (i : ℕ) → n ≤ i → i < 32 → k .slot p i ≡ none
 ends-empty {k} {p} h x i a b = none-of (k .slot p i) (λ e u.
     let (y, v) = h .at p i e u in not-none (k .area p (1 + i / 8)) (x .gone (i / 8) (omega (arith, x .is)) (omega arith)) v)
 
@@ -176,8 +176,8 @@ module _ (t : Table) (p i : ℕ) where
   regions-stay : ((r j : ℕ) → t .region p r ≡ some j → bitsThen p j ≡ true) → t .region ≡ upd1 (t .region) p regionsThen
   regions-stay f = sym (ap (upd1 (t .region) p) (λ x r. keep-same (bitsThen p) (t .region p r) (f r) x) ∙ upd1-keep (t .region) p)
 
-  module _ (h : Named t) where
-    slot-named : Named (settleSlot t p i)
+  module _ (h : RegionsNamed t) where
+    slot-named : RegionsNamed (settleSlot t p i)
     slot-named = record { at = λ q r j u. name q r j u (ℕ-discrete q p) }
       where
         name : (q r j : ℕ) → upd1 (t .region) p regionsThen q r ≡ some j → Dec (q ≡ p) → bitsThen q j ≡ true
@@ -202,7 +202,7 @@ module _ (t : Table) (p i : ℕ) where
         at q r (no z) = ap (keep (openAt (t .k) q)) (row-other (t .region) p regionsThen q r z)
 
 -- the words of it
-slot-done : {P : Table → Type 0} {l m : List ℕ} (p i : ℕ) → Named (view l) → P (settleSlot (view l) p i) → Is m (settleSlot (view l) p i) → SlotDone P p i l m
+slot-done : {P : Table → Type 0} {l m : List ℕ} (p i : ℕ) → RegionsNamed (view l) → P (settleSlot (view l) p i) → Is m (settleSlot (view l) p i) → SlotDone P p i l m
 slot-done {P} {l} {m} p i h then is = record {
   is = is;
   near = record {
@@ -218,7 +218,7 @@ slot-done {P} {l} {m} p i h then is = record {
     seen q j = subst (λ (t : Table). openAt (t .k) q j ≡ t .opened q j) (sym (is .viewed))
 
 -- a bit that is fixed already: nothing changes
-slot-stays : {l : List ℕ} (p i : ℕ) → Canon l → Named (view l) → Fixed l p i → Is l (settleSlot (view l) p i)
+slot-stays : {l : List ℕ} (p i : ℕ) → Canon l → RegionsNamed (view l) → Fixed l p i → Is l (settleSlot (view l) p i)
 slot-stays {l} p i c h q = subst (Is l) same (canon-is c)
   where
     bits : view l .opened ≡ bitsThen (view l) p i
@@ -334,16 +334,16 @@ record Stays (q : ℕ) (l m : List ℕ) : Type 0 where
   region : view m .region q ≡ view l .region q
 
 -- at i, so many bits of p are fixed, and no other record has changed
-pub record RowTo (P : Table → Type 0) (l : List ℕ) (p i : ℕ) (m : List ℕ) : Type 0 where
+pub record SettledRowTo (P : Table → Type 0) (l : List ℕ) (p i : ℕ) (m : List ℕ) : Type 0 where
   pub near : Nearer P l m
   pub fixed : (j : ℕ) → j < i → Fixed m p j
   others : (q : ℕ) → (q ≡ p → ⊥) → Stays q l m
 
 module _ {P : Table → Type 0} where
-  pub row-start : {l : List ℕ} {p : ℕ} → Canon l → P (view l) → RowTo P l p 0 l
+  pub row-start : {l : List ℕ} {p : ℕ} → Canon l → P (view l) → SettledRowTo P l p 0 l
   row-start c h = record { near = near-start c h; fixed = λ j b. absurd (omega arith); others = λ q z. record { opened = refl; region = refl } }
 
-  pub row-more : {l m o : List ℕ} {p i : ℕ} → RowTo P l p i m → SlotDone P p i m o → RowTo P l p (i + 1) o
+  pub row-more : {l m o : List ℕ} {p i : ℕ} → SettledRowTo P l p i m → SlotDone P p i m o → SettledRowTo P l p (i + 1) o
   row-more {l} {m} {o} {p} {i} inv d = record {
     near = near-on (inv .near) (d .near);
     fixed = λ j c. go j c (ℕ-discrete j i);
@@ -357,7 +357,7 @@ module _ {P : Table → Type 0} where
       go j c (yes z) = rw z (d .fixed)
       go j c (no z) = d .near .keeps p j (inv .fixed j (omega arith))
 
-  pub row-end : {l m : List ℕ} {p i n : ℕ} → RowTo P l p i m → Housed (view l .k) → Named (view m) → Ends (view l .k) p n → n ≤ i → RecordDone P p l m
+  pub row-end : {l m : List ℕ} {p i n : ℕ} → SettledRowTo P l p i m → Housed (view l .k) → RegionsNamed (view m) → UsedEnd (view l .k) p n → n ≤ i → RecordDone P p l m
   unfolding settle
   row-end {l} {m} {p} {i} {n} inv house names ends b = record { is = subst (Is m) same (canon-is (inv .near .canon)); near = inv .near; fixed = bits }
     where
@@ -410,7 +410,7 @@ module _ {P : Table → Type 0} where
       go p j c (no z) = d .near .keeps p j (inv .fixed p j (omega arith))
 
   -- the table is its own settled one, and so the one that was to be settled
-  pub all-end : {l m : List ℕ} {n : ℕ} → AllTo P l n m → Named (view m) → 16 ≤ n → m ≡ encode (settled (view l))
+  pub all-end : {l m : List ℕ} {n : ℕ} → AllTo P l n m → RegionsNamed (view m) → 16 ≤ n → m ≡ encode (settled (view l))
   unfolding settle
   all-end {l} {m} {n} inv names b = sym (inv .near .canon .same) ∙ ap encode (sym own ∙ inv .near .same)
     where
@@ -439,7 +439,7 @@ fit-settled t h = record {
   area = h .area;
   slot = h .slot;
   closed = λ p i q. rw q refl;
-  region = λ p r i u. h .region p r i (keep-some (openAt (t .k) p) (t .region p r) i u);
+  region = λ p r i u. h .region p r i (kept-some (openAt (t .k) p) (t .region p r) i u);
 }
 
 pub settled-is : {l m : List ℕ} {t : Table} → Is l t → m ≡ encode (settled (view l)) → Is m (settled t)

@@ -61,8 +61,8 @@ upd-keep f p i = λ x q j. at q j (both? p i q j) x
     at q j (no z) = upd-other f p i (f p i) q j z
 
 -- one value of a row that was changed
-pub row-put : {A : Type 0} (f : ℕ → ℕ → A) (p : ℕ) (g : ℕ → A) (i : ℕ) (a : A) → upd (upd1 f p g) p i a ≡ upd1 f p (upd1 g i a)
-row-put f p g i a = λ x q j. at q j (ℕ-discrete q p) (ℕ-discrete j i) x
+pub upd-row-put : {A : Type 0} (f : ℕ → ℕ → A) (p : ℕ) (g : ℕ → A) (i : ℕ) (a : A) → upd (upd1 f p g) p i a ≡ upd1 f p (upd1 g i a)
+upd-row-put f p g i a = λ x q j. at q j (ℕ-discrete q p) (ℕ-discrete j i) x
   where
     at : (q j : ℕ) → Dec (q ≡ p) → Dec (j ≡ i) → upd (upd1 f p g) p i a q j ≡ upd1 f p (upd1 g i a) q j
     at q j (yes z) (yes y) = upd-same (upd1 f p g) p i a q j (z, y) ∙ sym (row-same f p (upd1 g i a) q j z ∙ upd1-same g i a j y)

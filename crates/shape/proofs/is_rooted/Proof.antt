@@ -1,3 +1,4 @@
+-- src/lib.rt, is_rooted: r ≡ rooted (p .0) j
 use mathlib.Core.Path.{refl}
 use borrow.Author.Tests.{eq-eqb, ne-eqb}
 use Rattle.sound.specs.Clauses.{rooted}

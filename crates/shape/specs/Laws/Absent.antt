@@ -5,9 +5,9 @@ use mathlib.Core.List.{List}
 use Prim.Native.Nat.{ℕ, _+_}
 use native.Mathlib.Omega.{arith}
 use borrow.Author.Tests.{eq-eqb, ne-eqb, le-leb}
-use Rattle.loops.specs.Every.{all}
+use Rattle.loops.specs.Loops.{all}
 use Rattle.loops.specs.Laws.Every.{all-of, all-true}
-use Rattle.words.specs.Kind.{zero-zeroed}
+use Rattle.words.specs.Laws.Kind.{zero-zeroed}
 use Rattle.words.specs.Words.{header, structure, regions}
 use Rattle.words.specs.declared.regions_word.Region.{Region}
 use Rattle.shapes.specs.declared.Board.{Board}

@@ -7,12 +7,13 @@ use Prim.Native.Nat.{ℕ, zero, suc, _+_, _*_, _/_, _%_, _<_}
 use native.Mathlib.Omega.{arith}
 use lib.Dec.{eqb}
 use borrow.Author.Tests.{eqb-true, eq-eqb}
-use Rattle.loops.specs.Every.{all}
+use Rattle.loops.specs.Loops.{all}
 use Rattle.loops.specs.Laws.Every.{bool-ext, all-at, all-of, all-ext}
-use Rattle.words.specs.Kind.{zeroed, zeroed-means, zero-zeroed}
+use Rattle.words.specs.Kind.{zeroed}
+use Rattle.words.specs.Laws.Kind.{zeroed-means, zero-zeroed}
 use Rattle.words.specs.Words.{header, structure, regions}
 use Rattle.tables.specs.State.{K}
-use Rattle.tables.specs.View.{areaWordAt, regionsWordAt, slotWordAt, nth, regionsAt, view}
+use Rattle.tables.specs.View.{areaWordAt, regionsWordAt, slotWordAt, nthRegion, regionsAt, view}
 use Rattle.tables.specs.Search.{isSome}
 use Rattle.tables.specs.Laws.ZeroWord.{no-entry, blank-regions}
 use Rattle.tables.specs.ZeroRecord.{zeroBlanks}
@@ -103,7 +104,7 @@ pub regions-empty : (l : List ℕ) (p : ℕ) → regionsWordAt l p ≡ 0 → s3R
 unfolding s3Regions blankRegion
 regions-empty l p q =
     and-true _ _ (zeroed-means regions (regionsWordAt l p) .1 (rw q (zero-zeroed regions)))
-    (all-of 8 (λ r. blankRegion (nth (regionsAt l p) r)) (λ r h. rw (blank-regions l p q r h) refl))
+    (all-of 8 (λ r. blankRegion (nthRegion (regionsAt l p) r)) (λ r h. rw (blank-regions l p q r h) refl))
 
 -- as a slot
 pub slot-empty : (l : List ℕ) (p i : ℕ) → slotWordAt l p i ≡ 0 → s5Slot l (view l .k) p i ≡ true

@@ -8,7 +8,7 @@ use lib.ListN.{length, drop, set, length-append, length-drop, length-map}
 use lib.Seq.{drop-cons, set-append-seam}
 use Rattle.shapes.specs.declared.Board.{Board}
 use Rattle.shapes.specs.declared.Board.the-variants.{V7, V8}
-use Rattle.shapes.specs.Pieces.{Piece, piece, pieces, piecesFor, widest, pieceWord, pieceWords, CanList, Listed}
+use Rattle.shapes.specs.Pieces.{Piece, piece, pieces, piecesFor, widest, pieceWord, pieceWords, CanList, ShapesListed}
 use Rattle.shapes.specs.Laws.Greedy.{pieces-next, pieces-none, widest-ends, widest-some}
 
 -- the pieces up to line `at` are told, n of them, and stand in the list
@@ -20,8 +20,8 @@ pub record Listing (s e : ℕ) (before : List ℕ) (n at : ℕ) (list : List ℕ
   pub words : list ≡ pieceWords told before
 
 -- two results are equal
-pub listed-one : {ps : List Piece} {before : List ℕ} {r q : ℕ} {after later : List ℕ} → Listed ps before r after → Listed ps before q later → (r ≡ q) × (after ≡ later)
-listed-one x y = (x .number ∙ sym (y .number), x .words ∙ sym (y .words))
+pub shapes-one : {ps : List Piece} {before : List ℕ} {r q : ℕ} {after later : List ℕ} → ShapesListed ps before r after → ShapesListed ps before q later → (r ≡ q) × (after ≡ later)
+shapes-one x y = (x .number ∙ sym (y .number), x .words ∙ sym (y .words))
 
 -- one more word stored after those of ps
 words-more : (ps : List Piece) (p : Piece) (list : List ℕ) → length ps < length list → set (pieceWords ps list) (length ps) (pieceWord p) ≡ pieceWords (ps ++ (p ∷ [])) list
@@ -68,13 +68,13 @@ module _ {s e n at : ℕ} {before list : List ℕ} (l : Listing s e before n at 
             (words-more (l .told) (piece at (widest at e)) before (omega (arith, l .number, parts, ap length next-is, can .room)));
       }
 
-  pub list-end : e ≤ at → Listed (pieces s e) before n list
+  pub list-end : e ≤ at → ShapesListed (pieces s e) before n list
   list-end h =
       let z : pieces s e ≡ l .told = l .whole ∙ ap (λ (ps : List Piece). l .told ++ ps) (pieces-none at e h) ∙ append-nil (l .told) in
       record { number = sym (l .number) ∙ ap length (sym z); words = l .words ∙ ap (λ (ps : List Piece). pieceWords ps before) (sym z) }
 
 -- ── the one piece of ARMv8-M ──
-pub plain-listed : (s e : ℕ) {w : ℕ} (before : List ℕ) → CanList V8 s e before → w ≡ s * 2 ^ 32 + (e - s) → Listed (piecesFor V8 s e) before 1 (set before 0 w)
+pub plain-listed : (s e : ℕ) {w : ℕ} (before : List ℕ) → CanList V8 s e before → w ≡ s * 2 ^ 32 + (e - s) → ShapesListed (piecesFor V8 s e) before 1 (set before 0 w)
 plain-listed s e [] h q = absurd (omega (arith, h .room))
 plain-listed s e (x ∷ rest) h q = record { number = refl; words = rw q refl }
 
@@ -83,5 +83,5 @@ module _ {board x : Board} (b : board ≡ x) (s e : ℕ) where
   pub can-list : {list : List ℕ} → CanList board s e list → CanList x s e list
   can-list h = rw (← b) h
 
-  pub listed-on : {before : List ℕ} {r : ℕ} {after : List ℕ} → Listed (piecesFor x s e) before r after → Listed (piecesFor board s e) before r after
+  pub listed-on : {before : List ℕ} {r : ℕ} {after : List ℕ} → ShapesListed (piecesFor x s e) before r after → ShapesListed (piecesFor board s e) before r after
   listed-on h = rw b h

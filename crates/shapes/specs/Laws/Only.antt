@@ -11,13 +11,13 @@ use lib.Pow.{pow-pos}
 use borrow.Author.Tests.{leb-true}
 use Rattle.loops.specs.Laws.Count.{count-le, count-fewer, without, without-other, count-without}
 use Rattle.shapes.specs.Pieces.{Piece, piece}
-use Rattle.shapes.specs.Fewest.{InPiece, nth, Covers, Rising}
+use Rattle.shapes.specs.Fewest.{InPiece, nthPiece, Covers, PiecesRising}
 use Rattle.shapes.specs.Laws.Widest.{Widest}
 use Rattle.shapes.specs.Laws.Greedy.{Greedy, ended, next}
-use Rattle.shapes.specs.Laws.Clean.{Clean, clean-start, clean-next, from, ends-by, as-many}
+use Rattle.shapes.specs.Laws.Clean.{Uncrossed, clean-start, clean-next, from, ends-by, as-many}
 
 -- the first starts no later than any
-first-lowest : {cs : List Piece} → Rising cs → (i : ℕ) → i < length cs → nth cs 0 .start ≤ nth cs i .start
+first-lowest : {cs : List Piece} → PiecesRising cs → (i : ℕ) → i < length cs → nthPiece cs 0 .start ≤ nthPiece cs i .start
 first-lowest r zero h = omega arith
 first-lowest r (suc i) h = omega (arith, first-lowest r i (omega arith), r .next i h)
 
@@ -26,11 +26,11 @@ abbrev any : ℕ → Bool
 any k = true
 
 module _ {b s j : ℕ} {ps : List Piece} (w : Widest s b j) (g : Greedy b (s + 2 ^ j) ps)
-    {c : Piece} {cs : List Piece} (cover : Covers s b (c ∷ cs)) (rising : Rising (c ∷ cs)) (few : length (c ∷ cs) ≤ suc (length ps)) where
+    {c : Piece} {cs : List Piece} (cover : Covers s b (c ∷ cs)) (rising : PiecesRising (c ∷ cs)) (few : length (c ∷ cs) ≤ suc (length ps)) where
   some : s < s + 2 ^ j
   some = omega (arith, pow-pos j)
 
-  clean : Clean s b (s + 2 ^ j)
+  clean : Uncrossed s b (s + 2 ^ j)
   clean = clean-next w (clean-start s b)
 
   first-start : c .start ≡ s
@@ -39,16 +39,16 @@ module _ {b s j : ℕ} {ps : List Piece} (w : Widest s b j) (g : Greedy b (s + 2
       omega (arith, cover .low 0 (omega arith), first-lowest rising i d, u .from)
 
   -- the others start where the first largest piece ends, or later
-  later : (i : ℕ) → i < length cs → s + 2 ^ j ≤ nth cs i .start
-  later i d = go (decLt (nth cs i .start) (s + 2 ^ j))
+  later : (i : ℕ) → i < length cs → s + 2 ^ j ≤ nthPiece cs i .start
+  later i d = go (decLt (nthPiece cs i .start) (s + 2 ^ j))
     where
-      neither : nth cs i .start < s + 2 ^ j → (k : ℕ) → from cover (s + 2 ^ j) k ≡ true → without (without any 0) (suc i) k ≡ true
+      neither : nthPiece cs i .start < s + 2 ^ j → (k : ℕ) → from cover (s + 2 ^ j) k ≡ true → without (without any 0) (suc i) k ≡ true
       neither z k q =
-          let far = leb-true (s + 2 ^ j) (nth (c ∷ cs) k .start) q in
-          without-other (without any 0) (suc i) k (λ e. let x = ap (λ (m : ℕ). nth (c ∷ cs) m .start) e in omega arith)
-          ∙ without-other any 0 k (λ e. let x = ap (λ (m : ℕ). nth (c ∷ cs) m .start) e in omega (arith, first-start, some))
+          let far = leb-true (s + 2 ^ j) (nthPiece (c ∷ cs) k .start) q in
+          without-other (without any 0) (suc i) k (λ e. let x = ap (λ (m : ℕ). nthPiece (c ∷ cs) m .start) e in omega arith)
+          ∙ without-other any 0 k (λ e. let x = ap (λ (m : ℕ). nthPiece (c ∷ cs) m .start) e in omega (arith, first-start, some))
 
-      go : Dec (nth cs i .start < s + 2 ^ j) → s + 2 ^ j ≤ nth cs i .start
+      go : Dec (nthPiece cs i .start < s + 2 ^ j) → s + 2 ^ j ≤ nthPiece cs i .start
       go (no z) = omega arith
       go (yes z) =
           let enough = as-many cover clean (omega (arith, some)) g in
@@ -66,7 +66,7 @@ module _ {b s j : ℕ} {ps : List Piece} (w : Widest s b j) (g : Greedy b (s + 2
       let (i, d, u) = cover .every (s + 2 ^ j - 1) (omega (arith, some)) (omega (arith, some, w .fits .within)) in
       go i d u
     where
-      go : (i : ℕ) → i < length (c ∷ cs) → InPiece (s + 2 ^ j - 1) (nth (c ∷ cs) i) → c .lines ≡ 2 ^ j
+      go : (i : ℕ) → i < length (c ∷ cs) → InPiece (s + 2 ^ j - 1) (nthPiece (c ∷ cs) i) → c .lines ≡ 2 ^ j
       go zero d u = omega (arith, u .to, ends, first-start, some)
       go (suc i) d u = absurd (omega (arith, u .from, later i (omega arith), some))
 
@@ -82,14 +82,14 @@ module _ {b s j : ℕ} {ps : List Piece} (w : Widest s b j) (g : Greedy b (s + 2
     every = λ l x y. let (i, d, u) = cover .every l (omega (arith, some)) y in go l x i d u;
   }
     where
-      go : (l : ℕ) → s + 2 ^ j ≤ l → (i : ℕ) → i < length (c ∷ cs) → InPiece l (nth (c ∷ cs) i) → (i : ℕ) × (i < length cs) × InPiece l (nth cs i)
+      go : (l : ℕ) → s + 2 ^ j ≤ l → (i : ℕ) → i < length (c ∷ cs) → InPiece l (nthPiece (c ∷ cs) i) → (i : ℕ) × (i < length cs) × InPiece l (nthPiece cs i)
       go l x zero d u = absurd (omega (arith, u .to, ends))
       go l x (suc i) d u = (i, omega arith, u)
 
-  others-rise : Rising cs
+  others-rise : PiecesRising cs
   others-rise = record { next = λ i h. rising .next (suc i) (omega arith) }
 
-pub only : {b s : ℕ} {ps : List Piece} → Greedy b s ps → (cs : List Piece) → Covers s b cs → Rising cs → length cs ≤ length ps → cs ≡ ps
+pub only : {b s : ℕ} {ps : List Piece} → Greedy b s ps → (cs : List Piece) → Covers s b cs → PiecesRising cs → length cs ≤ length ps → cs ≡ ps
 only (ended z) [] cover rising few = refl
 only (ended z) (c ∷ cs) cover rising few = absurd (omega arith)
 only (next {s} {j} w g) [] cover rising few =

@@ -11,29 +11,29 @@ use borrow.Author.Tests.{eqb-true, eq-eqb, leb-true, le-leb}
 use Rattle.shapes.specs.Pieces.{fits, grown, widest}
 
 -- 2 ^ j lines from s on: s is a multiple of them, and they end by b
-pub record Fits (s b j : ℕ) : Type 0 where
+pub record FitsAt (s b j : ℕ) : Type 0 where
   pub times : ℕ
   pub multiple : s ≡ times * 2 ^ j
   pub within : s + 2 ^ j ≤ b
 
 -- the largest that fits at s
 pub record Widest (s b j : ℕ) : Type 0 where
-  pub fits : Fits s b j
-  pub no-more : Fits s b (suc j) → ⊥
+  pub fits : FitsAt s b j
+  pub no-more : FitsAt s b (suc j) → ⊥
 
 -- ── the test says it ──
 and-both : (a b : Bool) → a && b ≡ true → (a ≡ true) × (b ≡ true)
 and-both true b q = (refl, q)
 and-both false b q = absurd (false≢true q)
 
-fits-says : (s b j : ℕ) → fits s b j ≡ true → Fits s b j
+fits-says : (s b j : ℕ) → fits s b j ≡ true → FitsAt s b j
 unfolding fits
 fits-says s b j q =
     let (x, y) = and-both (eqb (s % 2 ^ j) 0) (leb (s + 2 ^ j) b) q in
     let z = eqb-true (s % 2 ^ j) 0 x in
     record { times = s / 2 ^ j; multiple = omega (arith, split s j, z); within = leb-true (s + 2 ^ j) b y }
 
-fits-true : (s b j : ℕ) → Fits s b j → fits s b j ≡ true
+fits-true : (s b j : ℕ) → FitsAt s b j → fits s b j ≡ true
 unfolding fits
 fits-true s b j h =
     let z : s ≡ h .times * 2 ^ j + 0 = omega (arith, h .multiple) in
@@ -41,19 +41,19 @@ fits-true s b j h =
     rw (eq-eqb (s % 2 ^ j) 0 r, le-leb (s + 2 ^ j) b (h .within)) refl
 
 -- what is grown fits, and no more does unless n steps were too few
-grown-widest : (n j s b : ℕ) → Fits s b j → b < 2 ^ (n + j) → Widest s b (grown n j s b)
+grown-widest : (n j s b : ℕ) → FitsAt s b j → b < 2 ^ (n + j) → Widest s b (grown n j s b)
 unfolding grown
 grown-widest zero j s b h small = let z : 0 + j ≡ j = omega arith in absurd (omega (arith, h .within, rw z at small))
 grown-widest (suc n) j s b h small =
     let e : suc n + j ≡ n + suc j = omega arith in
     go (λ f. grown-widest n (suc j) s b f (subst (λ (k : ℕ). b < 2 ^ k) e small)) (fits s b (suc j)) refl
   where
-    go : (Fits s b (suc j) → Widest s b (grown n (suc j) s b)) → (x : Bool) → fits s b (suc j) ≡ x → Widest s b (cond x (grown n (suc j) s b) j)
+    go : (FitsAt s b (suc j) → Widest s b (grown n (suc j) s b)) → (x : Bool) → fits s b (suc j) ≡ x → Widest s b (cond x (grown n (suc j) s b) j)
     go on true q = on (fits-says s b (suc j) q)
     go on false q = record { fits = h; no-more = λ f. false≢true (sym q ∙ fits-true s b (suc j) f) }
 
 -- a line by itself fits
-pub one-fits : (s b : ℕ) → s < b → Fits s b 0
+pub one-fits : (s b : ℕ) → s < b → FitsAt s b 0
 one-fits s b h = record { times = s; multiple = omega arith; within = omega arith }
 
 pub widest-is : (s b : ℕ) → b < 2 ^ 27 → s < b → Widest s b (grown 27 0 s b)
@@ -65,7 +65,7 @@ pub power-of : (e j : ℕ) → e ≤ j → 2 ^ j ≡ 2 ^ (j - e) * 2 ^ e
 power-of e j h = let z : j ≡ j - e + e = omega arith in ap (λ (k : ℕ). 2 ^ k) z ∙ pow-add 2 (j - e) e
 
 -- where more lines fit, fewer do
-fits-less : {s b j k : ℕ} → Fits s b k → j ≤ k → Fits s b j
+fits-less : {s b j k : ℕ} → FitsAt s b k → j ≤ k → FitsAt s b j
 fits-less {s} {b} {j} {k} f h = record {
   times = f .times * 2 ^ (k - j);
   multiple = f .multiple ∙ ap (λ (z : ℕ). f .times * z) (power-of j k h) ∙ sym (mul-assoc (f .times) (2 ^ (k - j)) (2 ^ j));
@@ -85,7 +85,7 @@ widest-one {s} {b} {i} {j} v w = go (decLt i j) (decLt j i)
 pub record Growing (s b lines rest : ℕ) : Type 0 where
   pub power : ℕ
   pub size : lines ≡ 2 ^ power
-  pub fits : Fits s b power
+  pub fits : FitsAt s b power
   pub quotient : rest ≡ fits .times
 
 pub grow-start : {s b : ℕ} → s < b → Growing s b 1 s
@@ -116,7 +116,7 @@ module _ {s b lines rest : ℕ} (g : Growing s b lines rest) where
     quotient = refl;
   }
 
-  found : b < 2 ^ 27 → (Fits s b (suc (g .power)) → ⊥) → lines ≡ widest s b
+  found : b < 2 ^ 27 → (FitsAt s b (suc (g .power)) → ⊥) → lines ≡ widest s b
   unfolding widest
   found small n =
       let p = pow-pos (g .power) in
@@ -127,7 +127,7 @@ module _ {s b lines rest : ℕ} (g : Growing s b lines rest) where
   pub grow-odd : b < 2 ^ 27 → (rest % 2 ≡ 0 → ⊥) → lines ≡ widest s b
   grow-odd small odd = found small no-fit
     where
-      no-fit : Fits s b (suc (g .power)) → ⊥
+      no-fit : FitsAt s b (suc (g .power)) → ⊥
       no-fit f =
           let p = g .power in
           let e : rest * 2 ^ p ≡ (f .times * 2) * 2 ^ p =

@@ -12,20 +12,20 @@ use Rattle.shapes.specs.Pieces.{pieces, commonZeros}
 use Rattle.shapes.specs.Laws.Halves.{pieces-half}
 
 -- z zeros are taken out of a and b
-pub record Shifted (a b z : ℕ) : Type 0 where
+pub record ZerosShifted (a b z : ℕ) : Type 0 where
   pub few : 2 ^ z ≤ b
   pub less : a / 2 ^ z < b / 2 ^ z
   pub small : b / 2 ^ z ≤ b
   pub same : length (pieces a b) ≡ length (pieces (a / 2 ^ z) (b / 2 ^ z))
 
 -- .. none, and one more
-none : (a b : ℕ) → a < b → Shifted a b 0
+none : (a b : ℕ) → a < b → ZerosShifted a b 0
 none a b h =
     let x : a / 2 ^ 0 ≡ a = omega arith in
     let y : b / 2 ^ 0 ≡ b = omega arith in
     record { few = omega arith; less = rw (x, y) h; small = omega arith; same = rw (x, y) refl }
 
-once : (a b z : ℕ) → a < b → b < 2 ^ 27 → a % 2 ≡ 0 → b % 2 ≡ 0 → Shifted (a / 2) (b / 2) z → Shifted a b (suc z)
+once : (a b z : ℕ) → a < b → b < 2 ^ 27 → a % 2 ≡ 0 → b % 2 ≡ 0 → ZerosShifted (a / 2) (b / 2) z → ZerosShifted a b (suc z)
 once a b z h small x y s =
     let e : 1 + z ≡ suc z = omega arith in
     let p : a / 2 / 2 ^ z ≡ a / 2 ^ suc z = shr-shr a 1 z ∙ ap (λ (n : ℕ). a / 2 ^ n) e in
@@ -53,19 +53,19 @@ odd zero (suc (suc y)) a b n = absurd (omega arith)
 odd (suc zero) (suc (suc y)) a b n = absurd (omega arith)
 odd (suc (suc x)) y a b n = absurd (omega arith)
 
-shift-out : (k a b : ℕ) → a < b → b < 2 ^ 27 → Shifted a b (trailingZeros k (bitOr a b))
+shift-out : (k a b : ℕ) → a < b → b < 2 ^ 27 → ZerosShifted a b (trailingZeros k (bitOr a b))
 unfolding trailingZeros
 shift-out zero a b h small = none a b h
 shift-out (suc k) a b h small = go (ℕ-discrete (a % 2) 0) (ℕ-discrete (b % 2) 0) (shift-out k (a / 2) (b / 2))
   where
-    ends : (a % 2 ≡ 0 → b % 2 ≡ 0 → ⊥) → Shifted a b (under (bitOr a b % 2) (trailingZeros k (bitOr a b / 2)))
+    ends : (a % 2 ≡ 0 → b % 2 ≡ 0 → ⊥) → ZerosShifted a b (under (bitOr a b % 2) (trailingZeros k (bitOr a b / 2)))
     ends n =
         let m = odd (a % 2) (b % 2) (omega arith) (omega arith) n in
         let (last, _) = digits (bitOr a b) (bitOr (a / 2) (b / 2)) (max (a % 2) (b % 2)) (or-step a b) (omega (arith, m)) in
         rw (last ∙ m) (none a b h)
 
-    go : Dec (a % 2 ≡ 0) → Dec (b % 2 ≡ 0) → (a / 2 < b / 2 → b / 2 < 2 ^ 27 → Shifted (a / 2) (b / 2) (trailingZeros k (bitOr (a / 2) (b / 2))))
-        → Shifted a b (under (bitOr a b % 2) (trailingZeros k (bitOr a b / 2)))
+    go : Dec (a % 2 ≡ 0) → Dec (b % 2 ≡ 0) → (a / 2 < b / 2 → b / 2 < 2 ^ 27 → ZerosShifted (a / 2) (b / 2) (trailingZeros k (bitOr (a / 2) (b / 2))))
+        → ZerosShifted a b (under (bitOr a b % 2) (trailingZeros k (bitOr a b / 2)))
     go (yes x) (yes y) on =
         let m : max (a % 2) (b % 2) ≡ 0 = rw (x, y) refl in
         let (last, rest) = digits (bitOr a b) (bitOr (a / 2) (b / 2)) (max (a % 2) (b % 2)) (or-step a b) (omega (arith, m)) in
@@ -74,7 +74,7 @@ shift-out (suc k) a b h small = go (ℕ-discrete (a % 2) 0) (ℕ-discrete (b % 2
     go (no x) _ on = ends (λ z _. x z)
 
 module _ (a b : ℕ) (h : a < b) (small : b < 2 ^ 27) {z : ℕ} (is : z ≡ commonZeros a b) where
-  pub zeros-out : Shifted a b z
+  pub zeros-out : ZerosShifted a b z
   zeros-out = rw is (shift-out 32 a b h small)
 
   pub zeros-few : z < 32

@@ -1,3 +1,4 @@
+-- src/lib.rt, given_to: (r .0 ≡ givenIn (view t .k .slot (p .0) (i .0))) × (r .0 < 16)
 use borrow.Author.Tests.{not-true, not-false}
 use Rattle.sheet.specs.Laws.Touched.{given-none, given-some}
 use native.Mathlib.Omega.{arith}

@@ -1,3 +1,4 @@
+-- src/lib.rt, is_sheet: r ≡ matches (handedSheet sheet) (view t)
 use mathlib.Core.Path.{refl, _∙_}
 use Rattle.sheet.specs.Laws.Bytes.{short-sheet, sheet-pairs}
 use Rattle.sheet.proofs.is_sheet.Statement.{statement}

@@ -1,3 +1,4 @@
+-- src/lib.rt, keep_sheet: now (sheet .exit) ≡ sheetKept x (view t) sheet
 use Rattle.sheet.specs.Laws.Touched.{kept-nobody, kept-one, kept-all}
 use borrow.Author.Needs.{needs}
 use Rattle.sheet.proofs.keep_sheet.Statement.{statement}

@@ -1,3 +1,4 @@
+-- src/lib.rt, pair_matches: r ≡ pairMatches sheet (view t) (p .0)
 use mathlib.Core.Path.{_∙_}
 use Rattle.sheet.specs.Laws.Bytes.{pair-differs, pair-second}
 use Rattle.sheet.specs.Laws.Words.{children-few, with-children}

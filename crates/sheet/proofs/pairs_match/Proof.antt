@@ -1,3 +1,4 @@
+-- src/lib.rt, pairs_match: r ≡ all 16 (pairMatches sheet (view t))
 use mathlib.Core.Path.{_∙_}
 use Prim.Native.Nat.{_-_}
 use Rattle.loops.specs.Laws.Every.{Passing}

@@ -1,3 +1,4 @@
+-- src/lib.rt, put_again: now (sheet .exit) ≡ keptPair (view t) (p .0) sheet
 use Rattle.sheet.specs.Laws.Touched.{few-again, pair-again}
 use native.Mathlib.Omega.{arith}
 use borrow.Author.Needs.{needs}

@@ -1,3 +1,4 @@
+-- src/lib.rt, put_pair: now (sheet .exit) ≡ pairPut sheet (p .0) (masksWith children (view t) (p .0)) (linesWord (view t) (p .0))
 use mathlib.Core.Path.{ap, _∙_}
 use lib.ListN.{length}
 use Rattle.sheet.specs.Laws.Bytes.{put-length, pair-put}

@@ -1,6 +1,7 @@
+-- src/lib.rt, put_pairs: now (sheet .exit) ≡ sheetBytes (sheetOf (view t))
 use mathlib.Core.Path.{refl, sym, _∙_}
 use Prim.Native.Nat.{_*_, _-_, _≤_}
-use Rattle.loops.specs.Rewrite.{Filling}
+use Rattle.loops.specs.Loops.{Filling}
 use Rattle.tables.specs.View.{view}
 use Rattle.memory.specs.Bytes.{byteOf}
 use Rattle.sheet.specs.Sheet.{sheetOf}

@@ -1,3 +1,4 @@
+-- src/lib.rt, touched: (r ≡ touched (view t .k) word) × Named r
 use Rattle.sheet.specs.Laws.Touched.{told-slot, told-region, told-switch, told-give, told-pack, told-else}
 use borrow.Author.Needs.{needs}
 use Rattle.sheet.proofs.touched.Statement.{statement}

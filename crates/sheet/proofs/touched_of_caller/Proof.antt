@@ -1,3 +1,4 @@
+-- src/lib.rt, touched_of_caller: (r ≡ touchedOfCaller service (view t .k) (i .0)) × Named r
 use Rattle.sheet.specs.Laws.Touched.{caller-takes, caller-cuts, caller-merges, caller-else}
 use borrow.Author.Needs.{needs}
 use Rattle.sheet.proofs.touched_of_caller.Statement.{statement}

@@ -1,3 +1,4 @@
+-- src/lib.rt, write_sheet: now (sheet .exit) ≡ sheetBytes (sheetOf (view t))
 use mathlib.Core.Path.{refl}
 use borrow.Author.Needs.{needs}
 use Rattle.sheet.proofs.write_sheet.Statement.{statement}

@@ -10,10 +10,9 @@ use native.Mathlib.Omega.{arith}
 use lib.Dec.{eqb}
 use lib.ListN.{length, getD, length-set}
 use borrow.Author.Tests.{eq-eqb, ne-eqb, eqb-true}
-use Rattle.loops.specs.Every.{all}
+use Rattle.loops.specs.Loops.{all, tab, Filling}
 use Rattle.loops.specs.Laws.Every.{bool-ext, all-of, all-at}
 use Rattle.loops.specs.Laws.Carry.{done-keeps}
-use Rattle.loops.specs.Rewrite.{tab, Filling}
 use Rattle.loops.specs.Laws.Rewrite.{length-tab, tab-at, tab-is, fill-start, fill-put, fill-tab}
 use Rattle.tables.specs.State.{Table}
 use Rattle.memory.specs.Bytes.{wordFrom, wordAt, byteOf, putWord}

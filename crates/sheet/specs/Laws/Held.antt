@@ -7,12 +7,8 @@ use native.Mathlib.Numerals.{add-one}
 use native.Mathlib.Omega.{arith}
 use lib.Dec.{leb, ltb}
 use borrow.Author.Tests.{leb-true, le-leb, lt-leb, lt-ltb, le-ltb}
-use Rattle.loops.specs.Bit.{bitOf}
-use Rattle.loops.specs.Every.{any}
+use Rattle.loops.specs.Loops.{bitOf, any, rest, carried, sum, count}
 use Rattle.loops.specs.Laws.Every.{any-at, any-of, any-more, bool-ext}
-use Rattle.loops.specs.Scan.{rest}
-use Rattle.loops.specs.Carry.{done}
-use Rattle.loops.specs.Count.{sum, count}
 use Rattle.loops.specs.Laws.Count.{count-ext, count-apart, count-fewer}
 use Rattle.tables.specs.State.{Opt, none, some, Entry, K}
 use Rattle.tables.specs.Search.{holds}
@@ -20,11 +16,11 @@ use Rattle.sound.specs.Laws.Tests.{and-says}
 use Rattle.sound.specs.Laws.MeansEntries.{holds-means}
 use Rattle.sound.specs.Core.{Core}
 use Rattle.sound.specs.Laws.Properties.{held-range}
-use Rattle.sheet.specs.Sheet.{linesOf, heldLines}
+use Rattle.sheet.specs.Sheet.{numberOfLines, heldLines}
 
 -- so many numbers below n lie in a to b
 count-to : (n a b : ℕ) → count n (λ l. leb a l && ltb l b) ≡ min b n - a
-unfolding sum done
+unfolding sum carried
 count-to zero a b = omega arith
 count-to (suc n) a b = go (decLt n b) (decLt n a) (count-to n a b)
   where
@@ -35,7 +31,7 @@ count-to (suc n) a b = go (decLt n b) (decLt n a) (count-to n a b)
     go (no d) (no e) ih = rw (le-leb a n (omega arith), le-ltb n b (omega arith)) (omega (arith, ih))
 
 none-held : (n : ℕ) → count n (λ l. false) ≡ 0
-unfolding sum done
+unfolding sum carried
 none-held zero = refl
 none-held (suc n) = omega (arith, none-held n)
 
@@ -45,11 +41,11 @@ module _ {k : K} (h : Core k) (p : ℕ) where
   inFirst n l = any n (λ i. holds l (k .slot p i))
 
   -- the lines of slot i, counted
-  one : (i : ℕ) → count (k .stop) (λ l. holds l (k .slot p i)) ≡ linesOf (k .slot p i)
-  unfolding linesOf holds
+  one : (i : ℕ) → count (k .stop) (λ l. holds l (k .slot p i)) ≡ numberOfLines (k .slot p i)
+  unfolding numberOfLines holds
   one i = go (k .slot p i) refl
     where
-      go : (o : Opt Entry) → k .slot p i ≡ o → count (k .stop) (λ l. holds l o) ≡ linesOf o
+      go : (o : Opt Entry) → k .slot p i ≡ o → count (k .stop) (λ l. holds l o) ≡ numberOfLines o
       go none u = none-held (k .stop)
       go (some e) u =
           let r = h .s5-range p i e u in
@@ -70,8 +66,8 @@ module _ {k : K} (h : Core k) (p : ℕ) where
           absurd (omega arith)
 
   -- so the lines add up to those that are held
-  added : (n : ℕ) → sum n (λ i. linesOf (k .slot p i)) ≡ count (k .stop) (inFirst n)
-  unfolding sum done rest
+  added : (n : ℕ) → sum n (λ i. numberOfLines (k .slot p i)) ≡ count (k .stop) (inFirst n)
+  unfolding sum carried rest
   added zero = sym (none-held (k .stop))
   added (suc n) =
       let more = count-ext (k .stop) (inFirst (n + 1)) (λ l. inFirst n l || holds l (k .slot p n)) (λ l _. any-more n (λ i. holds l (k .slot p i))) in

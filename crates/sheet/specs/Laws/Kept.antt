@@ -3,8 +3,7 @@ use mathlib.Core.Path.{_≡_, ap, subst}
 use mathlib.Core.Bool.{cond}
 use mathlib.Core.List.{List}
 use Prim.Native.Nat.{ℕ, _+_, _<_}
-use Rattle.loops.specs.Count.{sum}
-use Rattle.loops.specs.Map.{mapOf}
+use Rattle.loops.specs.Loops.{sum, mapOf}
 use Rattle.words.specs.Kind.{fieldsIn, wordOf}
 use Rattle.words.specs.Words.{call, masks, lines}
 use Rattle.shapes.specs.declared.Board.{Board}
@@ -17,21 +16,21 @@ use Rattle.tables.specs.Search.{isSome, present}
 use Rattle.rules.specs.Rules.{done, callOn}
 use Rattle.isolation.specs.Laws.Fits.{right-fit}
 use Rattle.isolation.specs.Whole.{served, call-right}
-use Rattle.sheet.specs.Sheet.{linesOf, masksWord, linesWord}
+use Rattle.sheet.specs.Sheet.{numberOfLines, masksWord, linesWord}
 use Rattle.tables.specs.Laws.Stays.{Stays, stays}
 use Rattle.sheet.specs.Laws.Children.{SameChildren, same-mask, serve-children}
 
 -- areas, who has an entry, its lines and whether it is open are as they were
-pub record Alike (t new : Table) (p : ℕ) : Type 0 where
+pub record PairAlike (t new : Table) (p : ℕ) : Type 0 where
   pub area : (j : ℕ) → new .k .area p j ≡ t .k .area p j
   pub occupied : (i : ℕ) → isSome (new .k .slot p i) ≡ isSome (t .k .slot p i)
-  pub held : (i : ℕ) → linesOf (new .k .slot p i) ≡ linesOf (t .k .slot p i)
+  pub held : (i : ℕ) → numberOfLines (new .k .slot p i) ≡ numberOfLines (t .k .slot p i)
   pub opened : (i : ℕ) → new .opened p i ≡ t .opened p i
 
-pub stays-alike : {t new : Table} {p : ℕ} → Stays t new p → Alike t new p
-stays-alike s = record { area = s .area; occupied = λ i. ap isSome (s .slot i); held = λ i. ap linesOf (s .slot i); opened = s .opened }
+pub stays-alike : {t new : Table} {p : ℕ} → Stays t new p → PairAlike t new p
+stays-alike s = record { area = s .area; occupied = λ i. ap isSome (s .slot i); held = λ i. ap numberOfLines (s .slot i); opened = s .opened }
 
-module _ {t new : Table} {p : ℕ} (s : Alike t new p) where
+module _ {t new : Table} {p : ℕ} (s : PairAlike t new p) where
   here : present (new .k) p ≡ present (t .k) p
   unfolding present
   here = ap isSome (s .area 0)

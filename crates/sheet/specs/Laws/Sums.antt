@@ -5,11 +5,8 @@ use mathlib.Core.List.{List}
 use Prim.Native.Nat.{ℕ, zero, suc, _+_, _-_, _*_, _/_, _^_, _≤_, _<_}
 use native.Mathlib.Omega.{arith}
 use lib.Pow.{pow-mono}
-use Rattle.loops.specs.Bit.{bitOf}
-use Rattle.loops.specs.Carry.{done}
-use Rattle.loops.specs.Count.{sum}
+use Rattle.loops.specs.Loops.{bitOf, carried, sum, mapFrom, mapOf}
 use Rattle.loops.specs.Laws.Count.{sum-more}
-use Rattle.loops.specs.Map.{mapFrom, mapOf}
 use Rattle.loops.specs.Laws.Map.{Mapping, map-lt, map-join, map-none, map-start, map-on, map-end}
 use Rattle.words.specs.declared.slot_word.SlotFields.{SlotFields}
 use Rattle.tables.specs.State.{none, some, Table}
@@ -19,7 +16,7 @@ use Rattle.tables.specs.Search.{isSome}
 use Rattle.tables.specs.Laws.Search.{entry-some}
 use Rattle.tables.specs.Seen.{Seen}
 use Rattle.sound.specs.Whole.{Right}
-use Rattle.sheet.specs.Sheet.{occupied, structured, linesOf, heldAt, openedAt, heldLines, openLines}
+use Rattle.sheet.specs.Sheet.{occupied, structured, numberOfLines, heldAt, openedAt, heldLines, openLines}
 use Rattle.sheet.specs.Sums.{Ending, Adding}
 use Rattle.sheet.specs.declared.sums.Sums.{Sums}
 
@@ -50,7 +47,7 @@ module _ {f : ℕ → ℕ} where
   ending-skip i inv h = record { within = omega (arith, inv .within); few = omega (arith, inv .few); made = omega (arith, inv .made, sum-skip f i 8 h) }
 
   ending-end : {x : ℕ} → Ending f 0 x → x ≡ sum 32 f
-  unfolding sum done
+  unfolding sum carried
   ending-end inv = omega (arith, inv .made)
 
 -- ── a map of which eight bits are 0 ──
@@ -77,11 +74,11 @@ pub adding-at : {t : Table} {p : ℕ} (i j : ℕ) {x : Sums} → i ≡ j → Add
 adding-at {t} {p} i j {x} e a = subst (λ (k : ℕ). Adding t p k x) e a
 
 -- the lines of an entry whose end fits its field
-pub lines-small : (f : SlotFields) → f .end .0 < 2 ^ 27 → linesOf (entryIn f) ≤ 0x7ff_ffff
-unfolding linesOf entryIn
+pub lines-small : (f : SlotFields) → f .end .0 < 2 ^ 27 → numberOfLines (entryIn f) ≤ 0x7ff_ffff
+unfolding numberOfLines entryIn
 lines-small f h = go (f .present)
   where
-    go : (b : Bool) → linesOf (cond b (some (entryOf f)) none) ≤ 0x7ff_ffff
+    go : (b : Bool) → numberOfLines (cond b (some (entryOf f)) none) ≤ 0x7ff_ffff
     go true = omega arith
     go false = omega arith
 
@@ -105,7 +102,7 @@ with-nothing {a = a} {b} {c} z =
 
 -- slot i - 1 joins
 module _ {l : List ℕ} {p i : ℕ} {x : Sums} {f : SlotFields} (seen : Seen l p (i - 1) f) (inv : Adding (view l) p i x) (h : 0 < i) where
-  add-slot : {a b c : ℕ} → a ≡ bitOf (isSome (entryIn f)) → b ≡ linesOf (entryIn f) → c ≡ cond (f .opened) (linesOf (entryIn f)) 0
+  add-slot : {a b c : ℕ} → a ≡ bitOf (isSome (entryIn f)) → b ≡ numberOfLines (entryIn f) → c ≡ cond (f .opened) (numberOfLines (entryIn f)) 0
       → Adding (view l) p (i - 1) (record { slots = 2 * x .slots + a; held = x .held + b; opened = x .opened + c })
   add-slot {a} {b} {c} q r s =
       let few = lines-small f (seen .end-small) in
@@ -116,20 +113,20 @@ module _ {l : List ℕ} {p i : ℕ} {x : Sums} {f : SlotFields} (seen : Seen l p
       }
 
   -- .. with an entry
-  pub add-entry : f .present ≡ true → {b c : ℕ} → b ≡ linesOf (entryIn f) → c ≡ cond (f .opened) (linesOf (entryIn f)) 0
+  pub add-entry : f .present ≡ true → {b c : ℕ} → b ≡ numberOfLines (entryIn f) → c ≡ cond (f .opened) (numberOfLines (entryIn f)) 0
       → Adding (view l) p (i - 1) (record { slots = 2 * x .slots + 1; held = x .held + b; opened = x .opened + c })
   add-entry q r s = add-slot {a = 1} (rw (entry-some, q) refl) r s
 
   -- .. with none
   pub skip-slot : f .present ≡ false → Adding (view l) p (i - 1) (record { slots = 2 * x .slots; held = x .held; opened = x .opened })
-  unfolding linesOf entryIn
+  unfolding numberOfLines entryIn
   skip-slot q =
       with-nothing (add-slot {a = 0} {b = 0} {c = 0} (rw (entry-some, q) refl) (rw q refl) (rw q (sym (nothing (f .opened)))))
 
-  pub held-room : {b : ℕ} → b ≡ linesOf (entryIn f) → x .held + b < 2 ^ 32
+  pub held-room : {b : ℕ} → b ≡ numberOfLines (entryIn f) → x .held + b < 2 ^ 32
   held-room q = ending-room (inv .held) h (let z = lines-small f (seen .end-small) in omega arith)
 
-  pub opened-room : {c : ℕ} → c ≡ cond (f .opened) (linesOf (entryIn f)) 0 → x .opened + c < 2 ^ 32
+  pub opened-room : {c : ℕ} → c ≡ cond (f .opened) (numberOfLines (entryIn f)) 0 → x .opened + c < 2 ^ 32
   opened-room q = ending-room (inv .opened) h (let z = open-small (f .opened) (lines-small f (seen .end-small)) in omega arith)
 
 -- the slots of an absent structure join
@@ -138,10 +135,10 @@ module _ {t : Table} {p : ℕ} (j : ℕ) {x : Sums} (inv : Adding t p (8 * j + 8
   absent-room = skip-room (8 * j) (inv .slots)
 
   pub add-absent : Right t → structured (t .k) p j ≡ false → Adding t p (8 * j) (record { slots = 256 * x .slots; held = x .held; opened = x .opened })
-  unfolding linesOf
+  unfolding numberOfLines
   add-absent h q = record {
     slots = skip-map (8 * j) (inv .slots) (λ k a b. ap isSome (empty k a b));
-    held = ending-skip (8 * j) (inv .held) (λ k a b. ap linesOf (empty k a b));
+    held = ending-skip (8 * j) (inv .held) (λ k a b. ap numberOfLines (empty k a b));
     opened = ending-skip (8 * j) (inv .opened) (λ k a b. rw (empty k a b) (nothing (t .opened p k)));
   }
     where

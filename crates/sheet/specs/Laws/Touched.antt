@@ -8,7 +8,7 @@ use native.Mathlib.Omega.{arith}
 use lib.Dec.{eqb}
 use borrow.Author.Tests.{eq-eqb, ne-eqb}
 use lib.ListN.{getD}
-use Rattle.loops.specs.Rewrite.{Filling}
+use Rattle.loops.specs.Loops.{Filling}
 use Rattle.loops.specs.Laws.Rewrite.{length-tab, tab-at, tab-is, tab-ext}
 use Rattle.words.specs.Kind.{fieldsIn}
 use Rattle.words.specs.Laws.Kind.{fields-back}
@@ -43,7 +43,7 @@ use Rattle.isolation.specs.Laws.Regions.{load-done, unload-done}
 use Rattle.isolation.specs.Laws.Switch.{switch-done}
 use Rattle.isolation.specs.Laws.Pack.{pack-done}
 use Rattle.isolation.specs.Whole.{served}
-use Rattle.sheet.specs.Sheet.{linesOf, masksOf, masksWord, linesWord, sheetWord, sheetOf}
+use Rattle.sheet.specs.Sheet.{numberOfLines, masksOf, masksWord, linesWord, sheetWord, sheetOf}
 use Rattle.sheet.specs.Bytes.{sheetBytes, pairPut}
 use Rattle.sheet.specs.Sums.{childrenOf}
 use Rattle.sheet.specs.Touched.{givenIn, touchedOfCaller, touchedBy, touched, Named, masksWith, keptPair, sheetKept}
@@ -53,7 +53,7 @@ use Rattle.sheet.specs.Laws.Bytes.{pair-sheet, sheet-on}
 use Rattle.sheet.specs.Laws.Words.{masks-in}
 use Rattle.sheet.specs.Laws.Reading.{masks-read, bytes-same}
 use Rattle.sheet.specs.Laws.Children.{heads-same}
-use Rattle.sheet.specs.Laws.Kept.{Alike, stays-alike, masks-same, lines-same}
+use Rattle.sheet.specs.Laws.Kept.{PairAlike, stays-alike, masks-same, lines-same}
 
 -- ── nobody: who keeps areas, entries, open bits and children everywhere keeps the sheet ──
 all-stay : {t new : Table} → ((p : ℕ) → Stays t new p) → ((q : ℕ) → new .k .parent q ≡ t .k .parent q) → sheetOf new ≡ sheetOf t
@@ -92,14 +92,14 @@ module _ (t new : Table) (p : ℕ) (b : p < 16) (same : (q : ℕ) → (q ≡ p �
 -- ── two entries that say the same on the sheet ──
 record Like (x y : Opt Entry) : Type 0 where
   some : isSome x ≡ isSome y
-  lines : linesOf x ≡ linesOf y
+  lines : numberOfLines x ≡ numberOfLines y
   bit : (area : ℕ → ℕ → Opt Area) → openBit area x ≡ openBit area y
 
 like-of : {x y : Opt Entry} → x ≡ y → Like x y
-like-of e = record { some = ap isSome e; lines = ap linesOf e; bit = λ area. ap (openBit area) e }
+like-of e = record { some = ap isSome e; lines = ap numberOfLines e; bit = λ area. ap (openBit area) e }
 
 like-given : (e : Entry) (p : ℕ) {x y : Opt Entry} → x ≡ some (givenTo e p) → y ≡ some e → Like x y
-unfolding linesOf openBit
+unfolding numberOfLines openBit
 like-given e p u v = rw (u, v) (record { some = refl; lines = refl; bit = λ area. refl })
 
 module _ {t : Table} (h : Right t) where
@@ -111,7 +111,7 @@ module _ {t : Table} (h : Right t) where
     abbrev new : Table
     new = settle (withSlot (t .k) slot) region
 
-    others : (q : ℕ) → (q ≡ p → ⊥) → Alike t new q
+    others : (q : ℕ) → (q ≡ p → ⊥) → PairAlike t new q
     unfolding settle openAt
     others q n = record {
       area = λ j. refl;

@@ -10,8 +10,7 @@ use lib.ListN.{length, getD, set, replicate, length-replicate, getD-replicate, l
 use lib.Pow.{pow-mono}
 use lib.Seq.{getD-set-same, getD-set-other}
 use borrow.Author.Tests.{eq-eqb, ne-eqb}
-use Rattle.loops.specs.Bit.{bitOf}
-use Rattle.loops.specs.Map.{mapFrom, mapOf}
+use Rattle.loops.specs.Loops.{bitOf, mapFrom, mapOf}
 use Rattle.loops.specs.Laws.Map.{map-lt, map-join}
 use Rattle.words.specs.declared.header_word.HeaderFields.{HeaderFields}
 use Rattle.tables.specs.State.{K}

@@ -3,11 +3,11 @@ use mathlib.Core.Path.{_≡_, refl, ap, _∙_}
 use mathlib.Core.Bool.{Bool, true, false, cond}
 use Prim.Native.Nat.{ℕ, _^_, _≤_, _<_}
 use native.Mathlib.Omega.{arith}
-use Rattle.loops.specs.Map.{mapOf}
+use Rattle.loops.specs.Loops.{mapOf}
 use Rattle.loops.specs.Laws.Count.{sum-fewer}
 use Rattle.loops.specs.Laws.Map.{map-lt}
-use Rattle.words.specs.Kind.{wordOf, reading, writing, InRange, write-done}
-use Rattle.words.specs.Laws.Kind.{word-small}
+use Rattle.words.specs.Kind.{wordOf, reading, writing, InRange}
+use Rattle.words.specs.Laws.Kind.{write-done, word-small}
 use Rattle.words.specs.declared.Written.{Written}
 use Rattle.words.specs.Words.{masks, lines}
 use Rattle.words.specs.Laws.Kinds.{masks-range, lines-range, masks-lawful, lines-lawful, masks-read, lines-read}

@@ -6,7 +6,7 @@ use mathlib.Core.Logic.{_⊎_, inl, inr, ⊎-elim}
 use Prim.Native.Nat.{ℕ, zero, suc, _+_, _/_, _≤_, _<_}
 use native.Mathlib.Decide.{decLt, ℕ-discrete}
 use native.Mathlib.Omega.{arith}
-use Rattle.loops.specs.Climb.{Reaches}
+use Rattle.loops.specs.Loops.{Reaches}
 use Rattle.shapes.specs.declared.Board.{Board}
 use Rattle.tables.specs.State.{Opt, none, some, Entry, Area, nowhere, K, Table}
 use Rattle.tables.specs.Laws.State.{not-none, same-at}

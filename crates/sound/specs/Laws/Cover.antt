@@ -11,12 +11,12 @@ abbrev pub Covered : (ℕ → ℕ → Opt Entry) → ℕ → ℕ → ℕ → Typ
 Covered slot p lo hi = (l : ℕ) → lo ≤ l → l < hi → Holds slot p l
 
 -- .. the line lo, and each line inside lo to hi at which an entry ends
-pub record Ends (slot : ℕ → ℕ → Opt Entry) (p lo hi : ℕ) : Type 0 where
+pub record EndsHeld (slot : ℕ → ℕ → Opt Entry) (p lo hi : ℕ) : Type 0 where
   pub first : lo < hi → Holds slot p lo
   pub next : (i : ℕ) (e : Entry) → slot p i ≡ some e → lo < e .stop → e .stop < hi → Holds slot p (e .stop)
 
 module _ (slot : ℕ → ℕ → Opt Entry) (p lo hi : ℕ) where
-  pub ends-cover : Ends slot p lo hi → Covered slot p lo hi
+  pub ends-cover : EndsHeld slot p lo hi → Covered slot p lo hi
   ends-cover h zero a b = let z : lo ≡ 0 = omega arith in subst (Holds slot p) z (h .first (omega arith))
   ends-cover h (suc l) a b = go (ℕ-discrete lo (suc l)) (ends-cover h l)
     where
@@ -31,5 +31,5 @@ module _ (slot : ℕ → ℕ → Opt Entry) (p lo hi : ℕ) where
       go (yes q) _ = subst (Holds slot p) q (h .first (omega arith))
       go (no q) before = let u = before (omega arith) (omega arith) in on (omega arith) u (decLt (suc l) (u .e .stop))
 
-  pub cover-ends : Covered slot p lo hi → Ends slot p lo hi
+  pub cover-ends : Covered slot p lo hi → EndsHeld slot p lo hi
   cover-ends c = record { first = λ h. c lo (omega arith) h; next = λ i e u a b. c (e .stop) (omega arith) b }

@@ -4,7 +4,7 @@ use mathlib.Core.Logic.{_⊎_, inl, inr}
 use Prim.Native.Nat.{ℕ, _≤_, _<_}
 use native.Mathlib.Decide.{ℕ-discrete}
 use native.Mathlib.Omega.{arith}
-use Rattle.loops.specs.Climb.{Reaches, at-root, by-step}
+use Rattle.loops.specs.Loops.{Reaches, at-root, by-step}
 use Rattle.loops.specs.Laws.Climb.{Steps, no-step, one-step, steps-one, reaches→steps}
 use Rattle.tables.specs.State.{some, Entry, K}
 use Rattle.tables.specs.Laws.State.{same-at}

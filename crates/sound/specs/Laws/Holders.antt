@@ -11,13 +11,13 @@ use Rattle.tables.specs.State.{none, some, K}
 use Rattle.words.specs.declared.slot_word.SlotFields.{SlotFields}
 use Rattle.tables.specs.View.{view, entryIn}
 use Rattle.tables.specs.Search.{lowest, holdsAt}
-use Rattle.tables.specs.WayUp.{wayUp, digits, wayIn, over, WayWritten}
+use Rattle.tables.specs.WayUp.{wayUp, digits, wayIn, namesOver, WayWritten}
 use Rattle.tables.specs.Laws.WayUp.{way-few, way-told}
 use Rattle.tables.specs.declared.Outcome.{Outcome}
 use Rattle.tables.specs.declared.Outcome.the-variants.{Done, Refused}
 use Rattle.sound.specs.Clauses.{sound}
 use Rattle.sound.specs.Laws.List.{sound-means}
-use Rattle.sound.specs.Holders.{receiver, givenBy, heir, deepest, trail, holdersOf, looksOf, inMemory, holdersOutcome, holdersBytes, Writes, Listed}
+use Rattle.sound.specs.Holders.{receiver, givenBy, heir, deepest, trail, holdersOf, looksOf, inMemory, holdersOutcome, holdersBytes, Writes, HoldersListed}
 
 -- ── the exits of the descent ──
 module _ (k : K) (l p n : ℕ) where
@@ -75,28 +75,28 @@ writes-from t {l} {p} {w} {r} {c} {before} q b u h s =
     let e : wayIn w ≡ holdersOf (view t .k) l = ap wayIn u ∙ way-told t 15 p b (omega arith) (omega arith) ∙ ap (λ (x : ℕ). trail (view t .k) x 15) q in
     record {
       outcome = ap₂ Done (h .number ∙ ap length e) s;
-      bytes = h .bytes ∙ ap (λ (hs : List ℕ). over hs before) e;
+      bytes = h .bytes ∙ ap (λ (hs : List ℕ). namesOver hs before) e;
     }
 
 -- two results are equal: the outcome, and every byte of the list
-pub listed-one : {board : Board} {t : List ℕ} {l : ℕ} {before : List ℕ} {r s : Outcome} {a b : List ℕ} → Listed board t l before r a → Listed board t l before s b → (r ≡ s) × (a ≡ b)
-listed-one x y = (x .outcome ∙ sym (y .outcome), x .bytes ∙ sym (y .bytes))
+pub holders-one : {board : Board} {t : List ℕ} {l : ℕ} {before : List ℕ} {r s : Outcome} {a b : List ℕ} → HoldersListed board t l before r a → HoldersListed board t l before s b → (r ≡ s) × (a ≡ b)
+holders-one x y = (x .outcome ∙ sym (y .outcome), x .bytes ∙ sym (y .bytes))
 
 -- ── the exits of holders ──
 module _ {board : Board} {t : List ℕ} {l : ℕ} {before : List ℕ} where
-  pub listed-unsound : sound board t ≡ false → Listed board t l before (Refused 1) before
+  pub listed-unsound : sound board t ≡ false → HoldersListed board t l before (Refused 1) before
   unfolding holdersOutcome holdersBytes
   listed-unsound q = record { outcome = rw q refl; bytes = rw q refl }
 
-  pub listed-outside : sound board t ≡ true → inMemory (view t .k) l ≡ false → Listed board t l before (Refused 7) before
+  pub listed-outside : sound board t ≡ true → inMemory (view t .k) l ≡ false → HoldersListed board t l before (Refused 7) before
   unfolding holdersOutcome holdersBytes
   listed-outside q n = record { outcome = rw (q, n) refl; bytes = rw (q, n) refl }
 
-  pub listed-short : sound board t ≡ true → inMemory (view t .k) l ≡ true → length before < 16 → Listed board t l before (Refused 17) before
+  pub listed-short : sound board t ≡ true → inMemory (view t .k) l ≡ true → length before < 16 → HoldersListed board t l before (Refused 17) before
   unfolding holdersOutcome holdersBytes
   listed-short q n h = record { outcome = rw (q, n, lt-leb 16 (length before) h) refl; bytes = rw (q, n, lt-leb 16 (length before) h) refl }
 
-  pub listed-done : {r : Outcome} {after : List ℕ} → sound board t ≡ true → inMemory (view t .k) l ≡ true → 16 ≤ length before → Writes (view t .k) l before r after → Listed board t l before r after
+  pub listed-done : {r : Outcome} {after : List ℕ} → sound board t ≡ true → inMemory (view t .k) l ≡ true → 16 ≤ length before → Writes (view t .k) l before r after → HoldersListed board t l before r after
   unfolding holdersOutcome holdersBytes
   listed-done q n h w = record {
     outcome = rw (q, n, le-leb 16 (length before) h) (w .outcome);
@@ -126,5 +126,5 @@ module _ (k : K) (l : ℕ) where
   in-memory h g = rw (le-leb (k .base) l h, lt-ltb l (k .stop) g) refl
 
 -- .. of the copy that was made of the words
-pub listed-copy : {board : Board} {m t : List ℕ} {l : ℕ} {before : List ℕ} {r : Outcome} {after : List ℕ} → m ≡ t → Listed board m l before r after → Listed board t l before r after
-listed-copy {board} {l = l} {before} {r} {after} e h = subst (λ (x : List ℕ). Listed board x l before r after) e h
+pub listed-copy : {board : Board} {m t : List ℕ} {l : ℕ} {before : List ℕ} {r : Outcome} {after : List ℕ} → m ≡ t → HoldersListed board m l before r after → HoldersListed board t l before r after
+listed-copy {board} {l = l} {before} {r} {after} e h = subst (λ (x : List ℕ). HoldersListed board x l before r after) e h

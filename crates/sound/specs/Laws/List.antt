@@ -9,7 +9,7 @@ use native.Mathlib.Decide.{decLt}
 use lib.Dec.{eqb}
 use lib.ListN.{length}
 use borrow.Author.Tests.{eqb-true, eq-eqb}
-use Rattle.loops.specs.Every.{all}
+use Rattle.loops.specs.Loops.{all}
 use Rattle.loops.specs.Laws.Every.{all-at, all-of}
 use Rattle.shapes.specs.declared.Board.{Board}
 use Rattle.sound.specs.Sound.{Clause, Lower, Sound}

@@ -21,7 +21,7 @@ pub record EqualAt (k : K) (p j : ℕ) (a : Area) (x : ℕ) : Type 0 where
   pub place : x ≡ 32 * backed .q + backed .i
 
 -- m says which slots are marked: those that areas equal, each by one
-pub record Marked (k : K) (m : ℕ → Bool) : Type 0 where
+pub record MarkedOnce (k : K) (m : ℕ → Bool) : Type 0 where
   pub at : ℕ → ℕ → ℕ
   pub equal : (p j : ℕ) (a : Area) → k .area p j ≡ some a → (Rooted p j → ⊥) → EqualAt k p j a (at p j)
   pub hit : (p j : ℕ) (a : Area) → k .area p j ≡ some a → (Rooted p j → ⊥) → m (at p j) ≡ true
@@ -46,7 +46,7 @@ module _ {k : K} (h : Grants k) (root : RootAreas k) where
       let z : p ≡ q = free-one h u a x v b y in
       (z, h .s6 p i j e f l u (rw z v) x y)
 
-  module _ {m : ℕ → Bool} (marks : Marked k m) where
+  module _ {m : ℕ → Bool} (marks : MarkedOnce k m) where
     -- ── S8: areas share no line ──
     pub marked-apart : (p j q i : ℕ) (a b : Area) (l : ℕ) → k .area p j ≡ some a → k .area q i ≡ some b → InA l a → InA l b → (p ≡ q) × (j ≡ i)
     marked-apart p j q i a b l u v x y =
@@ -104,7 +104,7 @@ pub record LocalOpen (t : Table) (m : ℕ → Bool) (p : ℕ) : Type 0 where
   pub free : (i : ℕ) (e : Entry) → t .k .slot p i ≡ some e → e .given ≡ 0 → (t .opened p i ≡ true) ↔ (m (32 * p + i) ≡ false)
   pub given : (i : ℕ) (e : Entry) → t .k .slot p i ≡ some e → (e .given ≡ 0 → ⊥) → (t .opened p i ≡ true) ↔ AllOpen t e
 
-module _ {t : Table} (h : Grants (t .k)) (root : RootAreas (t .k)) (few : (p i : ℕ) (e : Entry) → t .k .slot p i ≡ some e → i < 32) {m : ℕ → Bool} (marks : Marked (t .k) m) where
+module _ {t : Table} (h : Grants (t .k)) (root : RootAreas (t .k)) (few : (p i : ℕ) (e : Entry) → t .k .slot p i ≡ some e → i < 32) {m : ℕ → Bool} (marks : MarkedOnce (t .k) m) where
   pub s9-local : ((p : ℕ) → S9 t p) → (p : ℕ) → LocalOpen t m p
   s9-local s p = record {
     free = λ i e u g.

@@ -8,7 +8,7 @@ use native.Mathlib.Decide.{ℕ-discrete, decLt}
 use native.Mathlib.Omega.{arith}
 use lib.Dec.{leb, ltb, eqb}
 use borrow.Author.Tests.{ltb-true, lt-ltb, leb-true, le-leb, eqb-true, eqb-false, eq-eqb, ne-eqb}
-use Rattle.loops.specs.Every.{all, any}
+use Rattle.loops.specs.Loops.{all, any}
 use Rattle.loops.specs.Laws.Every.{all-at, all-of, any-at, any-of}
 use Rattle.tables.specs.State.{Opt, none, some, Entry, Area, K, Table}
 use Rattle.tables.specs.Laws.State.{not-none, some-inj, same}

@@ -8,14 +8,15 @@ use native.Mathlib.Omega.{arith}
 use native.Mathlib.Decide.{ℕ-discrete}
 use lib.Dec.{eqb}
 use borrow.Author.Tests.{eqb-true, eq-eqb}
-use Rattle.loops.specs.Climb.{Reaches, at-root}
+use Rattle.loops.specs.Loops.{Reaches, at-root}
 use Rattle.loops.specs.Laws.Climb.{reaches-iff}
-use Rattle.words.specs.Kind.{zeroed, Zeroed, zeroed-means}
+use Rattle.words.specs.Kind.{zeroed, Zeroed}
+use Rattle.words.specs.Laws.Kind.{zeroed-means}
 use Rattle.words.specs.Words.{first, header, structure, regions}
 use Rattle.words.specs.declared.regions_word.Region.{Region}
 use Rattle.tables.specs.State.{Opt, none, some, Entry, Area, nowhere, K}
 use Rattle.tables.specs.Laws.State.{not-none, none-of, some-inj, sameA}
-use Rattle.tables.specs.View.{firstWord, areaWordAt, regionsWordAt, slotWordAt, nth, regionsAt, view}
+use Rattle.tables.specs.View.{firstWord, areaWordAt, regionsWordAt, slotWordAt, nthRegion, regionsAt, view}
 use Rattle.tables.specs.Laws.View.{slot-bounds, area-bounds}
 use Rattle.tables.specs.Search.{isSome, present}
 use Rattle.sound.specs.Sound.{Present, Rooted, S1, S2, S3, S4, S5}
@@ -108,10 +109,10 @@ blank-region r = go (r .loaded)
     go false = (λ q _. eqb-true _ 0 q, λ h. eq-eqb _ 0 (h refl))
 
 regions-mean : (l : List ℕ) (p : ℕ) → (s3Regions l p ≡ true)
-    ↔ (Zeroed regions (regionsWordAt l p) × ((r : ℕ) → r < 8 → nth (regionsAt l p) r .loaded ≡ false → nth (regionsAt l p) r .slot .0 ≡ 0))
+    ↔ (Zeroed regions (regionsWordAt l p) × ((r : ℕ) → r < 8 → nthRegion (regionsAt l p) r .loaded ≡ false → nthRegion (regionsAt l p) r .slot .0 ≡ 0))
 unfolding s3Regions
 regions-mean l p =
-    and-means (zeroed-means regions (regionsWordAt l p)) (all-means 8 (λ r. blankRegion (nth (regionsAt l p) r)) (λ r b. blank-region (nth (regionsAt l p) r)))
+    and-means (zeroed-means regions (regionsWordAt l p)) (all-means 8 (λ r. blankRegion (nthRegion (regionsAt l p) r)) (λ r b. blank-region (nthRegion (regionsAt l p) r)))
 
 pub s3-first-means : (l : List ℕ) → (s3First l ≡ true) ↔ Zeroed first (firstWord l)
 unfolding s3First

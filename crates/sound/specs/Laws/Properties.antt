@@ -4,7 +4,7 @@ use mathlib.Core.List.{List}
 use Prim.Native.Nat.{ℕ, _≤_, _<_}
 use native.Mathlib.Decide.{ℕ-discrete}
 use native.Mathlib.Omega.{arith}
-use Rattle.loops.specs.Climb.{Reaches, at-root, by-step}
+use Rattle.loops.specs.Loops.{Reaches, at-root, by-step}
 use Rattle.shapes.specs.declared.Board.{Board}
 use Rattle.tables.specs.State.{some, Entry, K, Table}
 use Rattle.tables.specs.Laws.State.{same-at}

@@ -3,7 +3,7 @@ use mathlib.Core.Path.{_≡_, refl}
 use mathlib.Core.Bool.{Bool, true, false, not, _&&_, _||_, and-eq-true-iff, false≢true}
 use mathlib.Core.Logic.{_⊎_, inl, inr}
 use Prim.Native.Nat.{ℕ, _<_}
-use Rattle.loops.specs.Every.{all, any}
+use Rattle.loops.specs.Loops.{all, any}
 use Rattle.loops.specs.Laws.Every.{all-at, all-of, any-at, any-of, bool-ext}
 use Rattle.tables.specs.State.{Opt, none, some}
 use Rattle.sound.specs.Clauses.{when, has}

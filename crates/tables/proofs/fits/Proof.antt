@@ -1,3 +1,4 @@
+-- src/lib.rt, fits: Words t
 use native.Mathlib.Omega.{arith}
 use borrow.Author.Needs.{needs}
 use Prim.Native.Nat.{_-_}

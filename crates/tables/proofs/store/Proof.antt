@@ -1,3 +1,4 @@
+-- src/lib.rt, store: now (t .exit) ≡ stored t at word
 use mathlib.Core.Path.{refl}
 use Rattle.tables.specs.Store.{stored}
 use borrow.Author.Needs.{needs}

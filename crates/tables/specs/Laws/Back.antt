@@ -18,7 +18,7 @@ use Rattle.words.specs.declared.regions_word.RegionsFields.{RegionsFields}
 use Rattle.words.specs.declared.slot_word.SlotFields.{SlotFields}
 use Rattle.tables.specs.State.{Opt, none, some, Entry, Area, Table}
 use Rattle.tables.specs.Laws.State.{none-of}
-use Rattle.tables.specs.View.{areaWordAt, entryIn, headerArea, structureArea, areaIn, nth, named, firstAt, slotAt, headerAt, areaAt, regionAt, inside, parentAt, viewK, view}
+use Rattle.tables.specs.View.{areaWordAt, entryIn, headerArea, structureArea, areaIn, nthRegion, named, firstAt, slotAt, headerAt, areaAt, regionAt, inside, parentAt, viewK, view}
 use Rattle.tables.specs.Encode.{slotFor, slotWord, headerFor, headerWord, structureFor, structureWord, regionFor, regionsFor, regionsWord, firstFor, wordFor, encode, Canon, Is}
 use Rattle.tables.specs.Laws.Encode.{encode-is}
 use Rattle.tables.specs.Laws.Spelling.{Spells, encode-spells}
@@ -80,8 +80,8 @@ unfolding structureWord structureArea
 structure-read none g = ap structureArea structure-zero
 structure-read (some a) g = ap structureArea (structure-back a (g a refl))
 
-pub nth-for : (f : ℕ → Opt ℕ) (r : ℕ) → r < 8 → nth (regionsFor f) r ≡ regionFor (f r)
-unfolding nth
+pub nth-for : (f : ℕ → Opt ℕ) (r : ℕ) → r < 8 → nthRegion (regionsFor f) r ≡ regionFor (f r)
+unfolding nthRegion
 nth-for f zero h = refl
 nth-for f (suc zero) h = refl
 nth-for f (suc (suc zero)) h = refl
@@ -112,9 +112,9 @@ unfolding regionFor named
 name-for none = refl
 name-for (some i) = refl
 
-region-read : (f : ℕ → Opt ℕ) → ((r i : ℕ) → f r ≡ some i → i < 32) → (r : ℕ) → r < 8 → named (nth (fieldsIn regions (regionsWord f)) r) ≡ f r
+region-read : (f : ℕ → Opt ℕ) → ((r i : ℕ) → f r ≡ some i → i < 32) → (r : ℕ) → r < 8 → named (nthRegion (fieldsIn regions (regionsWord f)) r) ≡ f r
 region-read f g r h =
-    ap (λ (x : RegionsFields). named (nth x r)) (regions-back f g) ∙ ap named (nth-for f r h) ∙ name-for (f r)
+    ap (λ (x : RegionsFields). named (nthRegion x r)) (regions-back f g) ∙ ap named (nth-for f r h) ∙ name-for (f r)
 
 -- ── the whole table, read ──
 -- inside n by m the words tell it, outside there is nothing
@@ -186,7 +186,7 @@ module _ (t : Table) (h : Fit t) where
   region-is p r =
       inside-is none 16 8 (regionAt (encode t)) (t .region) p r
       (λ a b.
-      ap (λ (w : ℕ). named (nth (fieldsIn regions w) r)) (spelt .at p a .regions)
+      ap (λ (w : ℕ). named (nthRegion (fieldsIn regions w) r)) (spelt .at p a .regions)
       ∙ region-read (t .region p) (λ q i u. h .region p q i u .2) r b)
       (λ out. none-of (t .region p r) (λ i u. let b = h .region p r i u in out (b .0) (b .1)))
 

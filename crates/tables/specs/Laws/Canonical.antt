@@ -6,8 +6,8 @@ use Prim.Native.Nat.{ℕ, _+_, _^_, _<_}
 use native.Mathlib.Omega.{arith}
 use native.Mathlib.Decide.{ℕ-discrete}
 use lib.ListN.{getD, List·getD-map}
-use Rattle.words.specs.Kind.{Kind, fieldsIn, wordOf, Lawful, Zeroed, zero-zeroed}
-use Rattle.words.specs.Laws.Kind.{word-back, word-zeroed}
+use Rattle.words.specs.Kind.{Kind, fieldsIn, wordOf, Lawful, Zeroed}
+use Rattle.words.specs.Laws.Kind.{zero-zeroed, word-back, word-zeroed}
 use Rattle.words.specs.Laws.Fields.{slot-zeroed}
 use Rattle.words.specs.Words.{first, header, structure, regions}
 use Rattle.words.specs.Laws.Kinds.{first-range, header-range, structure-range, first-lawful, header-lawful, structure-lawful, regions-lawful, slot-lawful}
@@ -16,7 +16,7 @@ use Rattle.words.specs.declared.regions_word.Region.{Region}
 use Rattle.words.specs.declared.slot_word.SlotFields.{SlotFields}
 use Rattle.words.specs.declared.structure_word.StructureFields.{StructureFields}
 use Rattle.tables.specs.State.{Opt, none, some, Area, Table}
-use Rattle.tables.specs.View.{firstWord, areaWordAt, regionsWordAt, blankWordAt, slotWordAt, entryIn, headerArea, structureArea, nth, named, slotAt, headerAt, structureAt, regionsAt, viewK, view}
+use Rattle.tables.specs.View.{firstWord, areaWordAt, regionsWordAt, blankWordAt, slotWordAt, entryIn, headerArea, structureArea, nthRegion, named, slotAt, headerAt, structureAt, regionsAt, viewK, view}
 use Rattle.tables.specs.Encode.{slotWord, headerFor, headerWord, structureFor, structureWord, regionFor, regionsFor, regionsWord, firstFor, Canon}
 use Rattle.tables.specs.Laws.Encode.{regions-none}
 use Rattle.tables.specs.Laws.Spelling.{Spells, canon-spells, zero-words}
@@ -99,9 +99,9 @@ module _ {l : List ℕ} (fits : Words l) where
             (λ x. record { present = q x; opened = f .opened; rights = f .rights; given = f .given; start = f .start; end = f .end; whole = f .whole }))
         go false q = let n : view l .k .slot p i ≡ none = rw (seen .slot, q) refl in rw n (absent n)
 
-    pub regions-kept : Zeroed regions (regionsWordAt l p) → ((r : ℕ) → r < 8 → nth (regionsAt l p) r .loaded ≡ false → nth (regionsAt l p) r .slot .0 ≡ 0)
+    pub regions-kept : Zeroed regions (regionsWordAt l p) → ((r : ℕ) → r < 8 → nthRegion (regionsAt l p) r .loaded ≡ false → nthRegion (regionsAt l p) r .slot .0 ≡ 0)
         → regionsWordAt l p ≡ regionsWord (view l .region p)
-    unfolding regionsWordAt regionsWord nth
+    unfolding regionsWordAt regionsWord nthRegion
     regions-kept z unloaded =
         written regions-lawful (regionsWordAt l p) (fits .small _) z
         (λ i. record {
@@ -115,8 +115,8 @@ module _ {l : List ℕ} (fits : Words l) where
           region7 = at 7 (omega arith) i;
         })
       where
-        at : (r : ℕ) → r < 8 → nth (regionsAt l p) r ≡ regionFor (view l .region p r)
-        at r h = sym (ap regionFor (see-regions l p (regionsAt l p) hp refl .region r h) ∙ region-kept (nth (regionsAt l p) r) (unloaded r h))
+        at : (r : ℕ) → r < 8 → nthRegion (regionsAt l p) r ≡ regionFor (view l .region p r)
+        at r h = sym (ap regionFor (see-regions l p (regionsAt l p) hp refl .region r h) ∙ region-kept (nthRegion (regionsAt l p) r) (unloaded r h))
 
 -- ── the words of a table that fits have their zero bits zero (a slot has none) ──
 module _ {t : Table} (h : Fit t) where
@@ -140,8 +140,8 @@ module _ {t : Table} (h : Fit t) where
       go (some a) q = let b = h .area p j a q in word-zeroed structure-lawful (structureFor a) (structure-range (structureFor a) (b .2) (b .3))
 
 -- a region that is written and not loaded names slot 0
-regions-unloaded : (f : ℕ → Opt ℕ) (r : ℕ) → nth (regionsFor f) r .loaded ≡ false → nth (regionsFor f) r .slot .0 ≡ 0
-unfolding nth regionFor
+regions-unloaded : (f : ℕ → Opt ℕ) (r : ℕ) → nthRegion (regionsFor f) r .loaded ≡ false → nthRegion (regionsFor f) r .slot .0 ≡ 0
+unfolding nthRegion regionFor
 regions-unloaded f r = rw (List·getD-map regionFor eight r none) (go (getD eight r none))
   where
     eight : List (Opt ℕ)
@@ -182,7 +182,7 @@ module _ {l : List ℕ} (c : Canon l) where
     unfolding regionsWord
     regions-clean = rw (spelt .at p hp .regions) (word-zeroed regions-lawful (regionsFor (view l .region p)) (regions-fit (view l .region p) names))
 
-    pub unloaded-blank : (r : ℕ) → nth (regionsAt l p) r .loaded ≡ false → nth (regionsAt l p) r .slot .0 ≡ 0
+    pub unloaded-blank : (r : ℕ) → nthRegion (regionsAt l p) r .loaded ≡ false → nthRegion (regionsAt l p) r .slot .0 ≡ 0
     unloaded-blank r = rw (ap (fieldsIn regions) (spelt .at p hp .regions) ∙ regions-back (view l .region p) names) (regions-unloaded (view l .region p) r)
 
     pub blank-clean : (o : ℕ) → o < 2 → blankWordAt l p o ≡ 0

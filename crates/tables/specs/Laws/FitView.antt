@@ -10,7 +10,7 @@ use Rattle.words.specs.Words.{header, structure, regions}
 use Rattle.words.specs.Laws.Fields.{first-small, header-small, structure-small, slot-small, regions-small}
 use Rattle.tables.specs.State.{none, some, Area}
 use Rattle.tables.specs.Laws.State.{not-none, some-inj, same, sameA}
-use Rattle.tables.specs.View.{firstWord, areaWordAt, regionsWordAt, slotWordAt, entryOf, entryIn, headerArea, structureArea, areaIn, nth, named, slotAt, headerAt, regionsAt, areaAt, regionAt, parentAt, viewK, view}
+use Rattle.tables.specs.View.{firstWord, areaWordAt, regionsWordAt, slotWordAt, entryOf, entryIn, headerArea, structureArea, areaIn, nthRegion, named, slotAt, headerAt, regionsAt, areaAt, regionAt, parentAt, viewK, view}
 use Rattle.tables.specs.Laws.View.{inside-some}
 use Rattle.tables.specs.Encode.{slotWord, headerWord, structureWord, Canon}
 use Rattle.tables.specs.Laws.Spelling.{canon-spells}
@@ -18,8 +18,8 @@ use Rattle.tables.specs.Laws.Back.{Fit}
 use Rattle.tables.specs.Laws.ZeroWord.{not-open, no-parent}
 
 -- ── fields that were read are below their widths ──
-pub region-small : (w r : ℕ) → nth (fieldsIn regions w) r .slot .0 < 32
-unfolding nth
+pub region-small : (w r : ℕ) → nthRegion (fieldsIn regions w) r .slot .0 < 32
+unfolding nthRegion
 region-small w zero = regions-small w .region0
 region-small w (suc zero) = regions-small w .region1
 region-small w (suc (suc zero)) = regions-small w .region2
@@ -85,7 +85,7 @@ module _ {l : List ℕ} (c : Canon l) where
     closed = λ p i q. not-open l p i (λ h b. zero-slot p i h b q);
     region = λ p r i u.
         let s = inside-some 16 8 (regionAt l) p r i u in
-        let n = nth (regionsAt l p) r in
+        let n = nthRegion (regionsAt l p) r in
         let w = when-is (n .loaded) (n .slot .0) i (s .2) in
         let f = region-small (regionsWordAt l p) r in
         (s .0, s .1, omega arith);

@@ -17,7 +17,7 @@ use Rattle.tables.specs.State.{Opt, none, some, Table}
 use Rattle.tables.specs.Laws.State.{not-none}
 use Rattle.tables.specs.Update.{upd1}
 use Rattle.tables.specs.Laws.Update.{upd1-same, upd1-other, row-same, row-other}
-use Rattle.tables.specs.View.{regionsPlace, nth, named, view}
+use Rattle.tables.specs.View.{regionsPlace, nthRegion, named, view}
 use Rattle.tables.specs.Encode.{regionFor, regionsFor, regionsWord, partWord, Canon, Is}
 use Rattle.tables.specs.Laws.Encode.{canon-is}
 use Rattle.tables.specs.Laws.Back.{Fit, regions-fit}
@@ -34,10 +34,10 @@ pub keep-none : (o : ℕ → Bool) (x : Opt ℕ) → x ≡ none → x ≡ keep o
 unfolding keep
 keep-none o x q = rw q refl
 
-pub keep-some : (o : ℕ → Bool) (x : Opt ℕ) (i : ℕ) → keep o x ≡ some i → x ≡ some i
+pub kept-some : (o : ℕ → Bool) (x : Opt ℕ) (i : ℕ) → keep o x ≡ some i → x ≡ some i
 unfolding keep
-keep-some o none i q = q
-keep-some o (some j) i q = go (o j) q
+kept-some o none i q = q
+kept-some o (some j) i q = go (o j) q
   where
     go : (b : Bool) → cond b (some j) none ≡ some i → some j ≡ some i
     go true q = q
@@ -49,13 +49,13 @@ unfolding regionFor keep named
 region-kept o r h q = rw (h, q) refl
 
 -- all eight, each by itself
-pub kept-regions : (o : ℕ → Bool) (x : ℕ → Opt ℕ) (f g : RegionsFields) → ((r : ℕ) → r < 8 → x r ≡ named (nth f r))
+pub kept-regions : (o : ℕ → Bool) (x : ℕ → Opt ℕ) (f g : RegionsFields) → ((r : ℕ) → r < 8 → x r ≡ named (nthRegion f r))
     → g .region0 ≡ regionFor (keep o (named (f .region0))) → g .region1 ≡ regionFor (keep o (named (f .region1)))
     → g .region2 ≡ regionFor (keep o (named (f .region2))) → g .region3 ≡ regionFor (keep o (named (f .region3)))
     → g .region4 ≡ regionFor (keep o (named (f .region4))) → g .region5 ≡ regionFor (keep o (named (f .region5)))
     → g .region6 ≡ regionFor (keep o (named (f .region6))) → g .region7 ≡ regionFor (keep o (named (f .region7)))
     → g ≡ regionsFor (λ r. keep o (x r))
-unfolding nth
+unfolding nthRegion
 kept-regions o x f g h e₀ e₁ e₂ e₃ e₄ e₅ e₆ e₇ = λ y. record {
   region0 = (e₀ ∙ at 0 (omega arith)) y;
   region1 = (e₁ ∙ at 1 (omega arith)) y;
@@ -67,7 +67,7 @@ kept-regions o x f g h e₀ e₁ e₂ e₃ e₄ e₅ e₆ e₇ = λ y. record {
   region7 = (e₇ ∙ at 7 (omega arith)) y;
 }
   where
-    at : (r : ℕ) → r < 8 → regionFor (keep o (named (nth f r))) ≡ regionFor (keep o (x r))
+    at : (r : ℕ) → r < 8 → regionFor (keep o (named (nthRegion f r))) ≡ regionFor (keep o (x r))
     at r b = ap (λ (n : Opt ℕ). regionFor (keep o n)) (sym (h r b))
 
 -- ── the word of all eight is written ──
@@ -114,4 +114,4 @@ regions-settled {l} {p} c hp e =
     kept r = keep (view l .opened p) (view l .region p r)
 
     small : (r i : ℕ) → kept r ≡ some i → (r < 8) × (i < 32)
-    small r i u = let b = fit-view c .region p r i (keep-some (view l .opened p) (view l .region p r) i u) in (b .1, b .2)
+    small r i u = let b = fit-view c .region p r i (kept-some (view l .opened p) (view l .region p r) i u) in (b .1, b .2)

@@ -5,9 +5,8 @@ use mathlib.Core.Logic.{inl, inr}
 use Prim.Native.Nat.{ℕ, _+_, _*_, _/_, _<_}
 use native.Mathlib.Omega.{arith}
 use borrow.Author.Tests.{ne-eqb}
-use Rattle.loops.specs.Scan.{seek, NoneBelow}
+use Rattle.loops.specs.Loops.{seek, NoneBelow, mapFrom}
 use Rattle.loops.specs.Laws.Scan.{seek-law, Sought}
-use Rattle.loops.specs.Map.{mapFrom}
 use Rattle.loops.specs.Laws.Map.{map-none}
 use Rattle.words.specs.declared.header_word.HeaderFields.{HeaderFields}
 use Rattle.words.specs.declared.slot_word.SlotFields.{SlotFields}

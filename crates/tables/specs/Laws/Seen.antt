@@ -12,7 +12,7 @@ use Rattle.words.specs.declared.regions_word.RegionsFields.{RegionsFields}
 use Rattle.words.specs.declared.slot_word.SlotFields.{SlotFields}
 use Rattle.words.specs.declared.structure_word.StructureFields.{StructureFields}
 use Rattle.tables.specs.State.{none}
-use Rattle.tables.specs.View.{firstWord, areaWordAt, regionsWordAt, slotWordAt, entryIn, headerArea, structureArea, areaIn, nth, named, firstAt, slotAt, headerAt, structureAt, regionsAt, areaAt, regionAt, parentAt, viewK, view}
+use Rattle.tables.specs.View.{firstWord, areaWordAt, regionsWordAt, slotWordAt, entryIn, headerArea, structureArea, areaIn, nthRegion, named, firstAt, slotAt, headerAt, structureAt, regionsAt, areaAt, regionAt, parentAt, viewK, view}
 use Rattle.tables.specs.Laws.View.{inside-in}
 use Rattle.tables.specs.Encode.{slotWord}
 use Rattle.tables.specs.Laws.Spelling.{canon-spells}
@@ -96,7 +96,7 @@ pub see-regions : (l : List ℕ) (p : ℕ) (f : RegionsFields) → p < 16 → f 
 unfolding view
 see-regions l p f hp e = record {
   is = e;
-  region = λ r h. inside-in none 16 8 (regionAt l) p r hp h ∙ ap (λ (x : RegionsFields). named (nth x r)) (sym e);
+  region = λ r h. inside-in none 16 8 (regionAt l) p r hp h ∙ ap (λ (x : RegionsFields). named (nthRegion x r)) (sym e);
   small = λ r. rw e (region-small (regionsWordAt l p) r);
 }
 

@@ -3,7 +3,8 @@ use mathlib.Core.Path.{_≡_, ap, _∙_}
 use mathlib.Core.List.{List}
 use Prim.Native.Nat.{ℕ}
 use lib.ListN.{set}
-use Rattle.words.specs.Kind.{Kind, wordOf, writing, InRange, write-done}
+use Rattle.words.specs.Kind.{Kind, wordOf, writing, InRange}
+use Rattle.words.specs.Laws.Kind.{write-done}
 use Rattle.tables.specs.Store.{stored}
 
 -- fields in range are stored

@@ -11,11 +11,11 @@ use native.Mathlib.Nat.{pow-le-pow-right}
 use native.Mathlib.Numerals.{add-one}
 use native.Mathlib.Decide.{ℕ-discrete}
 use native.Mathlib.Omega.{arith}
-use Rattle.loops.specs.Climb.{climb}
+use Rattle.loops.specs.Loops.{climb}
 use Rattle.loops.specs.Laws.Climb.{climb-root, climb-lost, climb-step, climb-suc}
 use Rattle.tables.specs.View.{headerAt, view}
 use Rattle.tables.specs.Laws.Seen.{see-header}
-use Rattle.tables.specs.WayUp.{wayUp, digits, digitsOf, wayIn, over, HasRoom, WentUp, WayWritten}
+use Rattle.tables.specs.WayUp.{wayUp, digits, digitsOf, wayIn, namesOver, HasRoom, WentUp, WayWritten}
 
 -- ── what the climb asks and promises ──
 -- two results are equal: the answer, and the word
@@ -77,24 +77,24 @@ pub way-written-one : {w : ℕ} {before : List ℕ} {r s : ℕ} {a b : List ℕ}
 way-written-one x y = (x .number ∙ sym (y .number), x .bytes ∙ sym (y .bytes))
 
 -- n names are written, and `left` tells the others
-pub record Writing (w : ℕ) (before : List ℕ) (n left : ℕ) (list : List ℕ) : Type 0 where
+pub record WayWriting (w : ℕ) (before : List ℕ) (n left : ℕ) (list : List ℕ) : Type 0 where
   pub told : List ℕ
   pub number : length told ≡ n
   pub whole : wayIn w ≡ told ++ digitsOf (16 - n) left
-  pub bytes : list ≡ over told before
+  pub bytes : list ≡ namesOver told before
   pub few : n < 16
   pub small : left < 16 ^ (16 - n)
 
 -- one more name stored after hs
-over-more : (hs bytes : List ℕ) (x : ℕ) → length hs < length bytes → set (over hs bytes) (length hs) x ≡ over (hs ++ (x ∷ [])) bytes
+over-more : (hs bytes : List ℕ) (x : ℕ) → length hs < length bytes → set (namesOver hs bytes) (length hs) x ≡ namesOver (hs ++ (x ∷ [])) bytes
 over-more hs bytes x h =
     rw (drop-cons bytes (length hs) 0 h, set-append-seam)
     (simp (length-append, append-assoc, add-one))
 
-pub write-start : {w : ℕ} {list : List ℕ} → w < 2 ^ 64 → Writing w list 0 w list
+pub write-start : {w : ℕ} {list : List ℕ} → w < 2 ^ 64 → WayWriting w list 0 w list
 write-start h = record { told = []; number = refl; whole = refl; bytes = refl; few = omega arith; small = omega arith }
 
-module _ {w n left : ℕ} {before list : List ℕ} (h : Writing w before n left list) (room : 16 ≤ length before) where
+module _ {w n left : ℕ} {before list : List ℕ} (h : WayWriting w before n left list) (room : 16 ≤ length before) where
   pub same-room : length list ≡ length before
   same-room = ap length (h .bytes) ∙ rw (length-append, length-drop) (omega (arith, h .number, h .few))
 
@@ -102,7 +102,7 @@ module _ {w n left : ℕ} {before list : List ℕ} (h : Writing w before n left 
   set-room x = simp length-set same-room
 
   -- the lowest digit of `left` is written too: what stands in the list then, and what is still to be told
-  wrote : set list n (left % 16) ≡ over (h .told ++ (left % 16 ∷ [])) before
+  wrote : set list n (left % 16) ≡ namesOver (h .told ++ (left % 16 ∷ [])) before
   wrote = ap₂ (λ (x : List ℕ) (i : ℕ). set x i (left % 16)) (h .bytes) (sym (h .number)) ∙ over-more (h .told) before (left % 16) (omega (arith, h .number, h .few))
 
   split : wayIn w ≡ (h .told ++ (left % 16 ∷ [])) ++ cond (eqb (left / 16) 0) [] (digitsOf (16 - (n + 1)) (left / 16))
@@ -115,7 +115,7 @@ module _ {w n left : ℕ} {before list : List ℕ} (h : Writing w before n left 
   longer : length (h .told ++ (left % 16 ∷ [])) ≡ n + 1
   longer = rw length-append (ap (λ (x : ℕ). x + 1) (h .number))
 
-  pub write-more : (left / 16 ≡ 0 → ⊥) → Writing w before (n + 1) (left / 16) (set list n (left % 16))
+  pub write-more : (left / 16 ≡ 0 → ⊥) → WayWriting w before (n + 1) (left / 16) (set list n (left % 16))
   write-more z = record {
     told = h .told ++ (left % 16 ∷ []);
     number = longer;
@@ -138,7 +138,7 @@ module _ {w n left : ℕ} {before list : List ℕ} (h : Writing w before n left 
   pub write-end : left / 16 ≡ 0 → WayWritten w before (n + 1) (set list n (left % 16))
   write-end z =
       let e : h .told ++ (left % 16 ∷ []) ≡ wayIn w = sym (split ∙ rw (eq-eqb (left / 16) 0 z) (append-nil (h .told ++ (left % 16 ∷ [])))) in
-      record { number = sym longer ∙ ap length e; bytes = wrote ∙ ap (λ (hs : List ℕ). over hs before) e }
+      record { number = sym longer ∙ ap length e; bytes = wrote ∙ ap (λ (hs : List ℕ). namesOver hs before) e }
 
 -- ── the number of a way tells who stands on it ──
 -- numbers that are digits, and not 0

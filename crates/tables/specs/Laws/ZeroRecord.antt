@@ -8,7 +8,7 @@ use native.Mathlib.Omega.{arith}
 use lib.Dec.{eqb}
 use lib.ListN.{getD}
 use borrow.Author.Tests.{eqb-true, eq-eqb}
-use Rattle.loops.specs.Every.{all}
+use Rattle.loops.specs.Loops.{all}
 use Rattle.loops.specs.Laws.Every.{all-at, all-of, all-ext}
 use Rattle.tables.specs.State.{none}
 use Rattle.tables.specs.View.{slotPlace, recordWord, blankWordAt, slotWordAt, view}

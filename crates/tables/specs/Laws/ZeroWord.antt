@@ -13,7 +13,7 @@ use Rattle.words.specs.declared.header_word.HeaderFields.{HeaderFields}
 use Rattle.words.specs.declared.regions_word.RegionsFields.{RegionsFields}
 use Rattle.words.specs.declared.slot_word.SlotFields.{SlotFields}
 use Rattle.tables.specs.State.{none}
-use Rattle.tables.specs.View.{areaWordAt, regionsWordAt, slotWordAt, entryIn, headerArea, structureArea, areaIn, nth, named, slotAt, headerAt, regionsAt, areaAt, regionAt, parentAt, viewK, view}
+use Rattle.tables.specs.View.{areaWordAt, regionsWordAt, slotWordAt, entryIn, headerArea, structureArea, areaIn, nthRegion, named, slotAt, headerAt, regionsAt, areaAt, regionAt, parentAt, viewK, view}
 use Rattle.tables.specs.Laws.View.{inside-none}
 use Rattle.tables.specs.Encode.{regionFor}
 use Rattle.tables.specs.Laws.Back.{nth-for}
@@ -30,9 +30,9 @@ entry-in : entryIn (fieldsIn slot 0) ≡ none
 unfolding entryIn
 entry-in = ap entryIn slot-zero
 
-region-in : (r : ℕ) → r < 8 → nth (fieldsIn regions 0) r ≡ noRegion
+region-in : (r : ℕ) → r < 8 → nthRegion (fieldsIn regions 0) r ≡ noRegion
 unfolding regionFor
-region-in r h = ap (λ (f : RegionsFields). nth f r) regions-zero ∙ nth-for (λ r. none) r h
+region-in r h = ap (λ (f : RegionsFields). nthRegion f r) regions-zero ∙ nth-for (λ r. none) r h
 
 module _ (l : List ℕ) (p : ℕ) where
   pub no-area : (j : ℕ) → (p < 16 → j < 5 → areaWordAt l p j ≡ 0) → view l .k .area p j ≡ none
@@ -49,8 +49,8 @@ module _ (l : List ℕ) (p : ℕ) where
       inside-none false 16 32 (λ p i. slotAt l p i .opened) p i
       (λ a b. ap (λ (w : ℕ). fieldsIn slot w .opened) (q a b) ∙ ap (λ (f : SlotFields). f .opened) slot-zero)
 
-  pub blank-regions : regionsWordAt l p ≡ 0 → (r : ℕ) → r < 8 → nth (regionsAt l p) r ≡ noRegion
-  blank-regions q r h = ap (λ (w : ℕ). nth (fieldsIn regions w) r) q ∙ region-in r h
+  pub blank-regions : regionsWordAt l p ≡ 0 → (r : ℕ) → r < 8 → nthRegion (regionsAt l p) r ≡ noRegion
+  blank-regions q r h = ap (λ (w : ℕ). nthRegion (fieldsIn regions w) r) q ∙ region-in r h
 
   pub no-region : (r : ℕ) → regionsWordAt l p ≡ 0 → view l .region p r ≡ none
   unfolding view named

@@ -1,3 +1,4 @@
+-- src/main.rt, print_run: ends without a fault
 use Rattle.tables.specs.Laws.Top.{top-16}
 use borrow.Author.Needs.{needs}
 use Rattle.tally.proofs.print_run.Statement.{statement}

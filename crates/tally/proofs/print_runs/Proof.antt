@@ -1,3 +1,4 @@
+-- src/main.rt, print_runs: ends without a fault
 use mathlib.Core.Path.{_≡_, ap}
 use Prim.Native.Nat.{ℕ, _-_, _≤_}
 use Rattle.shapes.specs.declared.Board.the-variants.{V7}

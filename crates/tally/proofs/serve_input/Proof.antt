@@ -1,3 +1,4 @@
+-- src/main.rt, serve_input: ends without a fault
 use mathlib.Core.Path.{_≡_}
 use lib.ListN.{length}
 use borrow.Author.Needs.{needs}

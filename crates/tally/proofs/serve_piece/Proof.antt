@@ -1,3 +1,4 @@
+-- src/main.rt, serve_piece: ends without a fault
 use Prim.Native.Nat.{_-_, _≤_}
 use Rattle.tables.specs.Laws.Top.{top-16}
 use borrow.Author.Needs.{needs}

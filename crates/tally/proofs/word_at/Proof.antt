@@ -1,3 +1,4 @@
+-- src/main.rt, word_at: ends without a fault
 use Prim.Native.Nat.{_-_, _≤_}
 use borrow.Author.Needs.{needs}
 use Rattle.tally.proofs.word_at.Statement.{statement}

@@ -5,7 +5,7 @@ use Prim.Native.Nat.{ℕ, _<_}
 use native.Mathlib.Decide.{ℕ-discrete}
 use native.Mathlib.Omega.{arith}
 use Rattle.loops.specs.Laws.Every.{bool-ext}
-use Rattle.loops.specs.Climb.{Reaches, at-root, by-step}
+use Rattle.loops.specs.Loops.{Reaches, at-root, by-step}
 use Rattle.tables.specs.State.{Opt, none, some, Entry, Area, K, Table}
 use Rattle.tables.specs.Laws.State.{not-none}
 use Rattle.tables.specs.Lines.{InA, Holds, Clear}

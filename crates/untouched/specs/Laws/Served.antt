@@ -6,7 +6,7 @@ use Prim.Native.Nat.{ℕ, _+_}
 use native.Mathlib.Decide.{ℕ-discrete}
 use lib.Dec.{eqb}
 use native.Mathlib.Omega.{arith}
-use Rattle.loops.specs.Climb.{Reaches, at-root, by-step}
+use Rattle.loops.specs.Loops.{Reaches, at-root, by-step}
 use Rattle.words.specs.declared.call_word.CallFields.{CallFields}
 use Rattle.shapes.specs.declared.Board.{Board}
 use Rattle.tables.specs.State.{Opt, none, some, Entry, Area, nowhere, K, Table}
@@ -21,8 +21,8 @@ use Rattle.sound.specs.Whole.{Right}
 use Rattle.rules.specs.Branch.{Under, itself as is-top, below}
 use Rattle.rules.specs.Rules.{done, areaOf, createK, removeK, remove, unloaded, create, delete, prepare, collect, give, take, cut, merge, load, unload, readRegion, find, switch, clearOut, pack, serve}
 use Rattle.rules.specs.Laws.Each.{done-each}
-use Rattle.isolation.specs.Laws.Settled.{settled-same}
-use Rattle.isolation.specs.Checks.{OwnOrChild}
+use Rattle.isolation.specs.Laws.Settled.{right-same}
+use Rattle.isolation.specs.Ladders.{OwnOrChild}
 use Rattle.isolation.specs.Laws.Keep.{given-child}
 use Rattle.isolation.specs.Laws.Remove.{Goes}
 use Rattle.isolation.specs.Laws.Create.{create-done}
@@ -194,7 +194,7 @@ module _ {b : ℕ} {t : Table} (h : Right t) (home : Present (t .k) b) (inside :
   same-step : {new : Table} → new ≡ t → Step b t new
   same-step {new} z =
       let s = settled-step {new = k} {region = t .region} (record { alike = λ q o. same; stays = home; tree = λ q v. inl (v, refl) }) (λ p r o. refl) in
-      rw (z ∙ sym (settled-same h)) s
+      rw (z ∙ sym (right-same h)) s
 
   pub serve-step : (board : Board) (f : CallFields) {v w : ℕ} {new : Table} → serve board t f ≡ done v w new → Step b t new
   serve-step board f z =

@@ -6,7 +6,7 @@ use mathlib.Core.List.{List, [], _∷_}
 use Prim.Native.Nat.{ℕ, _+_, _<_}
 use native.Mathlib.Decide.{ℕ-discrete}
 use native.Mathlib.Omega.{arith}
-use Rattle.loops.specs.Climb.{Reaches, at-root, by-step}
+use Rattle.loops.specs.Loops.{Reaches, at-root, by-step}
 use Rattle.words.specs.Kind.{fieldsIn}
 use Rattle.words.specs.Words.{call}
 use Rattle.shapes.specs.declared.Board.{Board}
@@ -32,7 +32,7 @@ use Rattle.untouched.specs.Laws.Frame.{Alike, above-outside, outside-sta
 use Rattle.untouched.specs.Laws.Served.{Step, serve-step}
 
 -- the record of p is as it was
-pub record Same (t new : Table) (p : ℕ) : Type 0 where
+pub record SameRecord (t new : Table) (p : ℕ) : Type 0 where
   pub alike : Alike (t .k) (new .k) p
   pub opened : (i : ℕ) → new .opened p i ≡ t .opened p i
   pub region : (r : ℕ) → new .region p r ≡ t .region p r
@@ -40,7 +40,7 @@ pub record Same (t new : Table) (p : ℕ) : Type 0 where
 -- what calls in the branch of b leave: who is outside it keeps parent, areas and entries, who is beside it the whole record
 pub record Left (b : ℕ) (t new : Table) : Type 0 where
   pub outside : (p : ℕ) → Outside (t .k) b p → Outside (new .k) b p × Alike (t .k) (new .k) p
-  pub beside : (p : ℕ) → Beside (t .k) b p → Beside (new .k) b p × Same t new p
+  pub beside : (p : ℕ) → Beside (t .k) b p → Beside (new .k) b p × SameRecord t new p
 
 -- ── one call ──
 keep-all : (o : ℕ → Bool) (x : Opt ℕ) → ((i : ℕ) → x ≡ some i → o i ≡ true) → keep o x ≡ x
@@ -146,7 +146,7 @@ module _ {board : Board} {l : List ℕ} (g : Good board l) where
   slot-of p i hp hi = canon-slot canon p i hp hi
 
 -- a record that is the same has the same words
-same-words : {t new : Table} (p o : ℕ) → Same t new p → partWord new p o ≡ partWord t p o
+same-words : {t new : Table} (p o : ℕ) → SameRecord t new p → partWord new p o ≡ partWord t p o
 same-words {t} {new} p o s = part-ext t new p o (s .alike .parent) (s .alike .area) (λ x r. s .region r x) (s .alike .slot) (s .opened)
 
 module _ {board : Board} (l ws : List ℕ) (b : ℕ) (g : Good board l) (calls : Within board b l ws) where
@@ -157,7 +157,7 @@ module _ {board : Board} (l ws : List ℕ) (b : ℕ) (g : Good board l) (calls :
   left = after-left g ws calls
 
   -- the whole record of who is beside the branch, of the table
-  pub beside-same : (p : ℕ) → Beside (view l .k) b p → Same (view l) (view (afterAll board l ws)) p
+  pub beside-same : (p : ℕ) → Beside (view l .k) b p → SameRecord (view l) (view (afterAll board l ws)) p
   beside-same p q = left .beside p q .1
 
   higher-alike : (p : ℕ) → Higher (view l .k) b p → Alike (view l .k) (view (afterAll board l ws) .k) p

@@ -1,3 +1,4 @@
+-- src/lib.rt, of_image: r ≡ imageVerdict board b
 use mathlib.Core.Path.{refl}
 use Rattle.verdict.specs.Laws.Stages.{image-other, image-said}
 use borrow.Author.Needs.{needs}

@@ -1,3 +1,4 @@
+-- src/lib.rt, of_table: r ≡ verdict board t
 use mathlib.Core.Path.{refl}
 use native.Mathlib.Omega.{arith}
 use Rattle.tables.specs.Laws.Top.{top-16}

@@ -1,3 +1,4 @@
+-- src/lib.rt, said: r ≡ saidOf m
 use mathlib.Core.Path.{refl}
 use borrow.Author.Tests.{le-ltb, lt-ltb}
 use Rattle.verdict.specs.Verdict.{failing}

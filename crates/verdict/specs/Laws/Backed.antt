@@ -15,7 +15,7 @@ use Rattle.tables.specs.State.{Area, K}
 use Rattle.tables.specs.View.{headerArea, structureArea, view}
 use Rattle.tables.specs.Seen.{SeenHeader, SeenStructure}
 use Rattle.sound.specs.Clauses.{when, rooted, equals, s8Backed}
-use Rattle.decide.specs.Backing.{between, backs}
+use Rattle.decide.specs.Backing.{areaBetween, backs}
 use Rattle.decide.specs.Marking.{equalSlot}
 
 -- the search for the slot finds one exactly where there is one
@@ -37,7 +37,7 @@ module _ {l : List ℕ} {p : ℕ} {f : HeaderFields} (v : SeenHeader l p f) (q :
   unfolding s8Backed when headerArea
   header-absent u = rw (q, v .area, u) refl
 
-  pub header-parent : {b : Bool} → f .present ≡ true → b ≡ equals (view l .k) (f .parent .0) (between (f .start .0) (f .end .0)) → b ≡ s8Backed (view l .k) p 0
+  pub header-parent : {b : Bool} → f .present ≡ true → b ≡ equals (view l .k) (f .parent .0) (areaBetween (f .start .0) (f .end .0)) → b ≡ s8Backed (view l .k) p 0
   unfolding s8Backed when headerArea
   header-parent u x = rw (q, v .area, u, v .parent, or-false) x
 
@@ -51,11 +51,11 @@ module _ {l : List ℕ} {p : ℕ} (j : ℕ) {f : StructureFields} (h : 0 < j) (v
   structure-absent u = rw (q, is, u) refl
 
   -- own is whether it is an entry of p itself
-  module _ {own : Bool} (u : f .present ≡ true) (x : own ≡ equals (view l .k) p (between (f .start .0) (f .end .0))) where
+  module _ {own : Bool} (u : f .present ≡ true) (x : own ≡ equals (view l .k) p (areaBetween (f .start .0) (f .end .0))) where
     pub structure-own : own ≡ true → true ≡ s8Backed (view l .k) p j
     unfolding s8Backed when structureArea
     structure-own y = rw (q, is, u, ne-eqb j 0 (λ z. omega arith), ← x, y, or-true) refl
 
-    pub structure-parent : {b : Bool} {g : HeaderFields} → own ≡ false → SeenHeader l p g → b ≡ equals (view l .k) (g .parent .0) (between (f .start .0) (f .end .0)) → b ≡ s8Backed (view l .k) p j
+    pub structure-parent : {b : Bool} {g : HeaderFields} → own ≡ false → SeenHeader l p g → b ≡ equals (view l .k) (g .parent .0) (areaBetween (f .start .0) (f .end .0)) → b ≡ s8Backed (view l .k) p j
     unfolding s8Backed when structureArea
     structure-parent y w z = rw (q, is, u, ← x, y, and-false, w .parent, or-false) z

@@ -20,7 +20,7 @@ use Rattle.decide.specs.Laws.Lines.{exact-lies, lies-exact}
 
 -- ── a child's entries and its parent's ──
 -- the first i entries of p lie inside those of the first j of q that are given to p, and cover them
-pub record Walked (l o : List ℕ) (p q n m i j : ℕ) : Type 0 where
+pub record WalkedLines (l o : List ℕ) (p q n m i j : ℕ) : Type 0 where
   pub few : i ≤ n
   pub far : j ≤ m
   pub exact : Exact (plainRow l o p) i (plainRow l o q) j p
@@ -29,10 +29,10 @@ module _ {l o : List ℕ} {p q n m : ℕ} (h : ChildOf l o p q n m) where
   two-rows : TwoRows (plainRow l o p) n (plainRow l o q) m
   two-rows = record { line = row-line (h .own); ends = row-ends (h .own); grants = row-ends (h .above) }
 
-  pub walk-start : Walked l o p q n m 0 0
+  pub walk-start : WalkedLines l o p q n m 0 0
   walk-start = record { few = omega arith; far = omega arith; exact = exact-start }
 
-  module _ {i j : ℕ} (inv : Walked l o p q n m i j) where
+  module _ {i j : ℕ} (inv : WalkedLines l o p q n m i j) where
     pub walk-end : m ≤ j → eqb i n ≡ exactly (view l .k) p
     walk-end c = go (ℕ-discrete i n)
       where
@@ -44,14 +44,14 @@ module _ {l o : List ℕ} {p q n m : ℕ} (h : ChildOf l o p q n m) where
       read : Same (rowOf l o q j) (entryOf f)
       read = row-seen (h .above) next v
 
-      pub walk-skip : (f .given .0 ≡ p → ⊥) → Walked l o p q n m i (j + 1)
+      pub walk-skip : (f .given .0 ≡ p → ⊥) → WalkedLines l o p q n m i (j + 1)
       walk-skip no-grant = record { few = inv .few; far = omega arith; exact = exact-skip (inv .exact) (λ g. no-grant (sym (read .given) ∙ g)) }
 
       module _ {x : ℕ} (given : f .given .0 ≡ p) (t : Tiled (plainRow l o p) n i (f .start .0) (f .end .0) allRights x) where
         tiled : Tiled (plainRow l o p) n i (rowOf l o q j .start) (rowOf l o q j .stop) allRights x
         tiled = rw (read .start, read .stop) t
 
-        pub walk-on : x ≤ n → Walked l o p q n m x (j + 1)
+        pub walk-on : x ≤ n → WalkedLines l o p q n m x (j + 1)
         walk-on few = record { few = few; far = omega arith; exact = exact-on two-rows (inv .exact) (inv .few) next (read .given ∙ given) few tiled }
 
         pub walk-stuck : n < x → false ≡ exactly (view l .k) p

@@ -7,7 +7,7 @@ use Prim.Native.Nat.{ℕ, _+_, _-_, _*_, _/_, _%_, _≤_, _<_}
 use native.Mathlib.Omega.{arith}
 use native.Mathlib.Decide.{decLt}
 use borrow.Author.Tests.{not-false}
-use Rattle.loops.specs.Scan.{NoneBelow}
+use Rattle.loops.specs.Loops.{NoneBelow}
 use Rattle.loops.specs.Laws.Scan.{Sought, seek-law, seek-first, seek-none}
 use Rattle.shapes.specs.declared.Board.{Board}
 use Rattle.sound.specs.Sound.{Lower}

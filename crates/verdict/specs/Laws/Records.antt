@@ -5,7 +5,7 @@ use mathlib.Core.List.{List}
 use Prim.Native.Nat.{ℕ, zero, suc, _+_, _<_}
 use native.Mathlib.Omega.{arith}
 use borrow.Author.Tests.{not-true, not-false}
-use Rattle.loops.specs.Every.{all}
+use Rattle.loops.specs.Loops.{all}
 use Rattle.loops.specs.Laws.Every.{bool-ext, all-at, all-of}
 use Rattle.words.specs.Kind.{zeroed}
 use Rattle.words.specs.Words.{header, structure}

@@ -9,8 +9,7 @@ use native.Mathlib.Decide.{ℕ-discrete}
 use lib.Dec.{eqb}
 use lib.ListN.{length}
 use borrow.Author.Tests.{not-true, not-false, lt-ltb, eq-eqb, ne-eqb}
-use Rattle.loops.specs.Scan.{NoneBelow}
-use Rattle.loops.specs.Every.{all}
+use Rattle.loops.specs.Loops.{NoneBelow, all}
 use Rattle.loops.specs.Laws.Every.{all-of}
 use Rattle.loops.specs.Laws.Scan.{Sought, seek-law, seek-first, seek-none}
 use Rattle.shapes.specs.declared.Board.{Board}
@@ -42,16 +41,16 @@ use Rattle.verdict.specs.Stages.{Before11, lowestOf, saidOf, Reached}
 
 -- ── the loops over the tests ──
 -- none before number m fails
-pub record Cleared (board : Board) (l : List ℕ) (m : ℕ) : Type 0 where
+pub record NoneFails (board : Board) (l : List ℕ) (m : ℕ) : Type 0 where
   pub none : NoneBelow (failsAt board l) m
 
-pub cleared-start : {board : Board} {l : List ℕ} → Cleared board l 0
+pub cleared-start : {board : Board} {l : List ℕ} → NoneFails board l 0
 cleared-start = record { none = λ j b. absurd (omega arith) }
 
-pub cleared-from : {board : Board} {l : List ℕ} {n : ℕ} → Reached board l n → Cleared board l (16 * (n - 1))
+pub cleared-from : {board : Board} {l : List ℕ} {n : ℕ} → Reached board l n → NoneFails board l (16 * (n - 1))
 cleared-from {board} {l} {n} h = record { none = lower-none board l n (omega (arith, h .to)) (h .lower) }
 
-module _ {board : Board} {l : List ℕ} {m : ℕ} (h : Cleared board l m) where
+module _ {board : Board} {l : List ℕ} {m : ℕ} (h : NoneFails board l m) where
   -- the next test is one of a clause that is looked at
   pub cleared-reached : m < 176 → Reached board l (1 + m / 16)
   cleared-reached b = record { from = omega arith; to = omega arith; lower = none-lower board l m (1 + m / 16) (omega arith) (omega arith) (h .none) }
@@ -61,7 +60,7 @@ module _ {board : Board} {l : List ℕ} {m : ℕ} (h : Cleared board l m) where
     unfolding lowestOf failsAt
     cleared-hit n b q = sym (seek-first (failsAt board l) (λ m. m) n n m b (ap not (sym e) ∙ q) (h .none))
 
-    pub cleared-on : not r ≡ false → Cleared board l (m + 1)
+    pub cleared-on : not r ≡ false → NoneFails board l (m + 1)
     unfolding failsAt
     cleared-on q = record { none = λ j b. go j b (ℕ-discrete j m) }
       where

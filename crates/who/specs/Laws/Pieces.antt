@@ -4,12 +4,11 @@ use mathlib.Core.Bool.{Bool, true, false, cond, true≢false}
 use Prim.Native.Nat.{ℕ, zero, suc, _+_, _≤_, _<_}
 use native.Mathlib.Decide.{ℕ-discrete}
 use native.Mathlib.Omega.{arith}
-use Rattle.loops.specs.Carry.{done}
-use Rattle.loops.specs.Count.{sum}
+use Rattle.loops.specs.Loops.{carried, sum}
 
 -- a sum is no less than one of its numbers
 pub sum-at : (n : ℕ) (f : ℕ → ℕ) (x : ℕ) → x < n → f x ≤ sum n f
-unfolding sum done
+unfolding sum carried
 sum-at zero f x b = omega arith
 sum-at (suc n) f x b = go (ℕ-discrete x n) (sum-at n f x)
   where
@@ -19,13 +18,13 @@ sum-at (suc n) f x b = go (ℕ-discrete x n) (sum-at n f x)
 
 -- of zeros
 sum-zero : (n : ℕ) (f : ℕ → ℕ) → ((k : ℕ) → k < n → f k ≡ 0) → sum n f ≡ 0
-unfolding sum done
+unfolding sum carried
 sum-zero zero f h = refl
 sum-zero (suc n) f h = omega (arith, sum-zero n f (λ k b. h k (omega arith)), h n (omega arith))
 
 -- of zeros but for one
 pub sum-only : (n : ℕ) (f : ℕ → ℕ) (x : ℕ) → ((k : ℕ) → (k ≡ x → ⊥) → f k ≡ 0) → sum n f ≤ f x
-unfolding sum done
+unfolding sum carried
 sum-only zero f x h = omega arith
 sum-only (suc n) f x h = go (ℕ-discrete n x) (sum-only n f x h)
   where

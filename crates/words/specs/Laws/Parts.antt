@@ -9,7 +9,7 @@ use lib.Dec.{ltb, eqb}
 use borrow.Author.Tests.{lt-ltb, ltb-true, eqb-true, eq-eqb}
 use lib.Arith.{digits-lt}
 use lib.Pow.{pow-pos, pow-add, pow-mono, high, low, mod-pow-add, mod-mod-pow, field}
-use Rattle.words.specs.Parts.{Part, bits, zeros, width, unpack, pack, clean, fit, Clean, Fit, zeroSum}
+use Rattle.words.specs.Parts.{Part, bits, zeros, width, unpack, packParts, clean, fit, Clean, FieldsFit, zeroSum}
 
 -- ── the two tests as propositions ──
 no-true : (b : Bool) → (b ≡ true → ⊥) → b ≡ false
@@ -47,14 +47,14 @@ zero-clean [] = tt
 zero-clean (bits b ∷ ps) = zero-clean ps
 zero-clean (zeros b ∷ ps) = (ap (λ (x : ℕ). x % 2 ^ b) (div-eq-of-lt (pow-pos (width ps))) ∙ zero-mod (2 ^ b), zero-clean ps)
 
-pub fit-true : (ps : List Part) (fs : List ℕ) → Fit ps fs → fit ps fs ≡ true
+pub fit-true : (ps : List Part) (fs : List ℕ) → FieldsFit ps fs → fit ps fs ≡ true
 fit-true [] [] h = refl
 fit-true [] (f ∷ fs) h = absurd h
 fit-true (bits b ∷ ps) [] h = absurd h
 fit-true (bits b ∷ ps) (f ∷ fs) h = and-eq-true-iff _ _ .1 (lt-ltb f (2 ^ b) (h .0), fit-true ps fs (h .1))
 fit-true (zeros b ∷ ps) fs h = fit-true ps fs h
 
-pub fit-says : (ps : List Part) (fs : List ℕ) → fit ps fs ≡ true → Fit ps fs
+pub fit-says : (ps : List Part) (fs : List ℕ) → fit ps fs ≡ true → FieldsFit ps fs
 fit-says [] [] h = tt
 fit-says [] (f ∷ fs) h = absurd (false≢true h)
 fit-says (bits b ∷ ps) [] h = absurd (false≢true h)
@@ -63,20 +63,20 @@ fit-says (bits b ∷ ps) (f ∷ fs) h =
     (ltb-true f (2 ^ b) (z .0), fit-says ps fs (z .1))
 fit-says (zeros b ∷ ps) fs h = fit-says ps fs h
 
-pub fit-false : (ps : List Part) (fs : List ℕ) → (Fit ps fs → ⊥) → fit ps fs ≡ false
+pub fit-false : (ps : List Part) (fs : List ℕ) → (FieldsFit ps fs → ⊥) → fit ps fs ≡ false
 fit-false ps fs h = no-true (fit ps fs) (λ e. h (fit-says ps fs e))
 
 -- ── a word, unpacked and packed ──
-repacked : (ps : List Part) (w : ℕ) → Clean ps w → pack ps (unpack ps w) ≡ w % 2 ^ width ps
+repacked : (ps : List Part) (w : ℕ) → Clean ps w → packParts ps (unpack ps w) ≡ w % 2 ^ width ps
 repacked [] w h = sym (mod-one w)
 repacked (bits b ∷ ps) w h = rw (repacked ps w h) (sym (mod-pow-add w b (width ps)))
 repacked (zeros b ∷ ps) w h =
     repacked ps w (h .1) ∙ sym (mod-pow-add w b (width ps) ∙ rw (h .0, zero-mul) (zero-add (w % 2 ^ width ps)))
 
-pub pack-unpack : (ps : List Part) (w : ℕ) → w < 2 ^ width ps → Clean ps w → pack ps (unpack ps w) ≡ w
+pub pack-unpack : (ps : List Part) (w : ℕ) → w < 2 ^ width ps → Clean ps w → packParts ps (unpack ps w) ≡ w
 pack-unpack ps w h c = repacked ps w c ∙ mod-eq-of-lt h
 
-pub unpack-fit : (ps : List Part) (w : ℕ) → Fit ps (unpack ps w)
+pub unpack-fit : (ps : List Part) (w : ℕ) → FieldsFit ps (unpack ps w)
 unpack-fit [] w = tt
 unpack-fit (bits b ∷ ps) w = (mod-lt _ (pow-pos b), unpack-fit ps w)
 unpack-fit (zeros b ∷ ps) w = unpack-fit ps w
@@ -97,7 +97,7 @@ clean-low (zeros b ∷ ps) j w h =
     let g : Clean (zeros b ∷ ps) (w % 2 ^ (j + b + width ps)) = rw (add-assoc j b (width ps)) h in
     (sym (ap (λ (x : ℕ). x % 2 ^ b) (field w (j + b) (width ps)) ∙ mod-mod-pow _ j b) ∙ g .0, clean-low ps (j + b) w (g .1))
 
-pub pack-lt : (ps : List Part) (fs : List ℕ) → Fit ps fs → pack ps fs < 2 ^ width ps
+pub pack-lt : (ps : List Part) (fs : List ℕ) → FieldsFit ps fs → packParts ps fs < 2 ^ width ps
 pack-lt [] [] h = omega arith
 pack-lt [] (f ∷ fs) h = absurd h
 pack-lt (bits b ∷ ps) [] h = absurd h
@@ -105,23 +105,23 @@ pack-lt (bits b ∷ ps) (f ∷ fs) h = rw pow-add (digits-lt (h .0) (pack-lt ps 
 pack-lt (zeros b ∷ ps) fs h = lt-of-lt-of-le (pack-lt ps fs h) (pow-mono (let z : width ps ≤ b + width ps = omega arith in z))
 
 -- the low bits of a word are those of its tail
-tail : (f : ℕ) (ps : List Part) (fs : List ℕ) → Fit ps fs → (f * 2 ^ width ps + pack ps fs) % 2 ^ (0 + width ps) ≡ pack ps fs
+tail : (f : ℕ) (ps : List Part) (fs : List ℕ) → FieldsFit ps fs → (f * 2 ^ width ps + packParts ps fs) % 2 ^ (0 + width ps) ≡ packParts ps fs
 tail f ps fs h = rw zero-add (low f (width ps) (pack-lt ps fs h))
 
-pub unpack-pack : (ps : List Part) (fs : List ℕ) → Fit ps fs → unpack ps (pack ps fs) ≡ fs
+pub unpack-pack : (ps : List Part) (fs : List ℕ) → FieldsFit ps fs → unpack ps (packParts ps fs) ≡ fs
 unpack-pack [] [] h = refl
 unpack-pack [] (f ∷ fs) h = absurd h
 unpack-pack (bits b ∷ ps) [] h = absurd h
 unpack-pack (bits b ∷ ps) (f ∷ fs) h =
     ap₂ _∷_
     (ap (λ (x : ℕ). x % 2 ^ b) (high f (width ps) (pack-lt ps fs (h .1))) ∙ mod-eq-of-lt (h .0))
-    (sym (unpack-low ps 0 (f * 2 ^ width ps + pack ps fs)) ∙ ap (unpack ps) (tail f ps fs (h .1)) ∙ unpack-pack ps fs (h .1))
+    (sym (unpack-low ps 0 (f * 2 ^ width ps + packParts ps fs)) ∙ ap (unpack ps) (tail f ps fs (h .1)) ∙ unpack-pack ps fs (h .1))
 unpack-pack (zeros b ∷ ps) fs h = unpack-pack ps fs h
 
-pub pack-clean : (ps : List Part) (fs : List ℕ) → Fit ps fs → Clean ps (pack ps fs)
+pub pack-clean : (ps : List Part) (fs : List ℕ) → FieldsFit ps fs → Clean ps (packParts ps fs)
 pack-clean [] fs h = tt
 pack-clean (bits b ∷ ps) [] h = absurd h
 pack-clean (bits b ∷ ps) (f ∷ fs) h =
-    clean-low ps 0 (f * 2 ^ width ps + pack ps fs) (rw (tail f ps fs (h .1)) (pack-clean ps fs (h .1)))
+    clean-low ps 0 (f * 2 ^ width ps + packParts ps fs) (rw (tail f ps fs (h .1)) (pack-clean ps fs (h .1)))
 pack-clean (zeros b ∷ ps) fs h =
     (ap (λ (x : ℕ). x % 2 ^ b) (div-eq-of-lt (pack-lt ps fs h)) ∙ zero-mod (2 ^ b), pack-clean ps fs h)

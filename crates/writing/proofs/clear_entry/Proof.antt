@@ -1,3 +1,4 @@
+-- src/lib.rt, clear_entry: Is t′ (putSlot (view t) (p .0) (i .0) none false)
 use Rattle.writing.specs.Laws.Stored.{entry-cleared}
 use borrow.Author.Needs.{needs}
 use Rattle.writing.proofs.clear_entry.Statement.{statement}

@@ -1,3 +1,4 @@
+-- src/lib.rt, clear_record: Is t′ (clearRecord (view t) (p .0))
 use Prim.Native.Nat.{_-_}
 use Rattle.writing.specs.Laws.Clearing.{Clearing, clear-start, clear-on, clear-end}
 use native.Mathlib.Omega.{arith}

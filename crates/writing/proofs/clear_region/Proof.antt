@@ -1,3 +1,4 @@
+-- src/lib.rt, clear_region: Is t′ (putRegion (view t) (p .0) r none)
 use Rattle.writing.specs.Laws.Stored.{region-cleared}
 use borrow.Author.Needs.{needs}
 use Rattle.writing.proofs.clear_region.Statement.{statement}

@@ -1,3 +1,4 @@
+-- src/lib.rt, clear_structure: Is t′ (putStructure (view t) (p .0) j none)
 use Rattle.writing.specs.Laws.Stored.{structure-cleared}
 use borrow.Author.Needs.{needs}
 use Rattle.writing.proofs.clear_structure.Statement.{statement}

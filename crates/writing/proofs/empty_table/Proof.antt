@@ -1,3 +1,4 @@
+-- src/lib.rt, empty_table: Is t′ (emptyTable (base .0) (end .0))
 use Rattle.writing.specs.Laws.Empty.{empty-is}
 use borrow.Author.Needs.{needs}
 use Rattle.writing.proofs.empty_table.Statement.{statement}

@@ -1,3 +1,4 @@
+-- src/lib.rt, put_current: Is t′ (putCurrent (view t) (c .0))
 use Rattle.writing.specs.Laws.Stored.{current-stored}
 use borrow.Author.Needs.{needs}
 use Rattle.writing.proofs.put_current.Statement.{statement}

@@ -1,3 +1,4 @@
+-- src/lib.rt, put_entry: Is t′ (putSlot (view t) (p .0) (i .0) (some (entryOf f)) (f .opened))
 use Rattle.writing.specs.Laws.Stored.{entry-stored}
 use borrow.Author.Needs.{needs}
 use Rattle.writing.proofs.put_entry.Statement.{statement}

@@ -1,3 +1,4 @@
+-- src/lib.rt, put_header: Is t′ (putHeader (view t) (p .0) (f .parent .0) (some (span (f .start) (f .end))))
 use Rattle.writing.specs.Laws.Stored.{header-stored}
 use borrow.Author.Needs.{needs}
 use Rattle.writing.proofs.put_header.Statement.{statement}

@@ -1,3 +1,4 @@
+-- src/lib.rt, put_region: Is t′ (putRegion (view t) (p .0) r (some (slot .0)))
 use Rattle.writing.specs.Laws.Stored.{region-stored}
 use borrow.Author.Needs.{needs}
 use Rattle.writing.proofs.put_region.Statement.{statement}

@@ -1,3 +1,4 @@
+-- src/lib.rt, put_structure: Is t′ (putStructure (view t) (p .0) j (some (span (f .start) (f .end))))
 use Rattle.writing.specs.Laws.Stored.{structure-stored}
 use borrow.Author.Needs.{needs}
 use Rattle.writing.proofs.put_structure.Statement.{statement}

@@ -1,3 +1,4 @@
+-- src/merge_service.rt, contains_both: r ≡ containsBoth (c .0) (entryOf e) (entryOf f) (entryIn g)
 use mathlib.Core.Path.{refl}
 use borrow.Author.Tests.{not-true, not-false}
 use Rattle.tables.specs.View.{entryIn}

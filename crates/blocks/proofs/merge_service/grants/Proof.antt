@@ -1,3 +1,4 @@
+-- src/merge_service.rt, grants: r ≡ grants (c .0) (entryOf e) (entryOf g)
 use mathlib.Core.Path.{refl}
 use borrow.Author.Tests.{eq-eqb, ne-eqb, le-leb, lt-leb}
 use Rattle.sound.specs.Clauses.{grants}

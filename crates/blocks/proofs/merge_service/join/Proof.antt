@@ -1,3 +1,4 @@
+-- src/merge_service.rt, join: Is t′ (joinedAt (view t) (c .0) (s .0) (u .0) e f)
 use Rattle.tables.specs.State.{Table, some, endingAt}
 use Rattle.tables.specs.View.{entryOf}
 use Rattle.tables.specs.Laws.Encode.{is-canon}

@@ -1,3 +1,4 @@
+-- src/merge_service.rt, may_join: r ≡ mayJoin (view t .k) (c .0) (entryOf e) (entryOf f)
 use Rattle.blocks.specs.Laws.MergeExits.{joins-root, joins-granted}
 use borrow.Author.Needs.{needs}
 use Rattle.blocks.proofs.merge_service.may_join.Statement.{statement}

@@ -1,3 +1,4 @@
+-- src/merge_service.rt, merge: Ran (merge (view t) (s .0) (u .0)) t r t′
 use borrow.Author.Tests.{not-true, not-false}
 use Rattle.rules.specs.Laws.Ran.{ran-refused}
 use Rattle.blocks.specs.Laws.MergeExits.{merge-none, merge-other-none}

@@ -1,3 +1,4 @@
+-- src/merge_service.rt, merge_entries: Ran (merge (view t) (s .0) (u .0)) t r t′
 use mathlib.Core.Path.{sym, _∙_}
 use borrow.Author.Tests.{not-true, not-false}
 use Rattle.rules.specs.Laws.Ran.{ran-refused}

@@ -1,3 +1,4 @@
+-- src/merge_service.rt, one_grant: r ≡ any 32 (λ i. containsBoth (c .0) (entryOf e) (entryOf f) (view t .k .slot (q .0) i))
 use Prim.Native.Nat.{_-_}
 use Rattle.loops.specs.Laws.Every.{Missing}
 use Rattle.loops.specs.Laws.Scan.{seek-start, seek-hit, seek-on, seek-end}

@@ -1,3 +1,4 @@
+-- src/pick.rt, free_entry: Picks t (s .0) r
 use borrow.Author.Tests.{not-true, not-false}
 use Rattle.blocks.specs.Laws.Pick.{pick-none, pick-closed, pick-given, pick-free}
 use borrow.Author.Needs.{needs}

@@ -1,3 +1,4 @@
+-- src/take_service.rt, is_returned: r ≡ returned (view t) (entryOf e) (i .0)
 use borrow.Author.Tests.{not-true, not-false}
 use Rattle.blocks.specs.Laws.TakeExits.{returned-none, returned-given, returned-start, returned-end, returned-open}
 use borrow.Author.Needs.{needs}

@@ -1,3 +1,4 @@
+-- src/take_service.rt, returned_slot: r ≡ foundOf (lowest 32 (returned (view t) (entryOf e)))
 use mathlib.Core.Path.{ap, sym, _∙_}
 use Prim.Native.Nat.{_-_}
 use Rattle.loops.specs.Laws.Scan.{Seeking, seek-start, seek-hit, seek-on, seek-end}

@@ -1,3 +1,4 @@
+-- src/take_service.rt, take: Ran (take (view t) (s .0)) t r t′
 use borrow.Author.Tests.{not-true, not-false}
 use Rattle.blocks.specs.Laws.TakeExits.{take-none, take-not-given}
 use borrow.Author.Needs.{needs}

@@ -1,3 +1,4 @@
+-- src/take_service.rt, take_back: Is t′ (takenBack (view t) (c .0) (s .0) (i .0) e)
 use mathlib.Core.Bool.{false}
 use Rattle.tables.specs.State.{Table, none}
 use Rattle.tables.specs.Laws.Encode.{is-canon}

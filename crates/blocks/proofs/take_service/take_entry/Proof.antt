@@ -1,3 +1,4 @@
+-- src/take_service.rt, take_entry: Ran (take (view t) (s .0)) t r t′
 use mathlib.Core.Path.{sym, _∙_}
 use Rattle.tables.specs.Laws.Search.{lowest-some}
 use Rattle.tables.specs.Laws.Answers.{found-is}

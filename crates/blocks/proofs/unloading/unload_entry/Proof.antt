@@ -1,3 +1,4 @@
+-- src/unloading.rt, unload_entry: Is t′ (unloadedAt (view t) (c .0) (s .0))
 use Rattle.tables.specs.State.{Table}
 use Rattle.tables.specs.Laws.Encode.{is-canon}
 use Rattle.tables.specs.Kept.{keepRegions}

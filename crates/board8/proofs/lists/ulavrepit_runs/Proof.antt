@@ -1,3 +1,4 @@
+-- src/lists.rt, ulavrepit_runs: RunsLent V8 table list r list′
 -- `board8::lists::ulavrepit_runs` meets its contract: a walk of its MIR, by hand, for a list of structs that is lent has no walk of its own.
 -- The borrow of the list is opened once, at the start, and closed once, after the loop. Between the two the memory is the function's own: the list with the
 -- first i runs stored. The marks lie in a local, among words. It is lent to `plan_bytes`, which leaves them there, and in each turn to `run_at`, which reads two of them. A turn takes
@@ -61,7 +62,7 @@ use Rattle.runs.specs.Laws.Listing.{plan-fits, marks-at, listed}
 use Rattle.runs.specs.Laws.Stored.{stored, length-stored, stored-is}
 use Rattle.face.specs.declared.lists.Ready.{Ready}
 use Rattle.face.specs.Face.{handed, resultOf}
-use Rattle.face.specs.Lists.{readyOf, leftOf, Handed}
+use Rattle.face.specs.Lists.{readyOf, leftOf, RunsLent}
 use Rattle.face.specs.Laws.Lists.{left-marks}
 use Rattle.runs.proofs.Run as R
 use Rattle.runs.proofs.Run.Laws as R′
@@ -191,7 +192,7 @@ module _ {M : Type 1} (𝓤 : URA M) (H : Heap 𝓤) (A : Atoms 𝓤) (W : Given
   Own = ShrSlice (named 0) κ₀ u8 .own x₀ (s₀ ∷ [])
 
   -- the n runs are stored
-  said : Handed V8 t ys (plan .answer) (zs n)
+  said : RunsLent V8 t ys (plan .answer) (zs n)
   said =
       let h = listed V8 (handed t) ys (left-marks V8 t) in
       record { answer = ap (resultOf 0) (h .outcome); records = stored-is f n ys (plan-fits V8 (handed t) (length ys) .0) ∙ h .records }

@@ -1,3 +1,4 @@
+-- src/regions.rt, pair_bytes: r ≡ pairOn table p s
 use mathlib.Core.Path.{sym, _∙_}
 use Rattle.tables.specs.Laws.Top.{top-at}
 use Rattle.board8.specs.Laws.Regions.{other-length, unsound-words, sound-words}

@@ -1,3 +1,4 @@
+-- src/regions.rt, pair_in: r ≡ entryPair (view t .k .slot p s)
 use mathlib.Core.Path.{_∙_}
 use native.Mathlib.Omega.{arith}
 use Rattle.board8.specs.Laws.Regions.{no-slot, no-entry, is-entry}

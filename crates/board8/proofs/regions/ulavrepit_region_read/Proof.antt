@@ -1,3 +1,4 @@
+-- src/regions.rt, ulavrepit_region_read: ReadLent rbar rlar entry r entry′
 use Rattle.board8.specs.Laws.Regions.{read, read-not}
 use borrow.Author.Needs.{needs}
 use Rattle.board8.proofs.regions.ulavrepit_region_read.Statement.{statement}

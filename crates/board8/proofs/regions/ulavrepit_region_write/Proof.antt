@@ -1,3 +1,4 @@
+-- src/regions.rt, ulavrepit_region_write: WriteLent table partition slot rbar rlar r rbar′ rlar′
 use Rattle.board8.specs.Laws.Regions.{wrote, wrote-not}
 use borrow.Author.Needs.{needs}
 use Rattle.board8.proofs.regions.ulavrepit_region_write.Statement.{statement}

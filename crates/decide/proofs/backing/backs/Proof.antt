@@ -1,3 +1,4 @@
+-- src/backing.rt, backs: r ≡ backs (areaBetween (lo .0) (hi .0)) (entryIn f)
 use mathlib.Core.Path.{refl}
 use borrow.Author.Tests.{not-true, not-false, eq-eqb, ne-eqb}
 use Rattle.tables.specs.View.{entryIn}

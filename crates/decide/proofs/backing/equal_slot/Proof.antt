@@ -1,7 +1,8 @@
+-- src/backing.rt, equal_slot: r ≡ equalSlot (view t .k) (q .0) (areaBetween (lo .0) (hi .0))
 use Prim.Native.Nat.{_-_}
 use Rattle.loops.specs.Laws.Scan.{Seeking, seek-start, seek-hit, seek-on}
 use Rattle.tables.specs.View.{view}
-use Rattle.decide.specs.Backing.{between, backs}
+use Rattle.decide.specs.Backing.{areaBetween, backs}
 use Rattle.decide.specs.Laws.Backing.{backs-empty}
 use Rattle.decide.specs.Laws.Used.{seek-bound}
 use native.Mathlib.Omega.{arith}
@@ -14,7 +15,7 @@ unfolding backs
 equal-slot-spec =
     tie.close
     (tie.spec
-    (λ t q lo hi used i₀ i. Seeking (λ k. backs (between (lo .0) (hi .0)) (view t .k .slot (q .0) k)) (λ k. k) 32 32 i)
+    (λ t q lo hi used i₀ i. Seeking (λ k. backs (areaBetween (lo .0) (hi .0)) (view t .k .slot (q .0) k)) (λ k. k) 32 32 i)
     (λ t q lo hi used i₀ i. used - i)
     (λ c κs. search needs)
     (λ c. seek-start)

@@ -1,3 +1,4 @@
+-- src/entries.rt, entries_right: r ≡ all 32 (entryRight (view t) mark (p .0))
 use mathlib.Core.Path.{ap, sym, _∙_}
 use mathlib.Core.Bool.{not}
 use Prim.Native.Nat.{_-_}

@@ -1,3 +1,4 @@
+-- src/entries.rt, entry_right: r ≡ entryRight (view t) mark (p .0) (i .0)
 use mathlib.Core.Path.{refl, _∙_}
 use borrow.Author.Tests.{not-true, not-false, eq-eqb, ne-eqb}
 use Rattle.tables.specs.View.{entryOf, entryIn}

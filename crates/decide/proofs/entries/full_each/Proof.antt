@@ -1,3 +1,4 @@
+-- src/entries.rt, full_each: r ≡ all 32 (fullSlot (view t .k) (p .0))
 use mathlib.Core.Path.{ap, sym, _∙_}
 use mathlib.Core.Bool.{not}
 use Prim.Native.Nat.{_-_}

@@ -1,3 +1,4 @@
+-- src/entries.rt, full_slot: r ≡ fullSlot (view t .k) (p .0) (i .0)
 use mathlib.Core.Path.{refl}
 use borrow.Author.Tests.{not-true, not-false}
 use Rattle.tables.specs.View.{entryIn}

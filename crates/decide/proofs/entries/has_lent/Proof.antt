@@ -1,3 +1,4 @@
+-- src/entries.rt, has_lent: r ≡ any 32 (λ i. has (lends (p .0) (entryOf f)) (view t .k .slot (q .0) i))
 use Prim.Native.Nat.{_-_}
 use Rattle.loops.specs.Laws.Every.{Missing}
 use Rattle.loops.specs.Laws.Scan.{seek-start, seek-hit, seek-on}

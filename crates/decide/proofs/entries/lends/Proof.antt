@@ -1,3 +1,4 @@
+-- src/entries.rt, lends: r ≡ has (lends (p .0) (entryOf f)) (entryIn g)
 use mathlib.Core.Path.{refl}
 use borrow.Author.Tests.{not-true, not-false, eq-eqb, ne-eqb}
 use Rattle.tables.specs.View.{entryIn}

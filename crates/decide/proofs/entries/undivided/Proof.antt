@@ -1,3 +1,4 @@
+-- src/entries.rt, undivided: r ≡ undivided (view t .k) (p .0) (f .opened) (entryOf f)
 use mathlib.Core.Path.{refl}
 use borrow.Author.Tests.{not-true, not-false, eq-eqb, ne-eqb}
 use Rattle.sound.specs.Clauses.{undivided}

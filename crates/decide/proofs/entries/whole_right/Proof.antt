@@ -1,3 +1,4 @@
+-- src/entries.rt, whole_right: r ≡ (not (f .whole) || undivided (view t .k) (p .0) (f .opened) (entryOf f))
 use Rattle.decide.specs.Laws.Entries.{whole-on, whole-off}
 use borrow.Author.Needs.{needs}
 use Rattle.decide.proofs.entries.whole_right.Statement.{statement}

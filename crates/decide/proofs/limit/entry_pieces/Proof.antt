@@ -1,3 +1,4 @@
+-- src/limit.rt, entry_pieces: (r ≡ entryPieces board (view t .k .slot (p .0) (i .0))) × (r ≤ 52)
 use native.Mathlib.Omega.{arith}
 use borrow.Author.Tests.{not-true, not-false}
 use Rattle.decide.specs.Laws.Limit.{entry-empty, entry-counted}

@@ -1,7 +1,8 @@
+-- src/limit.rt, loaded_pieces: n ≡ piecesOf board (view t) (p .0) f
 use Prim.Native.Nat.{_-_}
 use native.Mathlib.Omega.{arith}
 use Rattle.loops.specs.Laws.Count.{Summing, sum-start, sum-on, sum-end}
-use Rattle.tables.specs.View.{nth, named, view}
+use Rattle.tables.specs.View.{nthRegion, named, view}
 use Rattle.sound.specs.Limit.{regionPieces}
 use Rattle.decide.specs.Limit.{piecesOf}
 use Rattle.decide.specs.Laws.Limit.{counted-small}
@@ -10,7 +11,7 @@ use Rattle.decide.proofs.limit.loaded_pieces.Statement.{statement}
 use Rattle.decide.proofs.limit.loaded_pieces.Tie as tie
 
 abbrev Inv-loop : tie.InvT-loop
-Inv-loop board t p f n₀ r₀ n r = Summing (λ q. regionPieces board (view t .k .slot (p .0)) (named (nth f q))) 52 8 r n
+Inv-loop board t p f n₀ r₀ n r = Summing (λ q. regionPieces board (view t .k .slot (p .0)) (named (nthRegion f q))) 52 8 r n
 
 abbrev μ-loop : tie.MeasureT-loop
 μ-loop board t p f n₀ r₀ n r = 8 - r

@@ -1,3 +1,4 @@
+-- src/limit.rt, region_pieces: (r ≡ regionPieces board (view t .k .slot (p .0)) (named x)) × (r ≤ 52)
 use native.Mathlib.Omega.{arith}
 use borrow.Author.Tests.{not-true, not-false}
 use Rattle.decide.specs.Laws.Limit.{region-empty, region-counted}

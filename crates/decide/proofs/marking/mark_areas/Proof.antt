@@ -1,3 +1,4 @@
+-- src/marking.rt, mark_areas: MarkSays (view t .k) (5 * (p .0 + 1)) r mark′
 use mathlib.Core.Path.{sym, _∙_}
 use Prim.Native.Nat.{_+_, _*_, _-_, _≤_}
 use borrow.Author.Tests.{not-true, not-false}

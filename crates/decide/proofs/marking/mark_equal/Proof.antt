@@ -1,3 +1,4 @@
+-- src/marking.rt, mark_equal: Marks (view t .k) (q .0) (areaBetween (lo .0) (hi .0)) mark r mark′
 use mathlib.Core.Path.{refl}
 use native.Mathlib.Omega.{arith}
 use borrow.Author.Needs.{needs}

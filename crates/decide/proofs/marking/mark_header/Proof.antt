@@ -1,3 +1,4 @@
+-- src/marking.rt, mark_header: MarkSays (view t .k) (5 * p .0 + 1) r mark′
 use mathlib.Core.Path.{sym, _∙_}
 use native.Mathlib.Omega.{arith}
 use borrow.Author.Needs.{needs}

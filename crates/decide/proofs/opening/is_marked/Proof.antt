@@ -1,3 +1,4 @@
+-- src/opening.rt, is_marked: r ≡ marked mask (i .0)
 use mathlib.Core.Path.{refl}
 use Rattle.decide.specs.Opening.{marked}
 use borrow.Author.Needs.{needs}

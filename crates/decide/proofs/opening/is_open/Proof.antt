@@ -1,3 +1,4 @@
+-- src/opening.rt, is_open: r ≡ isOpen (view t) (p .0) (i .0)
 use mathlib.Core.Path.{refl}
 use Rattle.tables.specs.Laws.Search.{entry-some}
 use Rattle.decide.specs.Opening.{isOpen}

@@ -1,3 +1,4 @@
+-- src/opening.rt, noted: r ≡ slotNoted mask x
 use borrow.Author.Tests.{not-true, not-false}
 use Rattle.decide.specs.Laws.Regions.{noted-none, noted-loaded}
 use borrow.Author.Needs.{needs}

@@ -1,3 +1,4 @@
+-- src/opening.rt, region_weight: (r ≡ weight board (view t) (p .0) mask x) × (r ≤ 52)
 use mathlib.Core.Path.{sym, _∙_}
 use native.Mathlib.Omega.{arith}
 use borrow.Author.Tests.{not-true, not-false}

@@ -1,3 +1,4 @@
+-- src/opening.rt, regions_right: r ≡ s10 board (view t) (p .0)
 use mathlib.Core.Path.{sym, _∙_}
 use Prim.Native.Nat.{_-_}
 use native.Mathlib.Omega.{arith}

@@ -1,3 +1,4 @@
+-- src/tiles.rt, covers: r ≡ exactly (view t .k) (p .0) && s11 (view t .k) (p .0) && grantsOpen (view t) (p .0)
 use Rattle.decide.specs.Laws.Tiles.{in-order, child-of}
 use Rattle.decide.specs.Laws.Lines.{root-lacks, root-end}
 use borrow.Author.Needs.{needs}

@@ -1,3 +1,4 @@
+-- src/tiles.rt, follows: r ≡ follows first a b
 use Rattle.decide.specs.Tiles.{follows}
 use borrow.Author.Needs.{needs}
 use Rattle.decide.proofs.tiles.follows.Statement.{statement}

@@ -1,3 +1,4 @@
+-- src/tiles.rt, same_right: r ≡ Bool·beq a b
 use Rattle.decide.specs.Laws.Tiles.{both-true}
 use borrow.Author.Needs.{needs}
 use Rattle.decide.proofs.tiles.same_right.Statement.{statement}

@@ -1,3 +1,4 @@
+-- src/tiles.rt, same_rights: r ≡ sameRights a b
 use mathlib.Core.Path.{refl}
 use borrow.Author.Tests.{not-true, not-false}
 use Rattle.sound.specs.Clauses.{sameRights}

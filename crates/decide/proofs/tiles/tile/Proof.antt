@@ -1,3 +1,4 @@
+-- src/tiles.rt, tile: TiledAs (rowOf t order (p .0)) (openedBit t order (p .0)) n i (lo .0) (hi .0) r opened x
 use mathlib.Core.Path.{_≡_, refl, sym}
 use mathlib.Core.Bool.{true}
 use mathlib.Core.Logic.{_↔_}
@@ -6,8 +7,8 @@ use lib.Dec.{eqb}
 use borrow.Author.Tests.{not-true, not-false, eq-eqb}
 use Rattle.sound.specs.Laws.Tests.{not-says}
 use Rattle.sound.specs.Laws.MeansRegions.{beq-means}
-use Rattle.decide.specs.Tiles.{rowOf, bitOf, Tiling, AllSet}
-use Rattle.decide.specs.Laws.Tiles.{Compared, compare-start, set-start, set-on, few, stuck-as, other-bits, same-bits, tile-start, tile-none, tile-elsewhere, tile-over, tile-unlike, tile-next, compare-next, not-first}
+use Rattle.decide.specs.Tiles.{rowOf, openedBit, Tiling, AllSet}
+use Rattle.decide.specs.Laws.Tiles.{ComparedWith, compare-start, set-start, set-on, few, stuck-as, other-bits, same-bits, tile-start, tile-none, tile-elsewhere, tile-over, tile-unlike, tile-next, compare-next, not-first}
 use native.Mathlib.Omega.{arith}
 use borrow.Author.Needs.{needs}
 use Rattle.decide.proofs.tiles.tile.Statement.{statement}
@@ -17,7 +18,7 @@ pub tile-spec : {M : Type 1} → statement M
 tile-spec =
     tie.close
     (tie.spec
-    (λ t p order n i hi opened lo k₀ r first₀ all₀ at k s first all. (k ≤ n) × Tiling (rowOf t order (p .0)) i k (lo .0) (hi .0) (at .0) r × Compared (rowOf t order (p .0)) i k r s × (first ≡ eqb k i) × ((all ≡ true) ↔ AllSet (bitOf t order (p .0)) i k))
+    (λ t p order n i hi opened lo k₀ r first₀ all₀ at k s first all. (k ≤ n) × Tiling (rowOf t order (p .0)) i k (lo .0) (hi .0) (at .0) r × ComparedWith (rowOf t order (p .0)) i k r s × (first ≡ eqb k i) × ((all ≡ true) ↔ AllSet (openedBit t order (p .0)) i k))
     (λ t p order n i hi opened lo k₀ r first₀ all₀ at k s first all. n - k)
     (λ c. (c .pre .1, tile-start, compare-start, sym (eq-eqb (c .args .i) (c .args .i) refl), set-start))
     (λ c. let d = c .before .before .before .before in stuck-as (few (d .before .pre .0)) (tile-none (d .before .pre .0) (d .loop .inv .1) (omega arith) (omega arith)))

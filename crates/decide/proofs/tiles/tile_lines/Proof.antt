@@ -1,3 +1,4 @@
+-- src/tiles.rt, tile_lines: Tiled (plainRow t order (p .0)) n i (lo .0) (hi .0) allRights x
 use Prim.Native.Nat.{_-_, _≤_}
 use native.Mathlib.Omega.{arith}
 use Rattle.tables.specs.State.{allRights}

@@ -1,3 +1,4 @@
+-- src/tiles.rt, tiles_grants: r ≡ exactly (view t .k) (p .0) && s11 (view t .k) (p .0) && grantsOpen (view t) (p .0)
 use mathlib.Core.Logic.{⊎-elim}
 use Prim.Native.Nat.{_-_}
 use Rattle.decide.specs.Laws.Tiles.{Walked, walk-start, walk-skip, walk-on, walk-stuck, walk-end}

@@ -1,3 +1,4 @@
+-- src/tiles.rt, tiles_whole: r ≡ exactly (view t .k) (p .0)
 use Rattle.decide.specs.Laws.Lines.{root-walk}
 use borrow.Author.Needs.{needs}
 use Rattle.decide.proofs.tiles.tiles_whole.Statement.{statement}

@@ -1,5 +1,6 @@
+-- src/check.rt, check_bytes: r ≡ resultOf 0 (checked (imageVerdict board table))
 use mathlib.Core.Path.{sym, subst}
-use Rattle.verdict.specs.Verdict.{Few}
+use Rattle.verdict.specs.Verdict.{ClauseNamed}
 use Rattle.verdict.specs.Theorem.{image-few}
 use borrow.Author.Needs.{needs}
 use Rattle.face.proofs.check.check_bytes.Statement.{statement}
@@ -10,5 +11,5 @@ check-bytes-spec =
     tie.close
     (tie.spec
     (λ c κs. search needs)
-    (λ c κs. subst Few (sym (c .of-image .ensures)) (image-few _ _))
+    (λ c κs. subst ClauseNamed (sym (c .of-image .ensures)) (image-few _ _))
     (λ c. rw (← c .before .of-image .ensures) (c .verdict-word .ensures)))

@@ -1,3 +1,4 @@
+-- src/check.rt, verdict_word: r ≡ resultOf 0 (checked v)
 use mathlib.Core.Path.{ap, sym, _∙_}
 use Rattle.verdict.specs.Verdict.{checked}
 use Rattle.verdict.specs.declared.Verdict.{Verdict}

@@ -1,3 +1,4 @@
+-- src/lists.rt, answer_word: r ≡ resultOf 0 o
 use mathlib.Core.Path.{ap, sym, subst, _∙_}
 use Rattle.face.specs.Face.{resultOf}
 use Rattle.face.specs.Lists.{Small}

@@ -1,3 +1,4 @@
+-- src/lists.rt, pieces_bytes: PiecesLent board table partition slot list r list′
 use mathlib.Core.Path.{refl, sym, subst}
 use native.Mathlib.Omega.{arith}
 use borrow.Author.Needs.{needs}

@@ -1,3 +1,4 @@
+-- src/lists.rt, plan_bytes: (r ≡ readyOf board table size) × (now (words .exit) ≡ leftOf board table)
 use mathlib.Core.Path.{refl, ap, sym, subst, _∙_}
 use mathlib.Core.List.{List}
 use Prim.Native.Nat.{ℕ}

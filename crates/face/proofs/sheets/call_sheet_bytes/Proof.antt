@@ -1,7 +1,8 @@
+-- src/sheets.rt, call_sheet_bytes: CallSheetLent board table sheet word second r table′ sheet′ second′
 use mathlib.Core.Path.{refl, sym, _∙_}
 use borrow.Author.Tests.{not-true, not-false}
 use Rattle.tables.specs.Laws.Top.{top-at}
-use Rattle.rules.specs.Laws.Brief.{call-brief, first-small, number-small}
+use Rattle.rules.specs.Laws.Brief.{call-brief, brief-first, number-small}
 use Rattle.sheet.specs.Laws.Bytes.{matches-length}
 use Rattle.face.specs.Laws.Face.{call-tells, call-told, call-caller}
 use Rattle.face.specs.Laws.Sheets.{loaded-right, called-right, call-short, call-unsound, call-mismatch, call-neither, call-both}
@@ -39,7 +40,7 @@ call-sheet-bytes-spec =
     let answer = c .before .before .before .before .before .before .before .serve-word .ensures in
     let done = c .before .before .before .before .outcome .given .1 in
     (size, matches-length _ _ (sym (c .before .before .before .before .before .before .before .before .before .before .before .before .is-sheet .ensures) ∙ not-false _ (c .before .before .before .before .before .before .before .before .before .before .before .if3 .left)), call-tells _ size load answer (λ i. small i .fits) done, call-told _ size load answer (λ i. small i .fits) done, called-right _ _ load (λ i. small i .fits) answer done, c .before .before .before .before .before .before .before .before .before .touched .ensures .1))
-    (λ c κs. (omega arith, omega (arith, call-caller _ (c .before .before .before .before .before .before .before .before .before .before .before .before .before .before .before .before .before .before .before .before .before .before .before .before .before .before .if1 .left) (c .before .before .before .before .before .before .before .before .before .before .before .before .before .before .before .before .before .before .before .before .before .before .before .load .ensures .0) (c .before .before .before .before .before .before .before .before .before .before .before .before .serve-word .ensures)), omega (arith, first-small (call-brief _ _ _) (sym (c .before .before .before .before .before .before .before .before .before .before .before .before .serve-word .ensures .ran .outcome) ∙ c .before .before .before .before .before .before .before .before .before .outcome .given .1))))
+    (λ c κs. (omega arith, omega (arith, call-caller _ (c .before .before .before .before .before .before .before .before .before .before .before .before .before .before .before .before .before .before .before .before .before .before .before .before .before .before .if1 .left) (c .before .before .before .before .before .before .before .before .before .before .before .before .before .before .before .before .before .before .before .before .before .before .before .load .ensures .0) (c .before .before .before .before .before .before .before .before .before .before .before .before .serve-word .ensures)), omega (arith, brief-first (call-brief _ _ _) (sym (c .before .before .before .before .before .before .before .before .before .before .before .before .serve-word .ensures .ran .outcome) ∙ c .before .before .before .before .before .before .before .before .before .outcome .given .1))))
     (λ c. search needs)
     (λ c κs. (omega (arith, number-small (call-brief _ _ _) (sym (c .before .before .before .before .serve-word .ensures .ran .outcome) ∙ c .before .outcome2 .given .1)), omega (arith, call-caller _ (c .before .before .before .before .before .before .before .before .before .before .before .before .before .before .before .before .before .before .if1 .left) (c .before .before .before .before .before .before .before .before .before .before .before .before .before .before .before .load .ensures .0) (c .before .before .before .before .serve-word .ensures)), omega arith))
     (λ c. search needs)

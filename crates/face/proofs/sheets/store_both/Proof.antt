@@ -1,3 +1,4 @@
+-- src/sheets.rt, store_both: (now (table .exit) ≡ cond stands table (bytesOf t)) × (now (sheet .exit) ≡ cond stands sheet (sheetKept x (view t) sheet))
 use mathlib.Core.Path.{refl}
 use borrow.Author.Needs.{needs}
 use Rattle.face.proofs.sheets.store_both.Statement.{statement}

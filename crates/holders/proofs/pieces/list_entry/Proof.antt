@@ -1,3 +1,4 @@
+-- src/pieces.rt, list_entry: SlotListed board (view t .k .slot (p .0) (s .0)) list r list′
 use native.Mathlib.Omega.{arith}
 use borrow.Author.Tests.{not-true, not-false}
 use Rattle.holders.specs.Laws.Listing.{slot-none, can-list, slot-short, slot-listed}

@@ -1,3 +1,4 @@
+-- src/pieces.rt, pieces: PiecesListed board t partition slot list r list′
 use Rattle.tables.specs.Laws.Top.{top-16}
 use Rattle.sound.specs.Laws.Holders.{wrong-length}
 use Rattle.holders.specs.Laws.Listing.{pieces-unsound, pieces-copy}

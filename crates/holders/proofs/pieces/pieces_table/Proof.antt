@@ -1,3 +1,4 @@
+-- src/pieces.rt, pieces_table: PiecesListed board t partition slot list r list′
 use mathlib.Core.Path.{sym, _∙_}
 use borrow.Author.Tests.{not-true}
 use native.Mathlib.Omega.{arith}

@@ -1,3 +1,4 @@
+-- src/pair_word.rt, fields: r ≡ fieldsIn pair w
 use native.Mathlib.Nat.{div-one}
 use Rattle.pairs.specs.Word.{pair}
 use borrow.Author.Needs.{needs}

@@ -1,5 +1,6 @@
+-- src/pair_word.rt, write: r ≡ writing pair f
 use mathlib.Core.Path.{sym, ap, _∙_}
-use Rattle.words.specs.Kind.{write-done, write-refused}
+use Rattle.words.specs.Laws.Kind.{write-done, write-refused}
 use Rattle.pairs.specs.Laws.Word.{pair-range}
 use Rattle.pairs.specs.Word.{pair}
 use Rattle.words.specs.declared.Written.the-variants.{Word}

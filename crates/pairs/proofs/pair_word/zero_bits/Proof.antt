@@ -1,3 +1,4 @@
+-- src/pair_word.rt, zero_bits: r ≡ zeroSum (pair .parts) w
 use native.Mathlib.Nat.{add-zero}
 use Rattle.pairs.specs.Word.{pair}
 use borrow.Author.Needs.{needs}

@@ -1,3 +1,4 @@
+-- src/listing.rt, plan_of: (r ≡ planOf board t size) × (now (t .exit) ≡ marksIn board t)
 use mathlib.Core.Path.{refl, _∙_}
 use native.Mathlib.Omega.{arith}
 use borrow.Author.Needs.{needs}

@@ -1,3 +1,4 @@
+-- src/listing.rt, run_at: r ≡ runAt marks i
 use borrow.Author.Needs.{needs}
 use mathlib.Core.Path.{ap, _∙_}
 use Prim.Native.Nat.{ℕ}

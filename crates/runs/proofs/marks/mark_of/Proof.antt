@@ -1,3 +1,4 @@
+-- src/marks.rt, mark_of: r ≡ markFor (line .0) (holder .0)
 use mathlib.Core.Path.{_∙_}
 use borrow.Author.Needs.{needs}
 use Rattle.runs.specs.Laws.Ways.{kept-mark}

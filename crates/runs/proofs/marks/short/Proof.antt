@@ -1,3 +1,4 @@
+-- src/marks.rt, short: r ≡ wordWritten word
 use mathlib.Core.Path.{subst}
 use borrow.Author.Needs.{needs}
 use Rattle.runs.specs.Ways.{Short}

@@ -1,3 +1,4 @@
+-- src/pieces.rt, climb: Climbed way depth (l .0) r
 use mathlib.Core.Path.{ap}
 use native.Mathlib.Omega.{arith}
 use borrow.Author.Needs.{needs}

@@ -1,3 +1,4 @@
+-- src/pieces.rt, hop_at: Hopped (view t .k) (l .0) (p .0) r × Passed (view t .k) order (l .0) places′
 use native.Mathlib.Omega.{arith}
 use borrow.Author.Needs.{needs}
 use Prim.Native.Nat.{_-_}

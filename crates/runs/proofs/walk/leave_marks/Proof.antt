@@ -1,3 +1,4 @@
+-- src/walk.rt, leave_marks: (r ≡ length (runsOf (view t .k))) × (now (t .exit) ≡ marksOver 641 (view t .k) t)
 use mathlib.Core.Path.{refl, ap, _∙_}
 use mathlib.Core.List.{List}
 use Prim.Native.Nat.{ℕ}

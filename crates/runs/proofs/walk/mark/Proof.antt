@@ -1,3 +1,4 @@
+-- src/walk.rt, mark: Marked marks n (last .0) (start .0) (deepest .0) r marks′
 use native.Mathlib.Omega.{arith}
 use borrow.Author.Needs.{needs}
 use Rattle.runs.specs.Laws.Marks.{marked-same, marked-new}

@@ -1,3 +1,4 @@
+-- src/walk.rt, mark_runs: (r ≡ length (runsOf (view t .k))) × (now (marks .exit) ≡ marksOver 513 (view t .k) marks)
 -- `runs::walk::mark_runs` meets its contract: at each turn the marks are those of the runs behind, and the way is that of the line.
 use mathlib.Core.Path.{sym}
 use native.Mathlib.Omega.{arith}

@@ -1,3 +1,4 @@
+-- src/boot_service.rt, boot_table: Ran (bootOn t base end) t r t′
 use Rattle.rules.specs.Laws.Ran.{ran-refused, ran-done}
 use Rattle.services.specs.Laws.Boot.{boot-empty, boot-high, boot-done}
 use native.Mathlib.Omega.{arith}

@@ -1,3 +1,4 @@
+-- src/boot_service.rt, put_root: now (t .exit) ≡ encode (settle (bootK (base .0) (end .0)) (λ p r. none))
 use mathlib.Core.Path.{refl}
 use Rattle.tables.specs.Laws.Encode.{is-canon}
 use Rattle.services.specs.Laws.Boot.{root-words}

@@ -1,3 +1,4 @@
+-- src/calls.rt, call_table: CallAnswers board t word r t′
 use mathlib.Core.Path.{sym, _∙_}
 use borrow.Author.Tests.{not-true, not-false}
 use Rattle.rules.specs.Laws.Calls.{answers-unsound}

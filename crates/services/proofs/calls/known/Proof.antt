@@ -1,3 +1,4 @@
+-- src/calls.rt, known: b ≡ known f
 use mathlib.Core.Path.{refl, _∙_}
 use Rattle.rules.specs.Rules.{uses}
 use Rattle.rules.specs.Laws.Each.{known-at}

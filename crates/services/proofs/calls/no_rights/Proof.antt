@@ -1,3 +1,4 @@
+-- src/calls.rt, no_rights: b ≡ noRights r
 use mathlib.Core.Path.{refl}
 use Rattle.rules.specs.Rules.{noRights}
 use Rattle.services.proofs.calls.no_rights.Statement.{statement}

@@ -1,3 +1,4 @@
+-- src/calls.rt, perform: Ran (perform board (view t) f) t r t′
 use mathlib.Core.Path.{_∙_}
 use mathlib.Core.Bool.{false≢true}
 use Rattle.rules.specs.Laws.Ran.{ran-as}

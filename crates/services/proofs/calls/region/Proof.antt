@@ -1,3 +1,4 @@
+-- src/calls.rt, region: Ran (numbered board 9 (view t) f) t r t′
 use Rattle.rules.specs.Laws.Ran.{ran-as}
 use Rattle.rules.specs.Laws.Each.{region-loads, region-unloads}
 use Rattle.services.proofs.calls.region.Statement.{statement}

@@ -1,3 +1,4 @@
+-- src/calls.rt, region_known: b ≡ regionCall f && unused (record { p = true; s = true; u = true; r = true; l = false; w = false }) f
 use mathlib.Core.Path.{refl}
 use borrow.Author.Tests.{not-true, not-false}
 use Rattle.rules.specs.Rules.{unused, regionCall}

@@ -1,3 +1,4 @@
+-- src/calls.rt, serve: Ran (serve board (view t) f) t r t′
 use mathlib.Core.Path.{sym, _∙_}
 use borrow.Author.Tests.{not-true, not-false}
 use Rattle.rules.specs.Laws.Ran.{ran-refused, ran-as}

@@ -1,3 +1,4 @@
+-- src/calls.rt, serve_word: CallAnswers board t word r t′
 use mathlib.Core.Path.{sym, _∙_}
 use Rattle.sound.specs.Laws.List.{sound-means}
 use Rattle.sound.specs.Laws.Whole.{sound-right}

@@ -1,3 +1,4 @@
+-- src/calls.rt, unused: b ≡ unused (record { p = p; s = s; u = u; r = r; l = l; w = w }) f
 use mathlib.Core.Path.{refl}
 use borrow.Author.Tests.{not-true, not-false}
 use Rattle.rules.specs.Rules.{unused}

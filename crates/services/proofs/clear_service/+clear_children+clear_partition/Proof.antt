@@ -1,3 +1,4 @@
+-- src/clear_service.rt, clear_children: Cleared t (p .0) (r + 1) t′, clear_partition: Cleared t (p .0) r t′
 -- `clear_children` and `clear_partition` call each other: a partition's record is cleared before its children are walked, so each call of `clear_partition` has one present record fewer.
 use mathlib.Core.Path.{sym, _∙_}
 use mathlib.Core.Logic.{⊎-elim}

@@ -1,9 +1,10 @@
+-- src/clear_service.rt, clear_out: Ran (clearOut (view t) (p .0)) t r t′
 use mathlib.Core.Path.{sym, _∙_}
 use borrow.Author.Tests.{not-true, not-false}
 use Rattle.tables.specs.Laws.Encode.{is-canon}
 use Rattle.rules.specs.Rules.{clearOut}
 use Rattle.rules.specs.Laws.Ran.{ran-refused, fail}
-use Rattle.blocks.specs.Laws.SlotExits.{child-now}
+use Rattle.blocks.specs.Laws.GiveExits.{child-now}
 use Rattle.services.specs.Laws.Unsettled.{right-gone, gone-words, gone-ungiven, gone-branch}
 use Rattle.services.specs.Laws.ClearExits.{ungiven-child, clear-done}
 use borrow.Author.Needs.{needs}

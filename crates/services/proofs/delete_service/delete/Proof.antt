@@ -1,9 +1,10 @@
+-- src/delete_service.rt, delete: Ran (delete (view t) (p .0)) t r t′
 use mathlib.Core.Path.{sym, _∙_}
 use borrow.Author.Tests.{not-true, not-false}
 use Rattle.tables.specs.Laws.Encode.{is-canon}
 use Rattle.rules.specs.Rules.{delete}
 use Rattle.rules.specs.Laws.Ran.{ran-refused, fail}
-use Rattle.blocks.specs.Laws.SlotExits.{child-now}
+use Rattle.blocks.specs.Laws.GiveExits.{child-now}
 use Rattle.services.specs.Laws.Unsettled.{right-gone, gone-words, gone-ungiven, gone-cleared}
 use Rattle.services.specs.Laws.DeleteExits.{delete-parent, delete-done}
 use borrow.Author.Needs.{needs}

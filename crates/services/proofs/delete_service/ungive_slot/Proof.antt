@@ -1,3 +1,4 @@
+-- src/delete_service.rt, ungive_slot: Is t′ (ungiveAt (view t) (c .0) (p .0) (i .0))
 use borrow.Author.Tests.{not-true, not-false}
 use Rattle.services.specs.Laws.DeleteExits.{slot-empty, slot-others, slot-ungiven}
 use native.Mathlib.Omega.{arith}

@@ -1,3 +1,4 @@
+-- src/pack.rt, pack: Ran (pack (view t) (p .0)) t r t′
 use mathlib.Core.Path.{sym, _∙_}
 use Prim.Native.Nat.{_-_}
 use native.Mathlib.Omega.{arith}

@@ -1,3 +1,4 @@
+-- src/pack.rt, pack_slot: Turned (view t) (p .0) (i .0) moved t′ r
 use mathlib.Core.Path.{sym, _∙_}
 use borrow.Author.Tests.{not-true, not-false}
 use Rattle.tables.specs.Laws.Search.{lowest-some}

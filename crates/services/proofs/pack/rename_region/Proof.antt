@@ -1,3 +1,4 @@
+-- src/pack.rt, rename_region: Is t′ (renameAt (view t) (p .0) (i .0) (j .0) r)
 use borrow.Author.Tests.{not-true, not-false}
 use Rattle.services.specs.Laws.PackExits.{rename-unloaded, rename-other, rename-hit}
 use borrow.Author.Needs.{needs}

@@ -1,3 +1,4 @@
+-- src/region_services.rt, in_another: b ≡ inAnother (view t) (p .0) (s .0) r q
 use borrow.Author.Tests.{not-true, not-false}
 use Rattle.blocks.specs.Laws.RegionExits.{region-none, region-some, another-same, another-none, another-some}
 use borrow.Author.Needs.{needs}

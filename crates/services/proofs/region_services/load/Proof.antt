@@ -1,3 +1,4 @@
+-- src/region_services.rt, load: Ran (load board (view t) (p .0) (s .0) r) t o t′
 use mathlib.Core.Path.{sym, _∙_}
 use borrow.Author.Tests.{not-true, not-false}
 use Rattle.sound.specs.Laws.Settled.{load-settled, settled-words}

@@ -1,3 +1,4 @@
+-- src/region_services.rt, loaded_elsewhere: b ≡ elsewhere (view t) (p .0) (s .0) r
 use mathlib.Core.Path.{sym, _∙_}
 use Prim.Native.Nat.{_-_}
 use Rattle.loops.specs.Laws.Every.{Missing}

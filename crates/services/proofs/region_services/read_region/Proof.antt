@@ -1,3 +1,4 @@
+-- src/region_services.rt, read_region: Ran (readRegion (view t) (p .0) r) t o t
 use mathlib.Core.Path.{sym, _∙_}
 use borrow.Author.Tests.{not-true, not-false}
 use Rattle.tables.specs.Laws.Encode.{canon-is}

@@ -1,3 +1,4 @@
+-- src/region_services.rt, unload: Ran (unload (view t) (p .0) r) t o t′
 use mathlib.Core.Path.{refl, sym, _∙_}
 use borrow.Author.Tests.{not-true, not-false}
 use Rattle.sound.specs.Laws.Settled.{unload-settled, settled-words}

@@ -1,3 +1,4 @@
+-- src/who.rt, own_or_child: r ≡ ownOrChild (view t .k) (p .0)
 use Rattle.services.specs.Laws.Who.{own-caller, own-other}
 use borrow.Author.Needs.{needs}
 use Rattle.services.proofs.who.own_or_child.Statement.{statement}

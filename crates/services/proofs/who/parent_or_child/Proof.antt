@@ -1,3 +1,4 @@
+-- src/who.rt, parent_or_child: r ≡ parentOrChild (view t .k) (p .0)
 use Rattle.services.specs.Laws.Who.{is-parent, of-root, no-parent}
 use borrow.Author.Needs.{needs}
 use Rattle.services.proofs.who.parent_or_child.Statement.{statement}

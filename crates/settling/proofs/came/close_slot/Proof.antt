@@ -1,3 +1,4 @@
+-- src/came.rt, close_slot: SlotDone (Came (lo .0) (hi .0)) (p .0) (i .0) t t′
 use borrow.Author.Tests.{not-true, not-false}
 use Rattle.settling.specs.Laws.Areas.{off-behind, off-before, on-both}
 use Rattle.settling.specs.Laws.Settled.{stays-closed, stays-open, close-canon, closes}

@@ -1,6 +1,7 @@
+-- src/came.rt, close_slots: RecordDone (Came (lo .0) (hi .0)) (p .0) t t′
 use Prim.Native.Nat.{_-_}
 use Rattle.settling.specs.Settled.{Came}
-use Rattle.settling.specs.Laws.Settled.{RowTo, row-start, row-more, row-end}
+use Rattle.settling.specs.Laws.Settled.{SettledRowTo, row-start, row-more, row-end}
 use native.Mathlib.Omega.{arith}
 use borrow.Author.Needs.{needs}
 use Rattle.settling.proofs.came.close_slots.Statement.{statement}
@@ -10,7 +11,7 @@ pub close-slots-spec : {M : Type 1} → statement M
 close-slots-spec =
     tie.close
     (tie.spec
-    (λ t₀ p lo hi n i₀ t i. RowTo (Came (lo .0) (hi .0)) t₀ (p .0) i t)
+    (λ t₀ p lo hi n i₀ t i. SettledRowTo (Came (lo .0) (hi .0)) t₀ (p .0) i t)
     (λ t₀ p lo hi n i₀ t i. n - i)
     (λ c κs. c .before .pre .2)
     (λ c. row-start (c .before .before .pre .0) (c .before .before .pre .1))

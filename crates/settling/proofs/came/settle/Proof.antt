@@ -1,3 +1,4 @@
+-- src/came.rt, settle: now (t .exit) ≡ encode (settled (view t))
 use Prim.Native.Nat.{_-_}
 use Rattle.settling.specs.Settled.{Came}
 use Rattle.settling.specs.Laws.Settled.{AllTo, all-start, all-more, all-end}

@@ -1,3 +1,4 @@
+-- src/gone.rt, open_slot: SlotDone Gone (p .0) (i .0) t t′
 use borrow.Author.Tests.{not-true, not-false}
 use Rattle.settling.specs.Laws.Settled.{stays-empty, open-stays, opens}
 use borrow.Author.Needs.{needs}

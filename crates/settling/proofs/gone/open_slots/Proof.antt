@@ -1,6 +1,7 @@
+-- src/gone.rt, open_slots: RecordDone Gone (p .0) t t′
 use Prim.Native.Nat.{_-_}
 use Rattle.settling.specs.Settled.{Gone}
-use Rattle.settling.specs.Laws.Settled.{RowTo, row-start, row-more, row-end, near-areas}
+use Rattle.settling.specs.Laws.Settled.{SettledRowTo, row-start, row-more, row-end, near-areas}
 use native.Mathlib.Omega.{arith}
 use borrow.Author.Needs.{needs}
 use Rattle.settling.proofs.gone.open_slots.Statement.{statement}
@@ -10,7 +11,7 @@ pub open-slots-spec : {M : Type 1} → statement M
 open-slots-spec =
     tie.close
     (tie.spec
-    (λ t₀ p n s e m i₀ t i. RowTo Gone t₀ (p .0) i t)
+    (λ t₀ p n s e m i₀ t i. SettledRowTo Gone t₀ (p .0) i t)
     (λ t₀ p n s e m i₀ t i. m - i)
     (λ c κs. c .before .pre .3)
     (λ c. row-start (c .before .before .pre .0) (c .before .before .pre .1))

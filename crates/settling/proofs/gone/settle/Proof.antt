@@ -1,3 +1,4 @@
+-- src/gone.rt, settle: now (t .exit) ≡ encode (settled (view t))
 use mathlib.Core.Path.{refl}
 use Prim.Native.Nat.{_-_}
 use Rattle.tables.specs.Laws.Top.{top-16}

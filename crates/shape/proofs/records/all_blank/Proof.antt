@@ -1,9 +1,10 @@
+-- src/records.rt, all_blank: r ≡ all 8 (λ i. blankRegion (nthRegion f i))
 use mathlib.Core.Path.{ap, sym, _∙_}
 use mathlib.Core.Bool.{not}
 use Prim.Native.Nat.{_-_}
 use Rattle.loops.specs.Laws.Every.{Passing}
 use Rattle.loops.specs.Laws.Scan.{seek-start, seek-hit, seek-on, seek-end}
-use Rattle.tables.specs.View.{nth}
+use Rattle.tables.specs.View.{nthRegion}
 use Rattle.sound.specs.Clauses.{blankRegion}
 use native.Mathlib.Omega.{arith}
 use borrow.Author.Needs.{needs}
@@ -11,7 +12,7 @@ use Rattle.shape.proofs.records.all_blank.Statement.{statement}
 use Rattle.shape.proofs.records.all_blank.Tie as tie
 
 abbrev Inv-loop : tie.InvT-loop
-Inv-loop f i₀ i = Passing (λ r. blankRegion (nth f r)) 8 i
+Inv-loop f i₀ i = Passing (λ r. blankRegion (nthRegion f r)) 8 i
 
 abbrev μ-loop : tie.MeasureT-loop
 μ-loop f i₀ i = 8 - i

@@ -1,3 +1,4 @@
+-- src/records.rt, area_sound: r ≡ areaTest (p .0) j (record { lo = a .0; hi = b .0 })
 use mathlib.Core.Path.{refl, sym, _∙_}
 use Rattle.sound.specs.Clauses.{long}
 use Rattle.shape.specs.Records.{areaTest}

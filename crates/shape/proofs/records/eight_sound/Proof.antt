@@ -1,3 +1,4 @@
+-- src/records.rt, eight_sound: r ≡ slotsTest t (view t .k) (p .0) j
 use mathlib.Core.Path.{ap, sym, _∙_}
 use mathlib.Core.Bool.{not}
 use Prim.Native.Nat.{_+_, _-_, _*_}

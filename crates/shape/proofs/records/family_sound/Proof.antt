@@ -1,3 +1,4 @@
+-- src/records.rt, family_sound: r ≡ s2 t (view t .k) (p .0)
 use mathlib.Core.Path.{refl}
 use mathlib.Core.Bool.{and-false}
 use borrow.Author.Needs.{needs}

@@ -1,3 +1,4 @@
+-- src/records.rt, first_sound: r ≡ s1 (view t .k) && s3First t
 use mathlib.Core.Path.{refl}
 use borrow.Author.Needs.{needs}
 use borrow.Author.Tests.{not-true, not-false, le-ltb, lt-ltb}

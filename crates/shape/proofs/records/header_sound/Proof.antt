@@ -1,3 +1,4 @@
+-- src/records.rt, header_sound: r ≡ headerTest t (view t .k) (p .0)
 use mathlib.Core.Path.{refl}
 use borrow.Author.Needs.{needs}
 use borrow.Author.Tests.{not-true, not-false}

@@ -1,3 +1,4 @@
+-- src/records.rt, is_blank: r ≡ blankRegion x
 use mathlib.Core.Path.{refl}
 use Rattle.sound.specs.Clauses.{blankRegion}
 use Rattle.shape.proofs.records.is_blank.Statement.{statement}

@@ -1,3 +1,4 @@
+-- src/records.rt, is_nowhere: r ≡ isNowhere (record { lo = a .0; hi = b .0 })
 use mathlib.Core.Path.{refl}
 use borrow.Author.Tests.{eq-eqb, ne-eqb}
 use Rattle.sound.specs.Clauses.{isNowhere}

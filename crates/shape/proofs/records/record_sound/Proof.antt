@@ -1,3 +1,4 @@
+-- src/records.rt, record_sound: r ≡ s3 t (p .0) && s4 t (view t .k) (p .0) && s5 t (view t .k) (p .0)
 use mathlib.Core.Path.{refl}
 use borrow.Author.Needs.{needs}
 use borrow.Author.Tests.{not-true, not-false}

@@ -1,3 +1,4 @@
+-- src/records.rt, regions_sound: r ≡ s3Regions t (p .0)
 use mathlib.Core.Path.{refl, sym, _∙_}
 use borrow.Author.Needs.{needs}
 use borrow.Author.Tests.{eqb-true, not-true, not-false}

@@ -1,3 +1,4 @@
+-- src/records.rt, root_sound: r ≡ s2Root (view t .k) (p .0)
 use mathlib.Core.Path.{refl}
 use borrow.Author.Needs.{needs}
 use borrow.Author.Tests.{not-true, not-false}

@@ -1,3 +1,4 @@
+-- src/records.rt, slot_sound: r ≡ s5Slot t (view t .k) (p .0) (i .0)
 use mathlib.Core.Path.{refl, sym, _∙_}
 use borrow.Author.Needs.{needs}
 use borrow.Author.Tests.{not-true, not-false, eqb-true}

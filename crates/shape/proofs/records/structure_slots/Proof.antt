@@ -1,3 +1,4 @@
+-- src/records.rt, structure_slots: r ≡ slotsTest t (view t .k) (p .0) j
 use mathlib.Core.Path.{ap, _∙_}
 use Rattle.tables.specs.Search.{isSome}
 use Rattle.tables.specs.Laws.Search.{structure-some}

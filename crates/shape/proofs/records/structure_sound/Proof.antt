@@ -1,3 +1,4 @@
+-- src/records.rt, structure_sound: r ≡ structureTest t (view t .k) (p .0) j
 use mathlib.Core.Path.{refl, ap}
 use mathlib.Core.Bool.{not, and-true}
 use borrow.Author.Needs.{needs}

@@ -1,3 +1,4 @@
+-- src/rights.rt, rights_within: r ≡ within a b
 use mathlib.Core.Path.{refl}
 use borrow.Author.Tests.{not-true, not-false}
 use Rattle.sound.specs.Clauses.{within}

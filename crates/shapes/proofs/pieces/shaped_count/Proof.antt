@@ -1,6 +1,7 @@
+-- src/pieces.rt, shaped_count: r ≡ length (pieces start end)
 use native.Mathlib.Omega.{arith}
 use Rattle.shapes.specs.Laws.Zeros.{zeros-out, zeros-few}
-use Rattle.shapes.specs.Laws.Counting.{Counting, count-start, count-on, count-end}
+use Rattle.shapes.specs.Laws.Counting.{CountingPieces, count-start, count-on, count-end}
 use borrow.Author.Needs.{needs}
 use Rattle.shapes.proofs.pieces.shaped_count.Statement.{statement}
 use Rattle.shapes.proofs.pieces.shaped_count.Tie as tie
@@ -9,7 +10,7 @@ pub shaped-count-spec : {M : Type 1} → statement M
 shaped-count-spec =
     tie.close
     (tie.spec
-    (λ start end a₀ b₀ n₀ a b n. Counting start end a b n)
+    (λ start end a₀ b₀ n₀ a b n. CountingPieces start end a b n)
     (λ start end a₀ b₀ n₀ a b n. b)
     (λ c. count-start (c .pre))
     (λ c κs. search needs)

@@ -1,3 +1,4 @@
+-- src/pieces.rt, widest: r ≡ widest start end
 use Prim.Native.Nat.{_-_}
 use native.Mathlib.Omega.{arith}
 use Rattle.shapes.specs.Laws.Widest.{Growing, grow-start, grow-some, grow-on, grow-odd, grow-full}

@@ -1,3 +1,4 @@
+-- src/pieces.rt, write_pieces: ShapesListed (piecesFor board start end) list r list′
 use Rattle.shapes.specs.Laws.Listing.{can-list, listed-on}
 use borrow.Author.Needs.{needs}
 use Rattle.shapes.proofs.pieces.write_pieces.Statement.{statement}

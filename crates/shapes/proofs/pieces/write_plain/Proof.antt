@@ -1,3 +1,4 @@
+-- src/pieces.rt, write_plain: ShapesListed (piecesFor V8 start end) list r list′
 use Rattle.shapes.specs.Laws.Listing.{plain-listed}
 use borrow.Author.Needs.{needs}
 use Rattle.shapes.proofs.pieces.write_plain.Statement.{statement}

@@ -1,3 +1,4 @@
+-- src/pieces.rt, write_shaped: ShapesListed (piecesFor V7 start end) list r list′
 use Prim.Native.Nat.{_-_}
 use native.Mathlib.Omega.{arith}
 use Rattle.shapes.specs.Laws.Listing.{Listing, list-start, list-size, list-room, list-within, list-some, list-on, list-end}

@@ -1,3 +1,4 @@
+-- src/pairs.rt, children: ChildrenTo (view t .k) 16 masks′
 use mathlib.Core.Path.{_≡_, refl}
 use Prim.Native.Nat.{_-_, _^_, _≤_}
 use Rattle.tables.specs.View.{view}

@@ -1,3 +1,4 @@
+-- src/pairs.rt, note_child: ChildrenTo (view t .k) (c .0 + 1) masks′
 use mathlib.Core.Path.{refl}
 use borrow.Author.Tests.{not-true, not-false}
 use Rattle.sheet.specs.Laws.Walk.{absent-joins, root-joins, child-room, child-joins}

@@ -1,3 +1,4 @@
+-- src/pairs.rt, structure_bit: (r ≡ bitOf (structured (view t .k) (p .0) j)) × (r ≤ 1)
 use mathlib.Core.Path.{refl}
 use Rattle.tables.specs.Laws.Search.{structure-some}
 use native.Mathlib.Omega.{arith}

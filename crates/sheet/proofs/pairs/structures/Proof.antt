@@ -1,3 +1,4 @@
+-- src/pairs.rt, structures: r ≡ mapOf 4 (structured (view t .k) (p .0))
 use Rattle.loops.specs.Laws.Map.{Mapping, map-start, map-on, map-room, map-end}
 use Rattle.tables.specs.View.{view}
 use Rattle.sheet.specs.Sheet.{structured}

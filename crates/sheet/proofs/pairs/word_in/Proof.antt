@@ -1,3 +1,4 @@
+-- src/pairs.rt, word_in: r ≡ wordIn w
 use mathlib.Core.Path.{ap, sym}
 use Rattle.sheet.specs.Sums.{wordIn}
 use borrow.Author.Needs.{needs}

@@ -1,3 +1,4 @@
+-- src/pairs.rt, words_of: (r .masks ≡ masksWith children (view t) (p .0)) × (r .lines ≡ linesWord (view t) (p .0))
 use mathlib.Core.Path.{sym, _∙_}
 use borrow.Author.Tests.{not-true, not-false}
 use Rattle.sheet.specs.Laws.Words.{pair-none, masks-written, lines-written}

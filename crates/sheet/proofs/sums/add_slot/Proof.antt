@@ -1,3 +1,4 @@
+-- src/sums.rt, add_slot: Adding (view t) (p .0) (i - 1) r
 use borrow.Author.Tests.{not-true, not-false}
 use Rattle.loops.specs.Laws.Map.{map-room}
 use Rattle.sheet.specs.Laws.Sums.{add-entry, skip-slot, held-room, opened-room}

@@ -1,3 +1,4 @@
+-- src/sums.rt, add_structure: Adding (view t) (p .0) (8 * j) r
 use mathlib.Core.Path.{_≡_}
 use Prim.Native.Nat.{_*_, _≤_}
 use borrow.Author.Tests.{not-true}

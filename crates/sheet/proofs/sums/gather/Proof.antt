@@ -1,3 +1,4 @@
+-- src/sums.rt, gather: Adding (view t) (p .0) 0 r
 use Prim.Native.Nat.{_*_, _≤_}
 use Rattle.tables.specs.View.{view}
 use Rattle.sheet.specs.Sums.{Adding}

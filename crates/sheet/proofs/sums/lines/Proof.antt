@@ -1,14 +1,15 @@
+-- src/sums.rt, lines: r ≡ numberOfLines (entryIn f)
 use mathlib.Core.Path.{refl}
 use borrow.Author.Tests.{not-true, not-false}
 use Rattle.tables.specs.View.{entryIn}
-use Rattle.sheet.specs.Sheet.{linesOf}
+use Rattle.sheet.specs.Sheet.{numberOfLines}
 use native.Mathlib.Omega.{arith}
 use borrow.Author.Needs.{needs}
 use Rattle.sheet.proofs.sums.lines.Statement.{statement}
 use Rattle.sheet.proofs.sums.lines.Tie as tie
 
 pub lines-spec : {M : Type 1} → statement M
-unfolding linesOf entryIn
+unfolding numberOfLines entryIn
 lines-spec =
     tie.close
     (tie.spec

@@ -1,3 +1,4 @@
+-- src/sums.rt, open_lines: r ≡ cond (f .opened) (numberOfLines (entryIn f)) 0
 use mathlib.Core.Path.{refl, _∙_}
 use borrow.Author.Tests.{not-true, not-false}
 use Rattle.sheet.specs.Laws.Sums.{open-is}

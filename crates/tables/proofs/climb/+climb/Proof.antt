@@ -1,3 +1,4 @@
+-- src/climb.rt, climb: WentUp (view t .k .parent) (p .0) steps way r way′
 -- The recursion falls by the steps that are left.
 use Prim.Native.Nat.{ℕ, _<_}
 use native.Mathlib.Omega.{arith}

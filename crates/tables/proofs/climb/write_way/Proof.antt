@@ -1,11 +1,12 @@
+-- src/climb.rt, write_way: WayWritten way list r list′
 use native.Mathlib.Omega.{arith}
 use borrow.Author.Needs.{needs}
-use Rattle.tables.specs.Laws.WayUp.{Writing, write-start, same-room, set-room, write-more, write-end}
+use Rattle.tables.specs.Laws.WayUp.{WayWriting, write-start, same-room, set-room, write-more, write-end}
 use Rattle.tables.proofs.climb.write_way.Statement.{statement}
 use Rattle.tables.proofs.climb.write_way.Tie as tie
 
 abbrev Inv-loop : tie.InvT-loop
-Inv-loop way list₀ n₀ left₀ list n left = Writing way list₀ n left list
+Inv-loop way list₀ n₀ left₀ list n left = WayWriting way list₀ n left list
 
 abbrev μ-loop : tie.MeasureT-loop
 μ-loop way list₀ n₀ left₀ list n left = left

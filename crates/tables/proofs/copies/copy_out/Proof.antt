@@ -1,9 +1,10 @@
+-- src/copies.rt, copy_out: now (t .exit) ≡ now (a .entry)
 use mathlib.Core.Path.{refl, sym, _∙_}
 use native.Mathlib.Omega.{arith}
 use borrow.Author.Needs.{needs}
 use Prim.Native.Nat.{_-_}
 use lib.ListN.{getD}
-use Rattle.loops.specs.Rewrite.{Filling}
+use Rattle.loops.specs.Loops.{Filling}
 use Rattle.loops.specs.Laws.Rewrite.{fill-start, fill-put, fill-tab, tab-getD}
 use Rattle.tables.proofs.copies.copy_out.Statement.{statement}
 use Rattle.tables.proofs.copies.copy_out.Tie as tie

@@ -1,3 +1,4 @@
+-- src/read.rt, entry: Seen t (p .0) (i .0) r
 use Rattle.tables.specs.Laws.Seen.{see}
 use Rattle.tables.specs.View.{slotWordAt}
 use borrow.Author.Needs.{needs}

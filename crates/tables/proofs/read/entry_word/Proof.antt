@@ -1,3 +1,4 @@
+-- src/read.rt, entry_word: r ≡ slotWord (view t .k .slot (p .0) (i .0)) (view t .opened (p .0) (i .0))
 use Rattle.tables.specs.Laws.Seen.{word-of}
 use Rattle.tables.specs.View.{slotWordAt}
 use borrow.Author.Needs.{needs}

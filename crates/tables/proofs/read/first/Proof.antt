@@ -1,3 +1,4 @@
+-- src/read.rt, first: SeenFirst t r
 use Rattle.tables.specs.Laws.Seen.{see-first}
 use Rattle.tables.specs.View.{firstWord}
 use borrow.Author.Needs.{needs}

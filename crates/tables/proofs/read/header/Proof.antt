@@ -1,3 +1,4 @@
+-- src/read.rt, header: SeenHeader t (p .0) r
 use Rattle.tables.specs.Laws.Seen.{see-header}
 use native.Mathlib.Nat.{add-zero}
 use Rattle.tables.specs.View.{areaWordAt}

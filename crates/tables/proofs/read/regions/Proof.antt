@@ -1,3 +1,4 @@
+-- src/read.rt, regions: SeenRegions t (p .0) r
 use Rattle.tables.specs.Laws.Seen.{see-regions}
 use Rattle.tables.specs.View.{regionsWordAt}
 use borrow.Author.Needs.{needs}

@@ -1,3 +1,4 @@
+-- src/read.rt, structure: SeenStructure t (p .0) j r
 use Rattle.tables.specs.Laws.Seen.{see-structure}
 use mathlib.Core.Path.{_≡_, ap, _∙_}
 use Prim.Native.Nat.{ℕ, _+_, _*_}

@@ -1,8 +1,9 @@
+-- src/regions.rt, nth: x ≡ nthRegion f r
 use mathlib.Core.Path.{_≡_, refl}
 use Prim.Native.Nat.{ℕ, _+_, _≤_}
 use native.Mathlib.Nat.{pos-of-ne-zero, le-antisymm}
 use native.Mathlib.Omega.{arith}
-use Rattle.tables.specs.View.{nth}
+use Rattle.tables.specs.View.{nthRegion}
 use borrow.Author.Needs.{needs}
 use Rattle.tables.proofs.regions.nth.Statement.{statement}
 use Rattle.tables.proofs.regions.nth.Tie as tie
@@ -12,7 +13,7 @@ past : {k r : ℕ} → k ≤ r → (r ≡ k → ⊥) → k + 1 ≤ r
 past h z = omega arith
 
 pub nth-spec : {M : Type 1} → statement M
-unfolding nth
+unfolding nthRegion
 nth-spec =
     tie.close
     (tie.spec

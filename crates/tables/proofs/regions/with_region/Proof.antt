@@ -1,3 +1,4 @@
+-- src/regions.rt, with_region: g ≡ withRegion f r x
 use mathlib.Core.Path.{refl}
 use borrow.Author.Needs.{needs}
 use Rattle.tables.proofs.regions.with_region.Statement.{statement}

@@ -1,3 +1,4 @@
+-- src/search.rt, absent_partition: r ≡ whichOf (lowest 16 (absentChild (view t .k)))
 use mathlib.Core.Path.{refl, ap}
 use Prim.Native.Nat.{_-_, _<_}
 use Rattle.loops.specs.Laws.Scan.{Seeking, seek-start, seek-hit, seek-on, seek-end}

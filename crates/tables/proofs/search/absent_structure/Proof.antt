@@ -1,3 +1,4 @@
+-- src/search.rt, absent_structure: r ≡ structureOf (lowest 4 (noStructure (view t .k) (p .0)))
 use mathlib.Core.Path.{ap}
 use Prim.Native.Nat.{_-_}
 use Rattle.loops.specs.Laws.Scan.{Seeking, seek-start, seek-hit, seek-on, seek-end}

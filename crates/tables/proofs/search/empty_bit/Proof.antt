@@ -1,3 +1,4 @@
+-- src/search.rt, empty_bit: (r ≡ bitOf (isNone (view t .k .slot (p .0) (i .0)))) × (r ≤ 1)
 use mathlib.Core.Path.{refl}
 use Rattle.tables.specs.Laws.Search.{entry-some}
 use native.Mathlib.Omega.{arith}

@@ -1,8 +1,9 @@
+-- src/search.rt, free_byte: (r ≡ mapFrom (free (view t .k) (p .0)) (8 * j) 8) × (r < 256)
 use mathlib.Core.Path.{ap, _∙_}
 use Prim.Native.Nat.{_*_}
 use native.Mathlib.Omega.{arith}
 use borrow.Author.Tests.{not-true, not-false}
-use Rattle.loops.specs.Bit.{bitOf}
+use Rattle.loops.specs.Loops.{bitOf}
 use Rattle.loops.specs.Laws.Map.{Mapping, map-lt, map-start, map-on, map-room, map-end}
 use Rattle.tables.specs.View.{view}
 use Rattle.tables.specs.Search.{free}

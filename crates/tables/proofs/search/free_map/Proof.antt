@@ -1,3 +1,4 @@
+-- src/search.rt, free_map: r ≡ mapOf 32 (free (view t .k) (p .0))
 use native.Mathlib.Omega.{arith}
 use Rattle.loops.specs.Laws.Map.{map-join}
 use Rattle.tables.specs.View.{view}

@@ -1,3 +1,4 @@
+-- src/search.rt, free_slot: r ≡ foundOf (lowest 32 (free (view t .k) (p .0)))
 use mathlib.Core.Path.{ap}
 use Rattle.loops.specs.Laws.Map.{zeros-none, zeros-first}
 use Rattle.tables.specs.State.{none, some}

@@ -1,3 +1,4 @@
+-- src/search.rt, has_child: r ≡ hasChild (view t .k) (p .0)
 use mathlib.Core.Path.{sym, _∙_}
 use Prim.Native.Nat.{_-_}
 use Rattle.loops.specs.Laws.Every.{Missing}

@@ -1,3 +1,4 @@
+-- src/search.rt, holding_slot: r ≡ lookedOf (lookFor (view t .k) (l .0) (p .0))
 use mathlib.Core.Path.{ap, sym, _∙_}
 use Prim.Native.Nat.{_-_}
 use Rattle.loops.specs.Laws.Scan.{Seeking, seek-start, seek-hit, seek-on, seek-end}

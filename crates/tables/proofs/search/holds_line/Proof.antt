@@ -1,3 +1,4 @@
+-- src/search.rt, holds_line: r ≡ holds (l .0) (view t .k .slot (p .0) (i .0))
 use mathlib.Core.Path.{refl}
 use borrow.Author.Tests.{not-true, not-false, le-leb, lt-leb}
 use Rattle.tables.specs.View.{entryIn}

@@ -1,3 +1,4 @@
+-- src/search.rt, is_child: r ≡ child (view t .k) (p .0) (c .0)
 use mathlib.Core.Path.{refl}
 use borrow.Author.Tests.{not-true, not-false, eq-eqb, ne-eqb}
 use Rattle.tables.specs.Search.{present, child}

@@ -1,3 +1,4 @@
+-- src/search.rt, is_present: r ≡ present (view t .k) (p .0)
 use mathlib.Core.Path.{refl}
 use Rattle.tables.specs.Search.{present}
 use Rattle.tables.specs.Laws.Search.{header-some}

@@ -1,3 +1,4 @@
+-- src/zeros.rt, blank_words: r ≡ zeroBlanks t (p .0)
 use mathlib.Core.Path.{_∙_}
 use Rattle.loops.specs.Laws.Oring.{or-none}
 use Rattle.tables.specs.Laws.Spelling.{blank-word}

@@ -1,4 +1,5 @@
-use Rattle.words.specs.Kind.{zeroed-sum}
+-- src/zeros.rt, first_bits: r ≡ zeroed first (firstWord t)
+use Rattle.words.specs.Laws.Kind.{zeroed-sum}
 use Rattle.words.specs.Words.{first}
 use Rattle.tables.specs.View.{firstWord}
 use borrow.Author.Needs.{needs}

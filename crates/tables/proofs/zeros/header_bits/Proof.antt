@@ -1,5 +1,6 @@
+-- src/zeros.rt, header_bits: r ≡ zeroed header (areaWordAt t (p .0) 0)
 use mathlib.Core.Path.{_∙_}
-use Rattle.words.specs.Kind.{zeroed-sum}
+use Rattle.words.specs.Laws.Kind.{zeroed-sum}
 use Rattle.words.specs.Words.{header}
 use Rattle.tables.specs.Laws.Spelling.{area-word}
 use borrow.Author.Needs.{needs}

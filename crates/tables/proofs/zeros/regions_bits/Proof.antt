@@ -1,5 +1,6 @@
+-- src/zeros.rt, regions_bits: r ≡ zeroed regions (regionsWordAt t (p .0))
 use mathlib.Core.Path.{_∙_}
-use Rattle.words.specs.Kind.{zeroed-sum}
+use Rattle.words.specs.Laws.Kind.{zeroed-sum}
 use Rattle.words.specs.Words.{regions}
 use Rattle.tables.specs.Laws.Spelling.{regions-word}
 use borrow.Author.Needs.{needs}

@@ -1,3 +1,4 @@
+-- src/zeros.rt, regions_word: r ≡ eqb (regionsWordAt t (p .0)) 0
 use mathlib.Core.Path.{refl, _∙_}
 use Rattle.tables.specs.Laws.Spelling.{regions-word}
 use borrow.Author.Needs.{needs}

@@ -1,3 +1,4 @@
+-- src/zeros.rt, slot_word: r ≡ eqb (slotWordAt t (p .0) (i .0)) 0
 use mathlib.Core.Path.{refl, _∙_}
 use Rattle.tables.specs.Laws.Spelling.{slot-word}
 use borrow.Author.Needs.{needs}

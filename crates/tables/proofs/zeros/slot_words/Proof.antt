@@ -1,3 +1,4 @@
+-- src/zeros.rt, slot_words: r ≡ all 8 (λ o. eqb (slotWordAt t (p .0) (8 * j + o)) 0)
 use mathlib.Core.Path.{refl, _∙_}
 use Prim.Native.Nat.{_+_, _-_}
 use lib.ListN.{getD}

@@ -1,5 +1,6 @@
+-- src/zeros.rt, structure_bits: r ≡ zeroed structure (areaWordAt t (p .0) (1 + j))
 use mathlib.Core.Path.{_∙_}
-use Rattle.words.specs.Kind.{zeroed-sum}
+use Rattle.words.specs.Laws.Kind.{zeroed-sum}
 use Rattle.words.specs.Words.{structure}
 use Rattle.tables.specs.Laws.Spelling.{area-word}
 use borrow.Author.Needs.{needs}

@@ -1,3 +1,4 @@
+-- src/zeros.rt, structure_word: r ≡ eqb (areaWordAt t (p .0) (1 + j)) 0
 use mathlib.Core.Path.{refl, _∙_}
 use Rattle.tables.specs.Laws.Spelling.{area-word}
 use borrow.Author.Needs.{needs}

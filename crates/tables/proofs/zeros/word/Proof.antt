@@ -1,3 +1,4 @@
+-- src/zeros.rt, word: r ≡ recordWord t (p .0) o
 use mathlib.Core.Path.{refl}
 use Rattle.tables.specs.View.{recordWord}
 use borrow.Author.Needs.{needs}

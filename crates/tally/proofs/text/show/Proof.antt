@@ -1,3 +1,4 @@
+-- src/text.rt, show: ends without a fault
 use Prim.Native.Nat.{ℕ}
 use lib.ListN.{length-take}
 use native.Mathlib.Omega.{arith}

@@ -1,3 +1,4 @@
+-- src/backed.rt, areas_backed: r ≡ all 5 (s8Backed (view t .k) (p .0))
 use mathlib.Core.Path.{ap, sym, _∙_}
 use mathlib.Core.Bool.{not}
 use Prim.Native.Nat.{_-_, _<_}

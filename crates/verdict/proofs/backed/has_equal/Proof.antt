@@ -1,3 +1,4 @@
+-- src/backed.rt, has_equal: r ≡ equals (view t .k) (q .0) (areaBetween (lo .0) (hi .0))
 use Rattle.verdict.specs.Laws.Backed.{equal-is}
 use borrow.Author.Needs.{needs}
 use Rattle.verdict.proofs.backed.has_equal.Statement.{statement}

@@ -1,3 +1,4 @@
+-- src/backed.rt, header_backed: r ≡ s8Backed (view t .k) (p .0) 0
 use mathlib.Core.Path.{sym, _∙_}
 use borrow.Author.Tests.{not-true, not-false}
 use Rattle.verdict.specs.Laws.Backed.{backed-rooted, header-absent, header-parent}

@@ -1,3 +1,4 @@
+-- src/backed.rt, structure_backed: r ≡ s8Backed (view t .k) (p .0) j
 use mathlib.Core.Path.{sym, _∙_}
 use borrow.Author.Tests.{not-true, not-false}
 use Rattle.verdict.specs.Laws.Backed.{backed-rooted, structure-absent, structure-own, structure-parent}

@@ -1,3 +1,4 @@
+-- src/bits.rt, clean_at: r ≡ (not (eqb (p .0) 0) || s3First t) && s3 t (p .0)
 use mathlib.Core.Path.{refl}
 use borrow.Author.Tests.{not-true, not-false}
 use borrow.Author.Needs.{needs}

@@ -1,3 +1,4 @@
+-- src/bits.rt, first_clean: r ≡ (not (eqb (p .0) 0) || s3First t)
 use mathlib.Core.Path.{refl}
 use borrow.Author.Tests.{eq-eqb, ne-eqb}
 use Rattle.sound.specs.Clauses.{s3First}

@@ -1,3 +1,4 @@
+-- src/bits.rt, structures_clean: r ≡ all 4 (λ j. zeroed structure (areaWordAt t (p .0) (1 + j)))
 use mathlib.Core.Path.{ap, sym, _∙_}
 use mathlib.Core.Bool.{not}
 use Prim.Native.Nat.{_+_, _-_}

@@ -1,3 +1,4 @@
+-- src/early.rt, apart_at: r ≡ s6 (view t .k) (p .0)
 use mathlib.Core.Path.{refl}
 use Rattle.decide.specs.Laws.Arrange.{rowed-says}
 use borrow.Author.Needs.{needs}

@@ -1,3 +1,4 @@
+-- src/early.rt, areas_at: r ≡ s4 t (view t .k) (p .0)
 use Rattle.verdict.specs.Laws.Records.{s4-fails, s4-decides}
 use borrow.Author.Needs.{needs}
 use Rattle.verdict.proofs.early.areas_at.Statement.{statement}

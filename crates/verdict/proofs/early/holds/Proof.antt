@@ -1,3 +1,4 @@
+-- src/early.rt, holds: r ≡ clauseAt board t n (p .0)
 use mathlib.Core.Path.{_≡_}
 use native.Mathlib.Omega.{arith}
 use Rattle.sound.specs.Clauses.{s5, clauseAt}

@@ -1,6 +1,7 @@
+-- src/early.rt, lowest: r ≡ lowestOf board t 96
 use Prim.Native.Nat.{_-_, _≤_}
 use native.Mathlib.Omega.{arith}
-use Rattle.verdict.specs.Laws.Stages.{Cleared, cleared-start, cleared-reached, cleared-hit, cleared-on, cleared-end}
+use Rattle.verdict.specs.Laws.Stages.{NoneFails, cleared-start, cleared-reached, cleared-hit, cleared-on, cleared-end}
 use borrow.Author.Needs.{needs}
 use Rattle.verdict.proofs.early.lowest.Statement.{statement}
 use Rattle.verdict.proofs.early.lowest.Tie as tie
@@ -9,7 +10,7 @@ pub lowest-spec : {M : Type 1} → statement M
 lowest-spec =
     tie.close
     (tie.spec
-    (λ board t m₀ m. Cleared board t m × (m ≤ 96))
+    (λ board t m₀ m. NoneFails board t m × (m ≤ 96))
     (λ board t m₀ m. 96 - m)
     (λ c. (cleared-start, omega arith))
     (λ c. search needs)

@@ -1,3 +1,4 @@
+-- src/given.rt, given_each: r ≡ s7Given (view t .k) (p .0) && s7Whole (view t) (p .0)
 use mathlib.Core.Path.{ap, sym, _∙_}
 use mathlib.Core.Bool.{not}
 use Prim.Native.Nat.{_-_}

@@ -1,3 +1,4 @@
+-- src/given.rt, given_slot: r ≡ givenSlot (view t) (p .0) (i .0)
 use mathlib.Core.Path.{refl}
 use borrow.Author.Tests.{not-true, not-false, eq-eqb, ne-eqb}
 use Rattle.tables.specs.View.{entryIn}

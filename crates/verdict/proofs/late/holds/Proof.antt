@@ -1,3 +1,4 @@
+-- src/late.rt, holds: r ≡ clauseAt board t k (p .0)
 use mathlib.Core.Path.{_≡_}
 use native.Mathlib.Omega.{arith}
 use Rattle.sound.specs.Clauses.{clauseAt}

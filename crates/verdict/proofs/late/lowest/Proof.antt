@@ -1,6 +1,7 @@
+-- src/late.rt, lowest: r ≡ lowestOf board t 176
 use Prim.Native.Nat.{_-_, _≤_}
 use native.Mathlib.Omega.{arith}
-use Rattle.verdict.specs.Laws.Stages.{Cleared, cleared-from, cleared-reached, cleared-hit, cleared-on, cleared-end}
+use Rattle.verdict.specs.Laws.Stages.{NoneFails, cleared-from, cleared-reached, cleared-hit, cleared-on, cleared-end}
 use borrow.Author.Needs.{needs}
 use Rattle.verdict.proofs.late.lowest.Statement.{statement}
 use Rattle.verdict.proofs.late.lowest.Tie as tie
@@ -9,7 +10,7 @@ pub lowest-spec : {M : Type 1} → statement M
 lowest-spec =
     tie.close
     (tie.spec
-    (λ board t order counts n s e m₀ m. Cleared board t m × (96 ≤ m) × (m ≤ 176))
+    (λ board t order counts n s e m₀ m. NoneFails board t m × (96 ≤ m) × (m ≤ 176))
     (λ board t order counts n s e m₀ m. 176 - m)
     (λ c. (cleared-from (c .pre .reached), omega arith, omega arith))
     (λ c. search needs)

@@ -1,3 +1,4 @@
+-- src/late.rt, open_slot: r ≡ openSlot (view t) (p .0) (i .0)
 use borrow.Author.Tests.{not-true, not-false}
 use Rattle.verdict.specs.Laws.Given.{open-empty, open-there}
 use borrow.Author.Needs.{needs}

@@ -1,3 +1,4 @@
+-- src/late.rt, opens_at: r ≡ s9 (view t) (p .0)
 use mathlib.Core.Path.{ap, sym, _∙_}
 use mathlib.Core.Bool.{not}
 use Prim.Native.Nat.{_-_}

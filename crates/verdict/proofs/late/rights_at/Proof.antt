@@ -1,3 +1,4 @@
+-- src/late.rt, rights_at: r ≡ s11 (view t .k) (p .0)
 use Rattle.decide.specs.Laws.Decide.{passed}
 use Rattle.verdict.specs.Laws.Stages.{s11-absent, rights-decide}
 use borrow.Author.Needs.{needs}

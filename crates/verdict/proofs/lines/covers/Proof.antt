@@ -1,3 +1,4 @@
+-- src/lines.rt, covers: r ≡ exactly (view t .k) (p .0)
 use Rattle.decide.specs.Laws.Tiles.{in-order, child-of}
 use borrow.Author.Needs.{needs}
 use Rattle.verdict.proofs.lines.covers.Statement.{statement}

@@ -1,3 +1,4 @@
+-- src/lines.rt, exact_at: r ≡ s7 (view t) (p .0)
 use Rattle.decide.specs.Laws.Decide.{passed}
 use Rattle.verdict.specs.Laws.Stages.{s7-absent, given-fails, exact-decides}
 use borrow.Author.Needs.{needs}

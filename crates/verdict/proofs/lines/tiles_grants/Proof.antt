@@ -1,7 +1,8 @@
+-- src/lines.rt, tiles_grants: r ≡ exactly (view t .k) (p .0)
 use mathlib.Core.Logic.{⊎-elim}
 use Prim.Native.Nat.{_-_}
 use native.Mathlib.Omega.{arith}
-use Rattle.verdict.specs.Laws.Exact.{Walked, walk-start, walk-skip, walk-on, walk-stuck, walk-end}
+use Rattle.verdict.specs.Laws.Exact.{WalkedLines, walk-start, walk-skip, walk-on, walk-stuck, walk-end}
 use borrow.Author.Needs.{needs}
 use Rattle.verdict.proofs.lines.tiles_grants.Statement.{statement}
 use Rattle.verdict.proofs.lines.tiles_grants.Tie as tie
@@ -10,7 +11,7 @@ pub tiles-grants-spec : {M : Type 1} → statement M
 tiles-grants-spec =
     tie.close
     (tie.spec
-    (λ t p q order n m i₀ j₀ i j. Walked t order (p .0) (q .0) n m i j)
+    (λ t p q order n m i₀ j₀ i j. WalkedLines t order (p .0) (q .0) n m i j)
     (λ t p q order n m i₀ j₀ i j. m - j)
     (λ c. walk-start (c .pre))
     (λ c κs. let h = c .before .before .pre .above in (h .inP, omega (arith, h .rows .ordered .few), h .rows .ordered .under _ (omega arith)))

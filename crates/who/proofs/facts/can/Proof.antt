@@ -1,3 +1,4 @@
+-- src/facts.rt, can: r ≡ canWrite board (view t) (p .0) (s .0) (entryOf f) (f .opened)
 use mathlib.Core.Path.{sym, _∙_}
 use borrow.Author.Tests.{not-true, not-false}
 use Rattle.who.specs.Laws.Who.{can-0, can-1, can-2, can-3, can-4, can-5}

@@ -1,3 +1,4 @@
+-- src/facts.rt, entry: r ≡ entryNumbers board (p .0) (s .0) (entryOf f) (f .opened)
 use Rattle.who.specs.Laws.Who.{entry-numbers}
 use borrow.Author.Needs.{needs}
 use Rattle.who.proofs.facts.entry.Statement.{statement}

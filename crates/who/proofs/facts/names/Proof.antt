@@ -1,3 +1,4 @@
+-- src/facts.rt, names: b ≡ namesIt (view t) (p .0) (s .0) r
 use borrow.Author.Tests.{not-true, not-false}
 use Rattle.who.specs.Laws.Who.{names-none, names-some}
 use borrow.Author.Needs.{needs}

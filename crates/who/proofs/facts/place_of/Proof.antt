@@ -1,3 +1,4 @@
+-- src/facts.rt, place_of: r ≡ placeOf (view t .k) (p .0) (l .0)
 use Rattle.tables.specs.Laws.Search.{lowest-some}
 use Rattle.tables.specs.Laws.Answers.{looked-slot}
 use Rattle.who.specs.Laws.Who.{place-none, place-entry, place-empty}

@@ -1,3 +1,4 @@
+-- src/facts.rt, shares: r ≡ shared (view t .k .area (q .0) j) (lo .0) (hi .0)
 use mathlib.Core.Path.{refl}
 use borrow.Author.Tests.{not-true, not-false, lt-ltb, le-ltb}
 use Rattle.tables.specs.View.{structureArea}

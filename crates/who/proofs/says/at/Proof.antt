@@ -1,3 +1,4 @@
+-- src/says.rt, at: ends without a fault
 use Rattle.tables.specs.Laws.Top.{top-16}
 use borrow.Author.Needs.{needs}
 use Rattle.who.proofs.says.at.Statement.{statement}

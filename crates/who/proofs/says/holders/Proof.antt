@@ -1,3 +1,4 @@
+-- src/says.rt, holders: ends without a fault
 use Prim.Native.Nat.{_-_, _≤_}
 use borrow.Author.Needs.{needs}
 use Rattle.who.proofs.says.holders.Statement.{statement}

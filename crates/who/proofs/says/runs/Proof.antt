@@ -1,3 +1,4 @@
+-- src/says.rt, runs: ends without a fault
 use mathlib.Core.Path.{_≡_, ap}
 use Prim.Native.Nat.{ℕ, _-_, _≤_}
 use Rattle.tables.specs.Laws.Top.{top-16}

@@ -1,3 +1,4 @@
+-- src/boot_word.rt, fields: r ≡ fieldsIn boot w
 use mathlib.Core.Path.{refl}
 use Rattle.words.specs.Words.{boot}
 use borrow.Author.Needs.{needs}

@@ -1,5 +1,6 @@
+-- src/boot_word.rt, write: r ≡ writing boot f
 use mathlib.Core.Path.{sym, ap, _∙_}
-use Rattle.words.specs.Kind.{write-done, write-refused}
+use Rattle.words.specs.Laws.Kind.{write-done, write-refused}
 use Rattle.words.specs.Laws.Kinds.{boot-range}
 use Rattle.words.specs.Words.{boot}
 use Rattle.words.specs.declared.Written.the-variants.{Word}

@@ -1,3 +1,4 @@
+-- src/boot_word.rt, zero_bits: r ≡ zeroSum (boot .parts) w
 use native.Mathlib.Nat.{add-zero, div-one}
 use Rattle.words.specs.Words.{boot}
 use Rattle.words.proofs.boot_word.zero_bits.Statement.{statement}

@@ -1,3 +1,4 @@
+-- src/call_word.rt, fields: r ≡ fieldsIn call w
 use mathlib.Core.Path.{refl}
 use Rattle.words.specs.Words.{call}
 use borrow.Author.Needs.{needs}

@@ -1,5 +1,6 @@
+-- src/call_word.rt, write: r ≡ writing call f
 use mathlib.Core.Path.{sym, ap, _∙_}
-use Rattle.words.specs.Kind.{write-done, write-refused}
+use Rattle.words.specs.Laws.Kind.{write-done, write-refused}
 use Rattle.words.specs.Laws.Kinds.{call-range}
 use Rattle.words.specs.Words.{call}
 use Rattle.words.specs.declared.Written.the-variants.{Word}

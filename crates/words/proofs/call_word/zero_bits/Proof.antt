@@ -1,3 +1,4 @@
+-- src/call_word.rt, zero_bits: r ≡ zeroSum (call .parts) w
 use native.Mathlib.Nat.{add-zero, div-one}
 use Rattle.words.specs.Words.{call}
 use Rattle.words.proofs.call_word.zero_bits.Statement.{statement}

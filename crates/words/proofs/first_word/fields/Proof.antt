@@ -1,3 +1,4 @@
+-- src/first_word.rt, fields: r ≡ fieldsIn first w
 use mathlib.Core.Path.{refl}
 use Rattle.words.specs.Words.{first}
 use borrow.Author.Needs.{needs}

@@ -1,6 +1,7 @@
+-- src/first_word.rt, read: r ≡ reading first w
 use mathlib.Core.Path.{sym, ap, _∙_}
 use borrow.Author.Needs.{needs}
-use Rattle.words.specs.Kind.{read-done, read-refused}
+use Rattle.words.specs.Laws.Kind.{read-done, read-refused}
 use Rattle.words.specs.Words.{first}
 use Rattle.words.proofs.first_word.read.Statement.{statement}
 use Rattle.words.proofs.first_word.read.Tie as tie

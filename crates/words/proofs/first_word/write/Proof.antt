@@ -1,5 +1,6 @@
+-- src/first_word.rt, write: r ≡ writing first f
 use mathlib.Core.Path.{sym, ap, _∙_}
-use Rattle.words.specs.Kind.{write-done, write-refused}
+use Rattle.words.specs.Laws.Kind.{write-done, write-refused}
 use Rattle.words.specs.Laws.Kinds.{first-range}
 use Rattle.words.specs.Words.{first}
 use Rattle.words.specs.declared.Written.the-variants.{Word}

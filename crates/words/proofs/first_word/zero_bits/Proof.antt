@@ -1,3 +1,4 @@
+-- src/first_word.rt, zero_bits: r ≡ zeroSum (first .parts) w
 use native.Mathlib.Nat.{add-zero, div-one}
 use Rattle.words.specs.Words.{first}
 use Rattle.words.proofs.first_word.zero_bits.Statement.{statement}

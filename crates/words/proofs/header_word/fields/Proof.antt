@@ -1,3 +1,4 @@
+-- src/header_word.rt, fields: r ≡ fieldsIn header w
 use mathlib.Core.Path.{refl}
 use Rattle.words.specs.Words.{header}
 use borrow.Author.Needs.{needs}

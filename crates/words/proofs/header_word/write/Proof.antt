@@ -1,5 +1,6 @@
+-- src/header_word.rt, write: r ≡ writing header f
 use mathlib.Core.Path.{sym, ap, _∙_}
-use Rattle.words.specs.Kind.{write-done, write-refused}
+use Rattle.words.specs.Laws.Kind.{write-done, write-refused}
 use Rattle.words.specs.Laws.Kinds.{header-range}
 use Rattle.words.specs.Words.{header}
 use Rattle.words.specs.declared.Written.the-variants.{Word}

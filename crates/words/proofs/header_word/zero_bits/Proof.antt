@@ -1,3 +1,4 @@
+-- src/header_word.rt, zero_bits: r ≡ zeroSum (header .parts) w
 use native.Mathlib.Nat.{add-zero, div-one}
 use Rattle.words.specs.Words.{header}
 use Rattle.words.proofs.header_word.zero_bits.Statement.{statement}

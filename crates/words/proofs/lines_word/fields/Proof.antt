@@ -1,3 +1,4 @@
+-- src/lines_word.rt, fields: r ≡ fieldsIn lines w
 use mathlib.Core.Path.{refl}
 use Rattle.words.specs.Words.{lines}
 use borrow.Author.Needs.{needs}

@@ -1,5 +1,6 @@
+-- src/lines_word.rt, write: r ≡ writing lines f
 use mathlib.Core.Path.{sym, ap, _∙_}
-use Rattle.words.specs.Kind.{write-done, write-refused}
+use Rattle.words.specs.Laws.Kind.{write-done, write-refused}
 use Rattle.words.specs.Laws.Kinds.{lines-range}
 use Rattle.words.specs.Words.{lines}
 use Rattle.words.specs.declared.Written.the-variants.{Word}

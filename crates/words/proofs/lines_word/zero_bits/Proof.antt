@@ -1,3 +1,4 @@
+-- src/lines_word.rt, zero_bits: r ≡ zeroSum (lines .parts) w
 use native.Mathlib.Nat.{add-zero, div-one}
 use Rattle.words.specs.Words.{lines}
 use Rattle.words.proofs.lines_word.zero_bits.Statement.{statement}

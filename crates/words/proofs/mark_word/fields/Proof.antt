@@ -1,3 +1,4 @@
+-- src/mark_word.rt, fields: r ≡ fieldsIn mark m
 use native.Mathlib.Nat.{div-one}
 use Rattle.words.specs.Words.{mark}
 use Rattle.words.proofs.mark_word.fields.Statement.{statement}

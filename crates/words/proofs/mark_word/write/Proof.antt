@@ -1,5 +1,6 @@
+-- src/mark_word.rt, write: r ≡ writing mark f
 use mathlib.Core.Path.{sym, ap, _∙_}
-use Rattle.words.specs.Kind.{write-done, write-refused}
+use Rattle.words.specs.Laws.Kind.{write-done, write-refused}
 use Rattle.words.specs.Laws.Kinds.{mark-range}
 use Rattle.words.specs.Words.{mark}
 use Rattle.words.specs.declared.Written.the-variants.{Word}

@@ -1,3 +1,4 @@
+-- src/masks_word.rt, fields: r ≡ fieldsIn masks w
 use mathlib.Core.Path.{refl}
 use Rattle.words.specs.Words.{masks}
 use borrow.Author.Needs.{needs}

@@ -1,5 +1,6 @@
+-- src/masks_word.rt, write: r ≡ writing masks f
 use mathlib.Core.Path.{sym, ap, _∙_}
-use Rattle.words.specs.Kind.{write-done, write-refused}
+use Rattle.words.specs.Laws.Kind.{write-done, write-refused}
 use Rattle.words.specs.Laws.Kinds.{masks-range}
 use Rattle.words.specs.Words.{masks}
 use Rattle.words.specs.declared.Written.the-variants.{Word}

@@ -1,3 +1,4 @@
+-- src/masks_word.rt, zero_bits: r ≡ zeroSum (masks .parts) w
 use native.Mathlib.Nat.{add-zero, div-one}
 use Rattle.words.specs.Words.{masks}
 use Rattle.words.proofs.masks_word.zero_bits.Statement.{statement}

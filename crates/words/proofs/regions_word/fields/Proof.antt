@@ -1,3 +1,4 @@
+-- src/regions_word.rt, fields: r ≡ fieldsIn regions w
 use native.Mathlib.Nat.{div-one}
 use Rattle.words.specs.Words.{regions}
 use borrow.Author.Needs.{needs}

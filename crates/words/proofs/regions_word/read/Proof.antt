@@ -1,6 +1,7 @@
+-- src/regions_word.rt, read: r ≡ reading regions w
 use mathlib.Core.Path.{sym, ap, _∙_}
 use borrow.Author.Needs.{needs}
-use Rattle.words.specs.Kind.{read-done, read-refused}
+use Rattle.words.specs.Laws.Kind.{read-done, read-refused}
 use Rattle.words.specs.Words.{regions}
 use Rattle.words.proofs.regions_word.read.Statement.{statement}
 use Rattle.words.proofs.regions_word.read.Tie as tie

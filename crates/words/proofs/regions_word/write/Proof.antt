@@ -1,5 +1,6 @@
+-- src/regions_word.rt, write: r ≡ writing regions f
 use mathlib.Core.Path.{sym, ap, _∙_}
-use Rattle.words.specs.Kind.{write-done, write-refused}
+use Rattle.words.specs.Laws.Kind.{write-done, write-refused}
 use Rattle.words.specs.Laws.Kinds.{regions-range, eight-slots}
 use Rattle.words.specs.Words.{regions}
 use Rattle.words.specs.declared.Written.the-variants.{Word}

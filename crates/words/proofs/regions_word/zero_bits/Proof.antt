@@ -1,3 +1,4 @@
+-- src/regions_word.rt, zero_bits: r ≡ zeroSum (regions .parts) w
 use native.Mathlib.Nat.{add-zero}
 use Rattle.words.specs.Words.{regions}
 use borrow.Author.Needs.{needs}

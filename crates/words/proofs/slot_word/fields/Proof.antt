@@ -1,3 +1,4 @@
+-- src/slot_word.rt, fields: r ≡ fieldsIn slot w
 use native.Mathlib.Nat.{div-one}
 use Rattle.words.specs.Words.{slot}
 use borrow.Author.Needs.{needs}

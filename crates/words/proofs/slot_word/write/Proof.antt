@@ -1,5 +1,6 @@
+-- src/slot_word.rt, write: r ≡ writing slot f
 use mathlib.Core.Path.{sym, ap, _∙_}
-use Rattle.words.specs.Kind.{write-done, write-refused}
+use Rattle.words.specs.Laws.Kind.{write-done, write-refused}
 use Rattle.words.specs.Laws.Kinds.{slot-range}
 use Rattle.words.specs.Words.{slot}
 use Rattle.words.specs.declared.Written.the-variants.{Word}

@@ -1,3 +1,4 @@
+-- src/slot_word.rt, zero_bits: r ≡ zeroSum (slot .parts) w
 use mathlib.Core.Path.{refl}
 use Rattle.words.specs.Words.{slot}
 use Rattle.words.proofs.slot_word.zero_bits.Statement.{statement}

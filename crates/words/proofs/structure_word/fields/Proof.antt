@@ -1,3 +1,4 @@
+-- src/structure_word.rt, fields: r ≡ fieldsIn structure w
 use mathlib.Core.Path.{refl}
 use Rattle.words.specs.Words.{structure}
 use borrow.Author.Needs.{needs}

@@ -1,5 +1,6 @@
+-- src/structure_word.rt, write: r ≡ writing structure f
 use mathlib.Core.Path.{sym, ap, _∙_}
-use Rattle.words.specs.Kind.{write-done, write-refused}
+use Rattle.words.specs.Laws.Kind.{write-done, write-refused}
 use Rattle.words.specs.Laws.Kinds.{structure-range}
 use Rattle.words.specs.Words.{structure}
 use Rattle.words.specs.declared.Written.the-variants.{Word}

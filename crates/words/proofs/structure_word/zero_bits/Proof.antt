@@ -1,3 +1,4 @@
+-- src/structure_word.rt, zero_bits: r ≡ zeroSum (structure .parts) w
 use native.Mathlib.Nat.{add-zero, div-one}
 use Rattle.words.specs.Words.{structure}
 use Rattle.words.proofs.structure_word.zero_bits.Statement.{statement}
