@@ -160,6 +160,7 @@ static void typical_rows(void)
     row("prepare, typical", call, ulavrepit_prepare(0, 10), 0);
     row("delete, typical", call, ulavrepit_delete(5), 0);
     row("clear out a child with two of its own, typical", call, ulavrepit_clear_out(1), 0);
+    row("pack, typical", call, ulavrepit_pack(0), 0);
     row("runs, typical", list_runs, 0, 0);
     row("pieces, typical", list_pieces, 10, 0);
     row("find with a sheet, typical", call_beside, ulavrepit_find(0, 8000), 0);
@@ -169,6 +170,9 @@ static void typical_rows(void)
     row("give with a sheet, typical", call_beside, ulavrepit_give(1, 10, ULAVREPIT_READ), 0);
     row("create with a sheet, typical", call_beside, ulavrepit_create(10), 0);
     row("prepare with a sheet, typical", call_beside, ulavrepit_prepare(0, 10), 0);
+    row("delete with a sheet, typical", call_beside, ulavrepit_delete(5), 0);
+    row("clear out with a sheet, typical", call_beside, ulavrepit_clear_out(1), 0);
+    row("pack with a sheet, typical", call_beside, ulavrepit_pack(0), 0);
     row("no service (refused 2), typical", call, 0, 2);
     start[LAST_ZERO_BYTE] ^= 1;
     row("find, typical with the last zero bit set (refused 1)", call, ulavrepit_find(0, 8000), 1);
