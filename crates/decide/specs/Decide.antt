@@ -8,8 +8,8 @@ use Rattle.shapes.specs.declared.Board.{Board}
 use Rattle.tables.specs.View.{view}
 use Rattle.sound.specs.Clauses.{s6, sound}
 use Rattle.shape.specs.AtOnce.{Shaped}
-use Rattle.decide.specs.Order.{Orders}
-use Rattle.decide.specs.Marking.{MarkedTo}
+use Rattle.ordering.specs.Order.{Orders}
+use Rattle.marking.specs.Marking.{MarkedTo}
 
 -- ── the parts of the decision, in the order of the code ──
 -- what is known before the partitions are looked at one by one

@@ -1,14 +1,9 @@
 -- S11 of the root a slot at a time, and S7's part that the order of the entries decides.
-use mathlib.Core.Path.{_≡_}
 use mathlib.Core.Bool.{Bool, cond, _&&_}
-use Prim.Native.Nat.{ℕ, _<_}
+use Prim.Native.Nat.{ℕ}
 use lib.Dec.{eqb}
-use Rattle.tables.specs.State.{some, Entry, K}
+use Rattle.tables.specs.State.{K}
 use Rattle.sound.specs.Clauses.{when, s7Root, s7Inside, s7Cover, full}
-
--- each entry of p has a line, as S5 says
-abbrev pub Solid : K → ℕ → Type 0
-Solid k p = (i : ℕ) (e : Entry) → k .slot p i ≡ some e → e .start < e .stop
 
 -- S7 of p but for what it says of given and whole entries: its entries lie each inside one range that it was given, and cover those
 unfoldable pub exactly : K → ℕ → Bool

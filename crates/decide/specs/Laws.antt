@@ -1,14 +1,7 @@
-pub mod Order
-pub mod Used
-pub mod Limit
-pub mod Regions
-pub mod Backing
 pub mod Entries
 pub mod Decide
-pub mod Marking
 pub mod Local
 pub mod Granted
 pub mod Decided
-pub mod Arrange
 pub mod Tiles
 pub mod Lines

@@ -1,12 +1,5 @@
-pub mod Order
-pub mod Used
-pub mod Limit
-pub mod Opening
-pub mod Backing
 pub mod Entries
-pub mod Marking
 pub mod Local
 pub mod Decide
-pub mod Arrange
 pub mod Tiles
 pub mod Laws

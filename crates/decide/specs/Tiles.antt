@@ -9,8 +9,8 @@ use Rattle.tables.specs.State.{Opt, none, some, Entry, entry, allRights}
 use Rattle.tables.specs.View.{view}
 use Rattle.tables.specs.Lines.{In}
 use Rattle.sound.specs.Clauses.{within, sameRights}
-use Rattle.decide.specs.Entries.{Solid}
-use Rattle.decide.specs.Order.{placed, Rows}
+use Rattle.ordering.specs.Order.{Solid}
+use Rattle.ordering.specs.Order.{placed, Rows}
 
 -- ── one range lo to hi with rights r ──
 -- e lies inside it, ends by line at, and has no right beyond r

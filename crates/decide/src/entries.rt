@@ -8,7 +8,7 @@ ghost use Rattle.sound.specs.Clauses.{has, lends, undivided};
 ghost use Rattle.shape.specs.AtOnce.{Shaped};
 ghost use Rattle.decide.specs.Entries.{fullSlot};
 ghost use Rattle.decide.specs.Local.{entryRight};
-use crate::used::used_slots;
+use ordering::used::used_slots;
 use tables::read;
 use words::Partition;
 use words::Slot;

@@ -12,15 +12,8 @@ ghost use Rattle.decide.specs.Local.{localAt, localWhere};
 ghost use Rattle.decide.specs.Decide.{CanDecide, Decided};
 
 // Whether a table is sound, decided along its entries in order, of which its areas mark those that they equal.
-pub mod arrange;
-pub mod backing;
 pub mod entries;
-pub mod limit;
-mod marking;
-pub mod opening;
-pub mod order;
 pub mod tiles;
-pub mod used;
 
 use shapes::Board;
 use words::Partition;
@@ -72,7 +65,7 @@ fn present_sound(
     if !tiles::covers(t, p, order, counts) {
         return false;
     }
-    opening::regions_right(board, t, p)
+    loaded::opening::regions_right(board, t, p)
 }
 
 // where p is present
@@ -132,7 +125,7 @@ pub fn is_ordered(
     if !shapes_sound(t, top) {
         return false;
     }
-    if !arrange::arrange(t, top, order, counts) {
+    if !ordering::arrange::arrange(t, top, order, counts) {
         return false;
     }
     let mut mark = [0u8; 512];

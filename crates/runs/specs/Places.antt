@@ -5,7 +5,7 @@ use Prim.Native.Nat.{ℕ, _≤_, _<_}
 use lib.ListN.{length, getD}
 use Rattle.tables.specs.State.{K}
 use Rattle.settling.specs.Rising.{highOf}
-use Rattle.decide.specs.Order.{linesAt, placed, Orders}
+use Rattle.ordering.specs.Order.{linesAt, placed, Orders}
 
 -- o has the entries of every present partition in order, so many of each
 pub record AllInOrder (k : K) (o : List ℕ) : Type 0 where

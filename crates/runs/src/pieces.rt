@@ -7,7 +7,7 @@ ghost use Rattle.runs.specs.Pieces.{Hopped};
 ghost use Rattle.runs.specs.Places.{AllInOrder, Passed};
 ghost use Rattle.runs.specs.Ways.{Climbs, Climbed, Standing, Pieced};
 use crate::marks::mark_of;
-use decide::order::entry_at;
+use ordering::order::entry_at;
 use words::Line;
 use words::Partition;
 use words::mark_word;

@@ -10,7 +10,7 @@ ghost use Rattle.rules.specs.Rules.{elsewhere, load, unload, readRegion};
 ghost use Rattle.rules.specs.Ran.{Ran};
 ghost use Rattle.blocks.specs.RegionExits.{inAnother};
 use crate::who::own_or_child;
-use decide::limit::loaded_pieces;
+use loaded::limit::loaded_pieces;
 use shapes::Board;
 use tables::Outcome;
 use tables::regions::with_region;

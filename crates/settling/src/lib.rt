@@ -19,7 +19,7 @@ use words::regions_word::Region;
 use words::regions_word::RegionsFields;
 
 // So many slots of p can be in use: those up to the end of its last structure. An absent partition has none.
-fn used_slots(t: &[u64; 641], p: Partition) -> u32
+pub fn used_slots(t: &[u64; 641], p: Partition) -> u32
     requires { ⌜ p .0 < 16 ⌝ }
     ensures { λ r. ⌜ UsedEnd (view (now (t .entry)) .k) (p .0) r ⌝ }
 {

@@ -13,7 +13,7 @@ use Rattle.tables.specs.Settle.{openAt}
 use Rattle.settling.specs.Areas.{AreasOf}
 use Rattle.sound.specs.Sound.{Lower}
 use Rattle.sound.specs.Clauses.{when, undivided, s7}
-use Rattle.decide.specs.Order.{Orders}
+use Rattle.ordering.specs.Order.{Orders}
 use Rattle.decide.specs.Local.{grantsOpen}
 use Rattle.verdict.specs.declared.Verdict.{Verdict}
 use Rattle.verdict.specs.declared.Verdict.the-variants.{Accepted}

@@ -4,7 +4,7 @@ ghost use Rattle.loops.specs.Loops.{all};
 ghost use Rattle.tables.specs.View.{view};
 ghost use Rattle.sound.specs.Clauses.{equals, s8Backed};
 ghost use Rattle.shape.specs.AtOnce.{Shaped};
-ghost use Rattle.decide.specs.Backing.{areaBetween};
+ghost use Rattle.marking.specs.Backing.{areaBetween};
 use shape::is_rooted;
 use tables::read;
 use words::Line;
@@ -15,7 +15,7 @@ fn has_equal(t: &[u64; 641], q: Partition, lo: Line, hi: Line) -> bool
     requires { ⌜ (q .0 < 16) × Shaped (now t) ⌝ }
     ensures { λ r. ⌜ r ≡ equals (view (now (t .entry)) .k) (q .0) (areaBetween (lo .0) (hi .0)) ⌝ }
 {
-    decide::backing::equal_slot(t, q, lo, hi) < 32
+    marking::backing::equal_slot(t, q, lo, hi) < 32
 }
 
 // the header's area of p is an entry of its parent

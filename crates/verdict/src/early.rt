@@ -41,7 +41,7 @@ fn apart_at(t: &[u64; 641], p: Partition) -> bool
     ensures { λ r. ⌜ r ≡ s6 (view (now (t .entry)) .k) (p .0) ⌝ }
 {
     let mut order = [0u8; 512];
-    decide::arrange::arrange_record(t, p, &mut order) <= 32
+    ordering::arrange::arrange_record(t, p, &mut order) <= 32
 }
 
 // Clause n at p, of S1 to S6; the clauses below it hold.

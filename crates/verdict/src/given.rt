@@ -6,7 +6,7 @@ ghost use Rattle.sound.specs.Clauses.{s7Given, s7Whole};
 ghost use Rattle.shape.specs.AtOnce.{Shaped};
 ghost use Rattle.verdict.specs.Stages.{givenSlot};
 use decide::entries::whole_right;
-use decide::used::used_slots;
+use ordering::used::used_slots;
 use tables::read;
 use words::Partition;
 use words::Slot;

@@ -5,7 +5,7 @@ ghost use Rattle.tables.specs.View.{view};
 ghost use Rattle.settling.specs.Areas.{AreasOf};
 ghost use Rattle.sound.specs.Clauses.{s9, s11, clauseAt};
 ghost use Rattle.shape.specs.AtOnce.{Shaped};
-ghost use Rattle.decide.specs.Order.{Orders};
+ghost use Rattle.ordering.specs.Order.{Orders};
 ghost use Rattle.verdict.specs.Stages.{openSlot, Before11, lowestOf, Reached, Sorted};
 use settling::areas::clear_of;
 use shapes::Board;
@@ -75,7 +75,7 @@ fn holds(
         return opens_at(t, p, n, s, e);
     }
     if k <= 10 {
-        return decide::opening::regions_right(board, t, p);
+        return loaded::opening::regions_right(board, t, p);
     }
     rights_at(t, p, order, counts)
 }

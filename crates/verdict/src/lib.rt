@@ -41,7 +41,7 @@ pub fn of_table(board: Board, t: &[u64; 641]) -> Verdict
     }
     let mut order = [0u8; 512];
     let mut counts = [0u32; 16];
-    decide::arrange::arrange(t, 16, &mut order, &mut counts);
+    ordering::arrange::arrange(t, 16, &mut order, &mut counts);
     let mut s = [0u32; 80];
     let mut e = [0u32; 80];
     let n = settling::areas::gather_areas(t, 16, &mut s, &mut e);

@@ -6,11 +6,11 @@ ghost use Rattle.tables.specs.Search.{present};
 ghost use Rattle.sound.specs.Clauses.{s7};
 ghost use Rattle.shape.specs.AtOnce.{Shaped};
 ghost use Rattle.decide.specs.Entries.{exactly};
-ghost use Rattle.decide.specs.Order.{Orders};
+ghost use Rattle.ordering.specs.Order.{Orders};
 ghost use Rattle.decide.specs.Tiles.{ChildOf};
-use decide::order::entry_at;
 use decide::tiles::tile_lines;
 use decide::tiles::tiles_whole;
+use ordering::order::entry_at;
 use tables::read;
 use words::Partition;
 

@@ -3,7 +3,7 @@ use mathlib.Core.Path.{refl}
 use borrow.Author.Tests.{not-false}
 use Rattle.decide.specs.Laws.Decide.{failed, passed, top-first, shaped, not-sound}
 use Rattle.decide.specs.Laws.Decided.{not-marked, decided}
-use Rattle.decide.specs.Laws.Marking.{no-marks}
+use Rattle.marking.specs.Laws.Marking.{no-marks}
 use borrow.Author.Needs.{needs}
 use Rattle.decide.proofs.is_ordered.Statement.{statement}
 use Rattle.decide.proofs.is_ordered.Tie as tie

@@ -7,7 +7,7 @@ use Rattle.loops.specs.Laws.Every.{Passing}
 use Rattle.loops.specs.Laws.Scan.{seek-start, seek-hit, seek-on}
 use Rattle.tables.specs.View.{view}
 use Rattle.decide.specs.Local.{localWhere}
-use Rattle.decide.specs.Laws.Used.{seek-bound}
+use Rattle.ordering.specs.Laws.Used.{seek-bound}
 use Rattle.decide.specs.Laws.Decide.{top-local}
 use borrow.Author.Needs.{needs}
 use Rattle.decide.proofs.partitions_sound.Statement.{statement}

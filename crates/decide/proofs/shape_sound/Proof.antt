@@ -1,9 +1,9 @@
 -- src/lib.rt, shape_sound: r ≡ shapeAt t (p .0)
 use mathlib.Core.Path.{sym, _∙_}
 use borrow.Author.Tests.{not-true}
-use Rattle.sound.specs.Laws.Tests.{and-says}
+use Rattle.sound.specs.Laws.Tests.{and-says, never}
 use Rattle.shape.specs.AtOnce.{shapeAt}
-use Rattle.decide.specs.Laws.Decide.{never, failed, passed, absent-shape, and-is}
+use Rattle.decide.specs.Laws.Decide.{failed, passed, absent-shape, and-is}
 use borrow.Author.Needs.{needs}
 use Rattle.decide.proofs.shape_sound.Statement.{statement}
 use Rattle.decide.proofs.shape_sound.Tie as tie

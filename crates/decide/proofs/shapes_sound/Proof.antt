@@ -7,7 +7,7 @@ use borrow.Author.Needs.{needs}
 use Rattle.loops.specs.Laws.Every.{Passing}
 use Rattle.loops.specs.Laws.Scan.{seek-start, seek-hit, seek-on}
 use Rattle.shape.specs.AtOnce.{shapeAt}
-use Rattle.decide.specs.Laws.Used.{seek-bound}
+use Rattle.ordering.specs.Laws.Used.{seek-bound}
 use Rattle.decide.specs.Laws.Decide.{top-shape}
 use Rattle.decide.proofs.shapes_sound.Statement.{statement}
 use Rattle.decide.proofs.shapes_sound.Tie as tie

@@ -17,21 +17,16 @@ use Rattle.tables.specs.ZeroRecord.{zeroRecord}
 use Rattle.tables.specs.Top.{Top}
 use Rattle.tables.specs.Laws.Top.{top-absent}
 use Rattle.sound.specs.Clauses.{s1, s2, s3First, s3, s4, s5, s6, s7, s9, s10, s11, sound}
-use Rattle.sound.specs.Laws.Tests.{and-says, and-true, not-says}
+use Rattle.sound.specs.Laws.Tests.{and-says, and-true, not-says, never}
 use Rattle.sound.specs.Laws.MeansEntries.{present-means}
 use Rattle.sound.specs.Laws.MeansWords.{s2-means, s5-means}
-use Rattle.decide.specs.Entries.{Solid}
+use Rattle.ordering.specs.Laws.Present.{absent-zero}
 use Rattle.shape.specs.Laws.Absent.{absent-s3, absent-s4, absent-s5, absent-s6, absent-s7, absent-s8, absent-s9, absent-s10, absent-s11}
 use Rattle.shape.specs.AtOnce.{restAt, shapeAt, Shaped}
 use Rattle.shape.specs.Laws.AtOnce.{areasApart, atOnce, Passes, rest-true, rest-says, sound-at-once}
-use Rattle.decide.specs.Laws.Order.{SameOrders, orders-one}
+use Rattle.ordering.specs.Laws.Order.{SameOrders, orders-one}
 use Rattle.decide.specs.Decide.{Decided}
 use Rattle.decide.specs.Local.{localWhere}
-
--- a test that cannot pass is false
-pub never : (b : Bool) → (b ≡ true → ⊥) → false ≡ b
-never true h = absurd (h refl)
-never false h = refl
 
 -- a test b, whose result a was turned round: it failed, or it passed
 pub failed : {a b : Bool} → a ≡ b → not a ≡ true → b ≡ true → ⊥
@@ -45,27 +40,12 @@ pub and-is : (a b : Bool) → a ≡ true → b ≡ a && b
 and-is a b h = rw h refl
 
 module _ (l : List ℕ) (p : ℕ) where
-  -- the root is present; another that is absent is all zero ..
-  pub absent-zero : p < 16 → s2 l (view l .k) p ≡ true → present (view l .k) p ≡ false → (p ≡ 0 → ⊥) × (zeroRecord l p ≡ true)
-  unfolding s2
-  absent-zero b q n = go (ℕ-discrete p 0)
-    where
-      go : Dec (p ≡ 0) → (p ≡ 0 → ⊥) × (zeroRecord l p ≡ true)
-      go (yes z) =
-          let r = s2-means l p b .0 q in
-          absurd (false≢true (sym n ∙ present-means (view l .k) p .1 (_, r .root z .0)))
-      go (no z) = (z, rw (ne-eqb p 0 z, n) at q)
-
-  -- .. and has its shape
+  -- who is absent has its shape
   pub absent-shape : p < 16 → s2 l (view l .k) p ≡ true → present (view l .k) p ≡ false → true ≡ shapeAt l p
   unfolding shapeAt
   absent-shape b q n =
-      let (z, w) = absent-zero b q n in
+      let (z, w) = absent-zero l p b q n in
       sym (and-true _ _ q (and-true _ _ (and-true _ _ (absent-s3 l p w) (absent-s4 l p w z)) (absent-s5 l p w)))
-
-  -- S5 at p, which S6 and S7 lean on
-  pub solid : p < 16 → s3 l p && s4 l (view l .k) p && s5 l (view l .k) p ≡ true → Solid (view l .k) p
-  solid b q = s5-means l p b .0 (and-says (s3 l p && s4 l (view l .k) p) (s5 l (view l .k) p) q .1) .range
 
 module _ (board : Board) (l : List ℕ) (p : ℕ) where
   -- who is absent has nothing left to test

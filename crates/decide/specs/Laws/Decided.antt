@@ -28,8 +28,8 @@ use Rattle.shape.specs.AtOnce.{restAt, Shaped}
 use Rattle.shape.specs.Laws.AtOnce.{areasApart, atOnce, Passes, rest-true, rest-says, sound-at-once, shaped-s2, shaped-record}
 use Rattle.decide.specs.Entries.{exactly}
 use Rattle.decide.specs.Laws.Entries.{s7-parts}
-use Rattle.decide.specs.Marking.{MarkedTo, MarkSays}
-use Rattle.decide.specs.Laws.Marking.{all-marked}
+use Rattle.marking.specs.Marking.{MarkedTo, MarkSays}
+use Rattle.marking.specs.Laws.Marking.{all-marked}
 use Rattle.decide.specs.Local.{localWhere}
 use Rattle.decide.specs.Laws.Granted.{five, owns, roots, here, SevenSays, given, grants, grants-open}
 use Rattle.decide.specs.Laws.Local.{LocalSays, local-says, local-true, where-says, where-true, EntrySays, entry-says, entry-true, grants-open-means}

@@ -9,7 +9,7 @@ use Rattle.tables.specs.State.{Entry, K, Table}
 use Rattle.tables.specs.View.{view}
 use Rattle.tables.specs.Search.{present}
 use Rattle.sound.specs.Clauses.{when, has, s7Given, lends, undivided, s7Whole, s7, s11}
-use Rattle.decide.specs.Used.{Bound}
+use Rattle.ordering.specs.Used.{Bound}
 use Rattle.decide.specs.Entries.{exactly, fullSlot}
 
 -- S7 of a partition that is present

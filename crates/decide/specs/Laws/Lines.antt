@@ -13,13 +13,13 @@ use Rattle.tables.specs.State.{Entry, allRights}
 use Rattle.tables.specs.View.{view}
 use Rattle.tables.specs.Seen.{Seen}
 use Rattle.sound.specs.Clauses.{within, s11}
-use Rattle.sound.specs.Laws.Tests.{and-says}
+use Rattle.sound.specs.Laws.Tests.{and-says, never}
 use Rattle.decide.specs.Entries.{exactly, fullSlot}
 use Rattle.decide.specs.Laws.Entries.{rights-root}
 use Rattle.decide.specs.Local.{grantsOpen}
 use Rattle.decide.specs.Laws.Local.{root-open}
-use Rattle.decide.specs.Laws.Decide.{never, failed, passed}
-use Rattle.decide.specs.Order.{placed}
+use Rattle.decide.specs.Laws.Decide.{failed, passed}
+use Rattle.ordering.specs.Order.{placed}
 use Rattle.decide.specs.Tiles.{Tiling, GoesOn, Tiled, stuck, rowOf, unranked, plainRow, InOrder}
 use Rattle.decide.specs.Laws.Tiles.{TwoRows, Lies, Exact, tile-on, exact-start, exact-short, exact-on, exact-stuck, row-seen, row-line, row-ends, whole, root-lies, lies-root}
 

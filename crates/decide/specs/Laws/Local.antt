@@ -17,12 +17,12 @@ use Rattle.tables.specs.Laws.View.{slot-bounds}
 use Rattle.tables.specs.Search.{child, present}
 use Rattle.sound.specs.Sound.{Around}
 use Rattle.sound.specs.Clauses.{when, undivided, s10, s11}
-use Rattle.sound.specs.Laws.Tests.{and-says, and-true, then-says, then-true, every-says, every-true}
+use Rattle.sound.specs.Laws.Tests.{and-says, and-true, then-says, then-true, every-says, every-true, never}
 use Rattle.sound.specs.Laws.MeansRegions.{beq-means}
-use Rattle.decide.specs.Used.{Bound}
+use Rattle.ordering.specs.Used.{Bound}
 use Rattle.decide.specs.Entries.{exactly}
 use Rattle.decide.specs.Local.{entryRight, openInside, grantsOpen, localAt, localWhere}
-use Rattle.decide.specs.Laws.Decide.{never, failed, passed, and-is}
+use Rattle.decide.specs.Laws.Decide.{failed, passed, and-is}
 
 -- ── what they say ──
 module _ (l : List ℕ) (p : ℕ) where

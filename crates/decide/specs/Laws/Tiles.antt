@@ -23,7 +23,7 @@ use Rattle.tables.specs.Search.{present}
 use Rattle.tables.specs.Seen.{Seen}
 use Rattle.sound.specs.Sound.{Around}
 use Rattle.sound.specs.Clauses.{s7Root, s7Inside, s7Cover, within, s11}
-use Rattle.sound.specs.Laws.Tests.{and-says, and-true}
+use Rattle.sound.specs.Laws.Tests.{and-says, and-true, never}
 use Rattle.sound.specs.Laws.MeansEntries.{present-means, slots32, root-means, inside-means, cover-means}
 use Rattle.sound.specs.Laws.MeansRegions.{within-means, same-rights-means, s11-means}
 use Rattle.sound.specs.Laws.MeansWords.{s2-means}
@@ -32,9 +32,9 @@ use Rattle.decide.specs.Local.{grantsOpen}
 use Rattle.decide.specs.Laws.Local.{grants-open-means}
 use Rattle.shape.specs.AtOnce.{Shaped}
 use Rattle.shape.specs.Laws.AtOnce.{shaped-s2, shaped-record}
-use Rattle.decide.specs.Laws.Decide.{never, solid}
-use Rattle.decide.specs.Order.{linesOf, placed, Orders}
-use Rattle.decide.specs.Laws.Order.{held-of, lines-of}
+use Rattle.ordering.specs.Laws.Present.{solid}
+use Rattle.ordering.specs.Order.{linesOf, placed, Orders}
+use Rattle.ordering.specs.Laws.Order.{held-of, lines-of}
 use Rattle.decide.specs.Tiles.{TilePiece, Tiling, GoesOn, follows, Tiled, fitted, stuck, AllSet, TiledAs, alike, unlike, entryOr, rowOf, openedBit, plainRow, InOrder, ChildOf}
 
 -- ── two rows: n entries E, and m entries F, some of them given to p ──

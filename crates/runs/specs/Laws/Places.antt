@@ -15,8 +15,8 @@ use Rattle.tables.specs.Lines.{Holds}
 use Rattle.tables.specs.Search.{present}
 use Rattle.settling.specs.Rising.{lowOf, highOf}
 use Rattle.sound.specs.Core.{Core}
-use Rattle.decide.specs.Order.{linesOf, linesAt, placed, Rows}
-use Rattle.decide.specs.Laws.Order.{lines-of}
+use Rattle.ordering.specs.Order.{linesOf, linesAt, placed, Rows}
+use Rattle.ordering.specs.Laws.Order.{lines-of}
 use Rattle.runs.specs.Laws.Pieces.{in-table, found, hop-found}
 use Rattle.runs.specs.Pieces.{Hopped}
 use Rattle.runs.specs.Places.{AllInOrder, EndsBy, Passed}

@@ -94,3 +94,8 @@ all-and n f g = bool-ext _ _ (λ q. and-true _ _ (all-of n f (λ i b. at q i b .
 
     back : all n f && all n g ≡ true → all n (λ i. f i && g i) ≡ true
     back q = let (u, v) = and-says (all n f) (all n g) q in all-of n _ (λ i b. and-true _ _ (all-at n f u i b) (all-at n g v i b))
+
+-- a test that cannot pass is false
+pub never : (b : Bool) → (b ≡ true → ⊥) → false ≡ b
+never true h = absurd (h refl)
+never false h = refl

@@ -15,8 +15,8 @@ use Rattle.tables.specs.State.{Area, K}
 use Rattle.tables.specs.View.{headerArea, structureArea, view}
 use Rattle.tables.specs.Seen.{SeenHeader, SeenStructure}
 use Rattle.sound.specs.Clauses.{when, rooted, equals, s8Backed}
-use Rattle.decide.specs.Backing.{areaBetween, backs}
-use Rattle.decide.specs.Marking.{equalSlot}
+use Rattle.marking.specs.Backing.{areaBetween, backs}
+use Rattle.marking.specs.Marking.{equalSlot}
 
 -- the search for the slot finds one exactly where there is one
 pub equal-is : (k : K) (q : ℕ) (a : Area) {i : ℕ} → i ≡ equalSlot k q a → ltb i 32 ≡ equals k q a

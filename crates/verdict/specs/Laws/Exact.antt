@@ -12,8 +12,8 @@ use Rattle.tables.specs.State.{Same, allRights}
 use Rattle.tables.specs.View.{entryOf, view}
 use Rattle.tables.specs.Seen.{Seen}
 use Rattle.decide.specs.Entries.{exactly}
-use Rattle.decide.specs.Laws.Decide.{never}
-use Rattle.decide.specs.Order.{placed}
+use Rattle.sound.specs.Laws.Tests.{never}
+use Rattle.ordering.specs.Order.{placed}
 use Rattle.decide.specs.Tiles.{Tiled, rowOf, plainRow, ChildOf}
 use Rattle.decide.specs.Laws.Tiles.{TwoRows, Exact, exact-start, exact-skip, exact-short, exact-on, exact-stuck, row-seen, row-line, row-ends, child-lies, lies-child}
 use Rattle.decide.specs.Laws.Lines.{exact-lies, lies-exact}

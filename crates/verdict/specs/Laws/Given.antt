@@ -17,8 +17,8 @@ use Rattle.settling.specs.Laws.Areas.{clear-quick}
 use Rattle.sound.specs.Clauses.{when, s7Given, undivided, s7Whole}
 use Rattle.sound.specs.Laws.Tests.{and-says, and-true, all-and}
 use Rattle.shape.specs.AtOnce.{Shaped}
-use Rattle.decide.specs.Used.{Bound}
-use Rattle.decide.specs.Laws.Used.{empty-closed}
+use Rattle.ordering.specs.Used.{Bound}
+use Rattle.ordering.specs.Laws.Used.{empty-closed}
 use Rattle.verdict.specs.Stages.{givenSlot, openSlot}
 
 -- ── given and whole entries ──

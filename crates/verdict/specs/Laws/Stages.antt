@@ -28,11 +28,11 @@ use Rattle.decide.specs.Laws.Granted.{SevenSays, five, here, grants-open}
 use Rattle.shape.specs.AtOnce.{shapeAt, Shaped}
 use Rattle.shape.specs.Laws.Absent.{absent-s7, absent-s11}
 use Rattle.shape.specs.Laws.AtOnce.{shaped-s2}
-use Rattle.decide.specs.Arrange.{Arranged}
+use Rattle.ordering.specs.Arrange.{Arranged}
 use Rattle.decide.specs.Entries.{exactly}
-use Rattle.decide.specs.Laws.Decide.{absent-zero}
+use Rattle.ordering.specs.Laws.Present.{absent-zero}
 use Rattle.decide.specs.Laws.Entries.{s7-parts}
-use Rattle.decide.specs.Order.{Orders}
+use Rattle.ordering.specs.Order.{Orders}
 use Rattle.verdict.specs.declared.Verdict.{Verdict}
 use Rattle.verdict.specs.declared.Verdict.the-variants.{Accepted, Length}
 use Rattle.verdict.specs.Verdict.{failsAt, failing, verdict, imageVerdict}

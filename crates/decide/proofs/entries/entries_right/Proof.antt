@@ -7,7 +7,7 @@ use Rattle.loops.specs.Laws.Every.{Passing}
 use Rattle.tables.specs.View.{view}
 use Rattle.decide.specs.Local.{entryRight}
 use Rattle.decide.specs.Laws.Local.{entry-empty}
-use Rattle.decide.specs.Laws.Used.{seek-bound}
+use Rattle.ordering.specs.Laws.Used.{seek-bound}
 use native.Mathlib.Omega.{arith}
 use borrow.Author.Needs.{needs}
 use Rattle.decide.proofs.entries.entries_right.Statement.{statement}

@@ -7,7 +7,7 @@ use Rattle.loops.specs.Laws.Every.{Passing}
 use Rattle.tables.specs.View.{view}
 use Rattle.decide.specs.Entries.{fullSlot}
 use Rattle.decide.specs.Laws.Entries.{full-empty}
-use Rattle.decide.specs.Laws.Used.{seek-bound}
+use Rattle.ordering.specs.Laws.Used.{seek-bound}
 use native.Mathlib.Omega.{arith}
 use borrow.Author.Needs.{needs}
 use Rattle.decide.proofs.entries.full_each.Statement.{statement}

@@ -5,7 +5,7 @@ use Rattle.loops.specs.Laws.Scan.{seek-start, seek-hit, seek-on}
 use Rattle.tables.specs.View.{entryOf, view}
 use Rattle.sound.specs.Clauses.{has, lends}
 use Rattle.decide.specs.Laws.Entries.{lends-empty}
-use Rattle.decide.specs.Laws.Used.{seek-bound}
+use Rattle.ordering.specs.Laws.Used.{seek-bound}
 use native.Mathlib.Omega.{arith}
 use borrow.Author.Needs.{needs}
 use Rattle.decide.proofs.entries.has_lent.Statement.{statement}

@@ -1,6 +1,6 @@
 -- src/region_services.rt, pieces_after: n ≡ loadedPieces board (view t .k .slot) (upd (view t .region) (p .0) r (some (s .0))) (p .0)
 use mathlib.Core.Path.{_∙_}
-use Rattle.decide.specs.Laws.Limit.{pieces-after, can-count-after}
+use Rattle.loaded.specs.Laws.Limit.{pieces-after, can-count-after}
 use borrow.Author.Needs.{needs}
 use Rattle.services.proofs.region_services.pieces_after.Statement.{statement}
 use Rattle.services.proofs.region_services.pieces_after.Tie as tie

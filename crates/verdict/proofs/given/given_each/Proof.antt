@@ -7,7 +7,7 @@ use Rattle.loops.specs.Laws.Every.{Passing}
 use Rattle.tables.specs.View.{view}
 use Rattle.verdict.specs.Stages.{givenSlot}
 use Rattle.verdict.specs.Laws.Given.{given-each-is, given-empty}
-use Rattle.decide.specs.Laws.Used.{seek-bound}
+use Rattle.ordering.specs.Laws.Used.{seek-bound}
 use native.Mathlib.Omega.{arith}
 use borrow.Author.Needs.{needs}
 use Rattle.verdict.proofs.given.given_each.Statement.{statement}

@@ -1,0 +1,14 @@
+-- src/opening.rt, is_marked: r ≡ marked mask (i .0)
+use mathlib.Core.Path.{refl}
+use Rattle.loaded.specs.Opening.{marked}
+use borrow.Author.Needs.{needs}
+use Rattle.loaded.proofs.opening.is_marked.Statement.{statement}
+use Rattle.loaded.proofs.opening.is_marked.Tie as tie
+
+pub is-marked-spec : {M : Type 1} → statement M
+unfolding marked
+is-marked-spec =
+    tie.close
+    (tie.spec
+    (λ c. search needs)
+    (λ c. refl))

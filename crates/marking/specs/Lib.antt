@@ -1,0 +1,3 @@
+pub mod Backing
+pub mod Marking
+pub mod Laws

@@ -1,0 +1,4 @@
+pub mod Order
+pub mod Used
+pub mod Arrange
+pub mod Laws
