@@ -38,7 +38,7 @@ pub fn boot_bytes(table: &mut [u8], base: u64, end: u64) -> u64
     }
 }
 
-// A call: `services::call` on bytes. The second value is written only when it is done, the bytes only where it does more than read.
+// A call: `calls::call` on bytes. The second value is written only when it is done, the bytes only where it does more than read.
 pub fn call_bytes(board: Board, table: &mut [u8], word: u64, second: &mut u64) -> u64
     ensures { λ r. ⌜ CallLent board (now (table .entry)) word (now (second .entry)) r (now (table .exit)) (now (second .exit)) ⌝ }
 {
@@ -47,7 +47,7 @@ pub fn call_bytes(board: Board, table: &mut [u8], word: u64, second: &mut u64) -
     }
     let mut a = [0u64; 641];
     let top = memory::load(table, &mut a);
-    let answer = services::calls::call_table(board, &mut a, top, word);
+    let answer = calls::call_table(board, &mut a, top, word);
     let caller = answer.caller;
     let stands = answer.stands;
     let outcome = answer.outcome;

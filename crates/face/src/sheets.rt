@@ -72,7 +72,7 @@ pub fn call_sheet_bytes(
         return packed(20, first.current, 0);
     }
     let touched = sheet::touched(&a, word);
-    let answer = services::calls::serve_word(board, &mut a, word);
+    let answer = calls::serve_word(board, &mut a, word);
     let caller = answer.caller;
     let stands = answer.stands;
     let outcome = answer.outcome;

@@ -72,7 +72,7 @@ fn serve_piece(t: &mut [u64; 641], piece: &[u8], from: usize, to: usize, before:
         if to - at < 8 {
             return number;
         }
-        let answer = services::calls::call_table(Board::V7, t, 16, word_at(piece, at));
+        let answer = calls::call_table(Board::V7, t, 16, word_at(piece, at));
         let outcome = answer.outcome;
         number = after(number);
         print_call(number, outcome);

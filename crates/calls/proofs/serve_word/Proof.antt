@@ -1,12 +1,12 @@
--- src/calls.rt, serve_word: CallAnswers board t word r t′
+-- src/lib.rt, serve_word: CallAnswers board t word r t′
 use mathlib.Core.Path.{sym, _∙_}
 use Rattle.sound.specs.Laws.List.{sound-means}
 use Rattle.sound.specs.Laws.Whole.{sound-right}
 use Rattle.sound.specs.Laws.Canonical.{sound-canon}
 use Rattle.rules.specs.Laws.Calls.{read-small, answers-served, answers-unread}
 use borrow.Author.Needs.{needs}
-use Rattle.services.proofs.calls.serve_word.Statement.{statement}
-use Rattle.services.proofs.calls.serve_word.Tie as tie
+use Rattle.calls.proofs.serve_word.Statement.{statement}
+use Rattle.calls.proofs.serve_word.Tie as tie
 
 pub serve-word-spec : {M : Type 1} → statement M
 serve-word-spec =

@@ -4,8 +4,8 @@ use Rattle.sound.specs.Laws.Holders.{wrong-length}
 use Rattle.rules.specs.Laws.Calls.{answers-unsound}
 use Rattle.rules.specs.Laws.Reads.{answers-copied, answers-left}
 use borrow.Author.Needs.{needs}
-use Rattle.services.proofs.call.Statement.{statement}
-use Rattle.services.proofs.call.Tie as tie
+use Rattle.calls.proofs.call.Statement.{statement}
+use Rattle.calls.proofs.call.Tie as tie
 
 pub call-spec : {M : Type 1} → statement M
 call-spec =

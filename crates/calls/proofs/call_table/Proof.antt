@@ -1,10 +1,10 @@
--- src/calls.rt, call_table: CallAnswers board t word r t′
+-- src/lib.rt, call_table: CallAnswers board t word r t′
 use mathlib.Core.Path.{sym, _∙_}
 use borrow.Author.Tests.{not-true, not-false}
 use Rattle.rules.specs.Laws.Calls.{answers-unsound}
 use borrow.Author.Needs.{needs}
-use Rattle.services.proofs.calls.call_table.Statement.{statement}
-use Rattle.services.proofs.calls.call_table.Tie as tie
+use Rattle.calls.proofs.call_table.Statement.{statement}
+use Rattle.calls.proofs.call_table.Tie as tie
 
 pub call-table-spec : {M : Type 1} → statement M
 call-table-spec =

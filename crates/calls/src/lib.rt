@@ -9,6 +9,8 @@ ghost use Rattle.sound.specs.Whole.{Right};
 ghost use Rattle.rules.specs.Rules.{noRights, unused, regionCall, known, numbered, perform, serve};
 ghost use Rattle.rules.specs.Ran.{Ran};
 ghost use Rattle.rules.specs.Calls.{CallAnswers};
+
+// A call: whether the table is sound, what the call word says, and its service.
 use rules::Answer;
 use shapes::Board;
 use tables::Outcome;
@@ -110,9 +112,9 @@ fn region(board: Board, t: &mut [u64; 641], f: CallFields) -> Outcome
 {
     let r = f.rights;
     if r.execute {
-        return crate::region_services::unload(t, f.partition, f.other);
+        return services::region_services::unload(t, f.partition, f.other);
     }
-    crate::region_services::load(board, t, f.partition, f.slot, f.other)
+    services::region_services::load(board, t, f.partition, f.slot, f.other)
 }
 
 // The service of a call word whose fields are in order.
@@ -122,20 +124,20 @@ fn perform(board: Board, t: &mut [u64; 641], f: CallFields) -> Outcome
 {
     let service = f.service;
     match service {
-        1 => crate::create_service::create(t, f.slot),
-        2 => crate::delete_service::delete(t, f.partition),
-        3 => crate::prepare_service::prepare(t, f.partition, f.slot),
-        4 => crate::collect_service::collect(t, f.partition, f.other),
+        1 => services::create_service::create(t, f.slot),
+        2 => services::delete_service::delete(t, f.partition),
+        3 => services::prepare_service::prepare(t, f.partition, f.slot),
+        4 => services::collect_service::collect(t, f.partition, f.other),
         5 => blocks::give_service::give(t, f.partition, f.slot, f.rights, f.whole),
         6 => blocks::take_service::take(t, f.slot),
         7 => blocks::cut_service::cut(t, f.slot, f.line),
         8 => blocks::merge_service::merge(t, f.slot, Slot(f.other)),
         9 => region(board, t, f),
-        11 => crate::region_services::read_region(t, f.partition, f.other),
-        12 => crate::find_service::find(t, f.partition, f.line),
-        13 => crate::switch_service::switch(t, f.partition),
-        14 => crate::clear_service::clear_out(t, f.partition),
-        15 => crate::pack::pack(t, f.partition),
+        11 => services::region_services::read_region(t, f.partition, f.other),
+        12 => services::find_service::find(t, f.partition, f.line),
+        13 => services::switch_service::switch(t, f.partition),
+        14 => services::clear_service::clear_out(t, f.partition),
+        15 => services::pack::pack(t, f.partition),
         _ => Outcome::Refused(2),
     }
 }
@@ -191,4 +193,26 @@ pub fn call_table(board: Board, t: &mut [u64; 641], top: u32, word: u64) -> Answ
         };
     }
     serve_word(board, t, word)
+}
+
+// Carries out a call word. Any words, of any number and content, and any call word get an answer.
+// Refused: 1 not a sound table of 641 words; 2 not a call word; then as its service says. A refusal changes no word.
+pub fn call(board: Board, t: &mut [u64], word: u64) -> Answer
+    ensures { λ r. ⌜ CallAnswers board (now (t .entry)) word r (now (t .exit)) ⌝ }
+{
+    if t.len() != 641 {
+        return Answer {
+            caller: Partition(0),
+            outcome: Outcome::Refused(1),
+            stands: true,
+        };
+    }
+    let mut a = [0u64; 641];
+    tables::copies::copy_in(t, &mut a);
+    let answer = call_table(board, &mut a, 16, word);
+    if answer.stands {
+        return answer;
+    }
+    tables::copies::copy_out(&a, t);
+    answer
 }

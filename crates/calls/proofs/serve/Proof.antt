@@ -1,11 +1,11 @@
--- src/calls.rt, serve: Ran (serve board (view t) f) t r t′
+-- src/lib.rt, serve: Ran (serve board (view t) f) t r t′
 use mathlib.Core.Path.{sym, _∙_}
 use borrow.Author.Tests.{not-true, not-false}
 use Rattle.rules.specs.Laws.Ran.{ran-refused, ran-as}
 use Rattle.rules.specs.Laws.Calls.{serve-unknown, serve-known}
 use borrow.Author.Needs.{needs}
-use Rattle.services.proofs.calls.serve.Statement.{statement}
-use Rattle.services.proofs.calls.serve.Tie as tie
+use Rattle.calls.proofs.serve.Statement.{statement}
+use Rattle.calls.proofs.serve.Tie as tie
 
 pub serve-spec : {M : Type 1} → statement M
 serve-spec =

@@ -1,11 +1,11 @@
--- src/calls.rt, perform: Ran (perform board (view t) f) t r t′
+-- src/lib.rt, perform: Ran (perform board (view t) f) t r t′
 use mathlib.Core.Path.{_∙_}
 use mathlib.Core.Bool.{false≢true}
 use Rattle.rules.specs.Laws.Ran.{ran-as}
 use Rattle.rules.specs.Laws.Each.{perform-at}
 use Rattle.rules.specs.Laws.Calls.{known-not}
-use Rattle.services.proofs.calls.perform.Statement.{statement}
-use Rattle.services.proofs.calls.perform.Tie as tie
+use Rattle.calls.proofs.perform.Statement.{statement}
+use Rattle.calls.proofs.perform.Tie as tie
 
 pub perform-spec : {M : Type 1} → statement M
 perform-spec =

@@ -1,8 +1,8 @@
--- src/calls.rt, region: Ran (numbered board 9 (view t) f) t r t′
+-- src/lib.rt, region: Ran (numbered board 9 (view t) f) t r t′
 use Rattle.rules.specs.Laws.Ran.{ran-as}
 use Rattle.rules.specs.Laws.Each.{region-loads, region-unloads}
-use Rattle.services.proofs.calls.region.Statement.{statement}
-use Rattle.services.proofs.calls.region.Tie as tie
+use Rattle.calls.proofs.region.Statement.{statement}
+use Rattle.calls.proofs.region.Tie as tie
 
 pub region-spec : {M : Type 1} → statement M
 region-spec =

@@ -1,10 +1,10 @@
--- src/calls.rt, region_known: b ≡ regionCall f && unused (record { p = true; s = true; u = true; r = true; l = false; w = false }) f
+-- src/lib.rt, region_known: b ≡ regionCall f && unused (record { p = true; s = true; u = true; r = true; l = false; w = false }) f
 use mathlib.Core.Path.{refl}
 use borrow.Author.Tests.{not-true, not-false}
 use Rattle.rules.specs.Rules.{unused, regionCall}
 use borrow.Author.Needs.{needs}
-use Rattle.services.proofs.calls.region_known.Statement.{statement}
-use Rattle.services.proofs.calls.region_known.Tie as tie
+use Rattle.calls.proofs.region_known.Statement.{statement}
+use Rattle.calls.proofs.region_known.Tie as tie
 
 pub region-known-spec : {M : Type 1} → statement M
 unfolding unused regionCall

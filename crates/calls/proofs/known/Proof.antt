@@ -1,11 +1,11 @@
--- src/calls.rt, known: b ≡ known f
+-- src/lib.rt, known: b ≡ known f
 use mathlib.Core.Path.{refl, _∙_}
 use Rattle.rules.specs.Rules.{uses}
 use Rattle.rules.specs.Laws.Each.{known-at}
 use Rattle.rules.specs.Laws.Calls.{known-not}
 use borrow.Author.Needs.{needs}
-use Rattle.services.proofs.calls.known.Statement.{statement}
-use Rattle.services.proofs.calls.known.Tie as tie
+use Rattle.calls.proofs.known.Statement.{statement}
+use Rattle.calls.proofs.known.Tie as tie
 
 pub known-spec : {M : Type 1} → statement M
 unfolding uses

@@ -1,8 +1,8 @@
--- src/calls.rt, no_rights: b ≡ noRights r
+-- src/lib.rt, no_rights: b ≡ noRights r
 use mathlib.Core.Path.{refl}
 use Rattle.rules.specs.Rules.{noRights}
-use Rattle.services.proofs.calls.no_rights.Statement.{statement}
-use Rattle.services.proofs.calls.no_rights.Tie as tie
+use Rattle.calls.proofs.no_rights.Statement.{statement}
+use Rattle.calls.proofs.no_rights.Tie as tie
 
 pub no-rights-spec : {M : Type 1} → statement M
 unfolding noRights

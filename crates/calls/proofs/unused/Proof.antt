@@ -1,10 +1,10 @@
--- src/calls.rt, unused: b ≡ unused (record { p = p; s = s; u = u; r = r; l = l; w = w }) f
+-- src/lib.rt, unused: b ≡ unused (record { p = p; s = s; u = u; r = r; l = l; w = w }) f
 use mathlib.Core.Path.{refl}
 use borrow.Author.Tests.{not-true, not-false}
 use Rattle.rules.specs.Rules.{unused}
 use borrow.Author.Needs.{needs}
-use Rattle.services.proofs.calls.unused.Statement.{statement}
-use Rattle.services.proofs.calls.unused.Tie as tie
+use Rattle.calls.proofs.unused.Statement.{statement}
+use Rattle.calls.proofs.unused.Tie as tie
 
 pub unused-spec : {M : Type 1} → statement M
 unfolding unused
