@@ -69,7 +69,7 @@ $(arm_module): $(lib_folder)/libulavrepit.a arm/as_text arm/gives_archive arm/kn
 # Functions that are not inlined. The marks of runs lie in an array of leave_marks: in the frame of its caller they would lie beside
 # all that decides the table, which has ended when they are made. The others are for text: without them it is 1,600 bytes more on a
 # Cortex-M0 and 700 on an M3.
-arm_apart := runs::walk::leave_marks tables::search::holding_slot marking::backing::equal_slot loaded::limit::entry_pieces \
+arm_apart := runs::walk::leave_marks searching::holding_slot marking::backing::equal_slot loaded::limit::entry_pieces \
     settling::areas::zero_record settling::areas::clear_of settling::came::settle
 arm_keep_apart = sed $(arm_apart:%=-e '/^define.*@"%"(/s/ #0 {/ #0 noinline {/')
 

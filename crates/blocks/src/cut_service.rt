@@ -42,7 +42,7 @@ fn cut_entry(t: &mut [u64; 641], s: Slot, l: Line, f: SlotFields) -> Outcome
         return Outcome::Refused(7);
     }
     let c = tables::read::first(t).current;
-    let found = tables::search::free_slot(t, c);
+    let found = searching::free_slot(t, c);
     let Found::At(n) = found else {
         return Outcome::Refused(8);
     };

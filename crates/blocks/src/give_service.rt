@@ -53,7 +53,7 @@ fn give_entry(
     requires { ⌜ CanGive (now t) (c .0) (p .0) (s .0) f ⌝ }
     ensures { λ x. ⌜ Ran (give (view (now (t .entry))) (p .0) (s .0) r whole) (now (t .entry)) x (now (t .exit)) ⌝ }
 {
-    let found = tables::search::free_slot(t, p);
+    let found = searching::free_slot(t, p);
     let Found::At(n) = found else {
         return Outcome::Refused(8);
     };
@@ -73,7 +73,7 @@ pub fn give(t: &mut [u64; 641], p: Partition, s: Slot, r: Rights, whole: bool) -
     ensures { λ x. ⌜ Ran (give (view (now (t .entry))) (p .0) (s .0) r whole) (now (t .entry)) x (now (t .exit)) ⌝ }
 {
     let c = tables::read::first(t).current;
-    if !tables::search::is_child(t, c, p) {
+    if !searching::is_child(t, c, p) {
         return Outcome::Refused(3);
     }
     match free_entry(t, s) {

@@ -89,7 +89,7 @@ fn entry_right(t: &[u64; 641], p: Partition, i: Slot, mark: &[u8; 512]) -> bool
         if f.whole {
             return false;
         }
-        return tables::search::is_child(t, p, f.given);
+        return searching::is_child(t, p, f.given);
     }
     if !whole_right(t, p, f) {
         return false;

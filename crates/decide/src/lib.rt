@@ -26,7 +26,7 @@ fn shape_sound(t: &[u64; 641], p: Partition) -> bool
     if !shape::records::family_sound(t, p) {
         return false;
     }
-    if !tables::search::is_present(t, p) {
+    if !searching::is_present(t, p) {
         return true;
     }
     shape::records::record_sound(t, p)
@@ -80,7 +80,7 @@ fn partition_sound(
     requires { ⌜ (p .0 < 16) × CanDecide (now t) (now order) (now counts) (now mark) ⌝ }
     ensures { λ r. ⌜ r ≡ localWhere board (view (now (t .entry))) (now (mark .entry)) (p .0) ⌝ }
 {
-    if !tables::search::is_present(t, p) {
+    if !searching::is_present(t, p) {
         return true;
     }
     present_sound(board, t, p, order, counts, mark)

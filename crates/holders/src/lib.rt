@@ -34,7 +34,7 @@ fn look(t: &[u64; 641], l: Line, p: Partition) -> Step
     requires { ⌜ p .0 < 16 ⌝ }
     ensures { λ r. ⌜ (r .heir .0 ≡ heir (view (now (t .entry)) .k) (l .0) (p .0)) × (r .heir .0 < 16) × (r .count ≡ lookFor (view (now (t .entry)) .k) (l .0) (p .0) .count) ⌝ }
 {
-    let looked = tables::search::holding_slot(t, p, l);
+    let looked = searching::holding_slot(t, p, l);
     let count = looked.count;
     let found = looked.found;
     let Found::At(i) = found else {
@@ -79,7 +79,7 @@ fn descend(t: &[u64; 641], l: Line) -> Descent
         count = sum;
         left -= 1;
     }
-    let last = tables::search::holding_slot(t, p, l);
+    let last = searching::holding_slot(t, p, l);
     Descent {
         deepest: p,
         count: count + last.count,
@@ -94,8 +94,8 @@ fn write_holders(t: &[u64; 641], l: Line, list: &mut [u8]) -> Outcome
     let d = descend(t, l);
     let p = d.deepest;
     let mut way = 0u64;
-    tables::climb::climb(t, p, 15, &mut way);
-    let n = tables::climb::write_way(way, list);
+    searching::climb::climb(t, p, 15, &mut way);
+    let n = searching::climb::write_way(way, list);
     Outcome::Done(n as u64, d.count as u64)
 }
 

@@ -72,7 +72,7 @@ fn mark_areas(t: &[u64; 641], p: Partition, mark: &mut [u8; 512]) -> bool
     requires { ⌜ CanMark (now t) (p .0) 0 (now mark) ⌝ }
     ensures { λ r. ⌜ MarkSays (view (now (t .entry)) .k) (5 * (p .0 + 1)) r (now (mark .exit)) ⌝ }
 {
-    if !tables::search::is_present(t, p) {
+    if !searching::is_present(t, p) {
         return true;
     }
     if !mark_header(t, p, mark) {

@@ -29,7 +29,7 @@ fn clear_children(t: &mut [u64; 641], p: Partition) -> u64
     let mut n = 0u64;
     let mut q = 0u32;
     while q < 16 {
-        if tables::search::is_child(t, p, Partition(q)) {
+        if searching::is_child(t, p, Partition(q)) {
             n += clear_partition(t, Partition(q));
         }
         q += 1;
@@ -43,7 +43,7 @@ pub fn clear_out(t: &mut [u64; 641], p: Partition) -> Outcome
     ensures { λ r. ⌜ Ran (clearOut (view (now (t .entry))) (p .0)) (now (t .entry)) r (now (t .exit)) ⌝ }
 {
     let c = tables::read::first(t).current;
-    if !tables::search::is_child(t, c, p) {
+    if !searching::is_child(t, c, p) {
         return Outcome::Refused(3);
     }
     crate::delete_service::ungive(t, c, p);

@@ -21,7 +21,7 @@ pub fn create(t: &mut [u64; 641], s: Slot) -> Outcome
         Picked::Entry(e) => {
             let start = e.start;
             let end = e.end;
-            let which = tables::search::absent_partition(t);
+            let which = searching::absent_partition(t);
             let Which::Number(n) = which else {
                 return Outcome::Refused(8);
             };

@@ -45,10 +45,10 @@ pub fn delete(t: &mut [u64; 641], p: Partition) -> Outcome
     ensures { λ r. ⌜ Ran (delete (view (now (t .entry))) (p .0)) (now (t .entry)) r (now (t .exit)) ⌝ }
 {
     let c = tables::read::first(t).current;
-    if !tables::search::is_child(t, c, p) {
+    if !searching::is_child(t, c, p) {
         return Outcome::Refused(3);
     }
-    if tables::search::has_child(t, p) {
+    if searching::has_child(t, p) {
         return Outcome::Refused(15);
     }
     ungive(t, c, p);

@@ -18,7 +18,7 @@ pub fn find(t: &[u64; 641], p: Partition, l: Line) -> Outcome
     if !own_or_child(t, p) {
         return Outcome::Refused(3);
     }
-    let looked = tables::search::holding_slot(t, p, l);
+    let looked = searching::holding_slot(t, p, l);
     let found = looked.found;
     let Found::At(i) = found else {
         return Outcome::Refused(7);

@@ -61,7 +61,7 @@ fn pack_slot(t: &mut [u64; 641], p: Partition, i: Slot, moved: u64) -> u64
     if !f.present {
         return moved;
     }
-    let found = tables::search::free_slot(t, p);
+    let found = searching::free_slot(t, p);
     let Found::At(j) = found else {
         return moved;
     };

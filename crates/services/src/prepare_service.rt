@@ -26,7 +26,7 @@ pub fn prepare(t: &mut [u64; 641], p: Partition, s: Slot) -> Outcome
         Picked::Entry(e) => {
             let start = e.start;
             let end = e.end;
-            let which = tables::search::absent_structure(t, p);
+            let which = searching::absent_structure(t, p);
             let Structure::Index(j) = which else {
                 return Outcome::Refused(8);
             };

@@ -13,7 +13,7 @@ pub fn own_or_child(t: &[u64; 641], p: Partition) -> bool
     if p.0 == f.current.0 {
         return true;
     }
-    tables::search::is_child(t, f.current, p)
+    searching::is_child(t, f.current, p)
 }
 
 // p is the caller's parent, which the root does not have, or a child of it
@@ -23,11 +23,11 @@ pub fn parent_or_child(t: &[u64; 641], p: Partition) -> bool
 {
     let f = tables::read::first(t);
     if f.current.0 == 0 {
-        return tables::search::is_child(t, f.current, p);
+        return searching::is_child(t, f.current, p);
     }
     let h = tables::read::header(t, f.current);
     if p.0 == h.parent.0 {
         return true;
     }
-    tables::search::is_child(t, f.current, p)
+    searching::is_child(t, f.current, p)
 }

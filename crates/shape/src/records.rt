@@ -21,7 +21,7 @@ pub fn first_sound(t: &[u64; 641]) -> bool
     if f.base.0 >= f.end.0 {
         return false;
     }
-    if !tables::search::is_present(t, f.current) {
+    if !searching::is_present(t, f.current) {
         return false;
     }
     zeros::first_bits(t)
@@ -63,14 +63,14 @@ pub fn family_sound(t: &[u64; 641], p: Partition) -> bool
     if !h.present {
         return settling::areas::zero_record(t, p);
     }
-    if !tables::search::is_present(t, h.parent) {
+    if !searching::is_present(t, h.parent) {
         return false;
     }
     if is_nowhere(h.start, h.end) {
         return false;
     }
     let mut way = 0u64;
-    tables::climb::climb(t, p, 15, &mut way)
+    searching::climb::climb(t, p, 15, &mut way)
 }
 
 // a to b as area j of p: 0, 0 at the root, elsewhere 16 lines or more

@@ -95,7 +95,7 @@ pub fn words_of(t: &[u64; 641], p: Partition, children: u32) -> Pair
     requires { ⌜ (p .0 < 16) × (children < 2 ^ 16) × Right (view (now t)) ⌝ }
     ensures { λ r. ⌜ (r .masks ≡ masksWith children (view (now (t .entry))) (p .0)) × (r .lines ≡ linesWord (view (now (t .entry))) (p .0)) ⌝ }
 {
-    if !tables::search::is_present(t, p) {
+    if !searching::is_present(t, p) {
         return Pair { masks: 0, lines: 0 };
     }
     let x = crate::sums::gather(t, p);

@@ -5,11 +5,9 @@ ghost use Rattle.tables.specs.Fitting.{Words};
 ghost use Rattle.tables.specs.Store.{stored};
 
 // What the 641 words of a table mean. Here, in `writing`, `settling` and `memory`, and nowhere else, it is known which word holds what.
-pub mod climb;
 pub mod copies;
 pub mod read;
 pub mod regions;
-pub mod search;
 pub mod zeros;
 
 use words::Partition;

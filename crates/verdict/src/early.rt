@@ -21,7 +21,7 @@ fn range_at(t: &[u64; 641], p: Partition) -> bool
     if f.base.0 >= f.end.0 {
         return false;
     }
-    tables::search::is_present(t, f.current)
+    searching::is_present(t, f.current)
 }
 
 // S4 at p; no zero bit of p is set

@@ -26,7 +26,7 @@ fn given_slot(t: &[u64; 641], p: Partition, i: Slot) -> bool
     if f.given.0 == 0 {
         return true;
     }
-    tables::search::is_child(t, p, f.given)
+    searching::is_child(t, p, f.given)
 }
 
 // .. each slot

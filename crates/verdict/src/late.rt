@@ -44,7 +44,7 @@ fn rights_at(t: &[u64; 641], p: Partition, order: &[u8; 512], counts: &[u32; 16]
     requires { ⌜ (p .0 < 16) × Shaped (now t) × Orders (view (now t) .k) (now order) (now counts) × Before11 (view (now t)) (p .0) ⌝ }
     ensures { λ r. ⌜ r ≡ s11 (view (now (t .entry)) .k) (p .0) ⌝ }
 {
-    if !tables::search::is_present(t, p) {
+    if !searching::is_present(t, p) {
         return true;
     }
     decide::tiles::covers(t, p, order, counts)

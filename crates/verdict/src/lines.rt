@@ -60,7 +60,7 @@ pub fn exact_at(t: &[u64; 641], p: Partition, order: &[u8; 512], counts: &[u32; 
     requires { ⌜ (p .0 < 16) × Shaped (now t) × Orders (view (now t) .k) (now order) (now counts) ⌝ }
     ensures { λ r. ⌜ r ≡ s7 (view (now (t .entry))) (p .0) ⌝ }
 {
-    if !tables::search::is_present(t, p) {
+    if !searching::is_present(t, p) {
         return true;
     }
     if !crate::given::given_each(t, p) {

@@ -123,7 +123,7 @@ pub fn place_of(t: &[u64; 641], p: Partition, l: Line) -> Place
     requires { ⌜ p .0 < 16 ⌝ }
     ensures { λ r. ⌜ r ≡ placeOf (view (now (t .entry)) .k) (p .0) (l .0) ⌝ }
 {
-    let looked = tables::search::holding_slot(t, p, l);
+    let looked = searching::holding_slot(t, p, l);
     let found = looked.found;
     let Found::At(s) = found else {
         return Place {

@@ -17,7 +17,7 @@ use Rattle.services.proofs.clear_service.+clear_children+clear_partitio
 use Rattle.services.proofs.clear_service.clear_partition.Reads as clear-partition
 use Rattle.services.proofs.clear_service.clear_partition.Kinds as clear-partition-kinds
 use Rattle.services.proofs.clear_service.+clear_children+clear_partition.Lts-clear_partition as clear-partition-lts
-use Rattle.tables.proofs.search.is_child.Reads as is-child-reads
+use Rattle.searching.proofs.is_child.Reads as is-child-reads
 use Rattle.writing.proofs.clear_record.Reads as clear-record-reads
 use Rattle.services.proofs.clear_service.+clear_children+clear_partition.{statement}
 use Rattle.services.proofs.clear_service.+clear_children+clear_partition.Tie.{close}
