@@ -8,16 +8,7 @@ use Prim.Native.Nat.{ℕ, _-_, _/_, _%_, _^_, _≤_, _<_}
 use lib.Bits.{bitAnd, bitOr, bitXor}
 use lib.Dec.{leb, ltb, eqb}
 use lib.ListN.{length, getD}
-use Rattle.loops.specs.Loops.{tab}
-
--- ── a mask ──
--- bit p, 0 or 1
-abbrev pub bit : ℕ → ℕ → ℕ
-bit m p = m / 2 ^ p % 2 ^ 1
-
--- whether it is set
-unfoldable pub names : ℕ → ℕ → Bool
-names m p = eqb (bit m p) 1
+use Rattle.loops.specs.Loops.{tab, names}
 
 -- ── the masks after an operation ──
 -- masks a to b - 1, each by h; the others stay

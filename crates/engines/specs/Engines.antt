@@ -6,13 +6,13 @@ use mathlib.Core.List.{List, [], _∷_}
 use mathlib.Core.Logic.{_↔_}
 use Prim.Native.Nat.{ℕ, _-_, _≤_, _<_}
 use lib.ListN.{length, getD}
-use Rattle.loops.specs.Loops.{mapOf}
+use Rattle.loops.specs.Loops.{mapOf, names}
 use Rattle.words.specs.Kind.{fieldsIn}
 use Rattle.words.specs.Words.{call}
 use Rattle.shapes.specs.declared.Board.{Board}
 use Rattle.tables.specs.State.{some, Entry}
 use Rattle.tables.specs.View.{view}
-use Rattle.engine.specs.Engine.{names, giveMasks, takeMasks, strikeMasks, linesRight, strikeRight, Engine, StartLent, GiveLent, TakeLent, StrikeLent}
+use Rattle.engine.specs.Engine.{giveMasks, takeMasks, strikeMasks, linesRight, strikeRight, Engine, StartLent, GiveLent, TakeLent, StrikeLent}
 use Rattle.ledger.specs.Ledger.{Ledger, opening, Lines, Event, adopt, enter, strike, strikeAll, nothing}
 use Rattle.face.specs.Face.{handed, CallLent, ListLent}
 use Rattle.demands.specs.Demands.{BootLent, Accepted, firstIn, happened, entered}

@@ -15,7 +15,8 @@ use Rattle.isolation.specs.Laws.Fits.{Good}
 use Rattle.isolation.specs.Whole.{boot-good, afterAll}
 use Rattle.ledger.specs.Ledger.{Ledger, opening, Event, noted, answerOn, linesNamed, keptOn}
 use Rattle.ledger.specs.Laws.Kept.{Keeps, after-kept, from-boot-kept}
-use Rattle.engine.specs.Engine.{names, startMasks, engineRefusal, Memory, StartLent}
+use Rattle.loops.specs.Loops.{names}
+use Rattle.engine.specs.Engine.{startMasks, engineRefusal, Memory, StartLent}
 use Rattle.engine.specs.Laws.Exits.{memory-of}
 use Rattle.engine.specs.Laws.Marking.{between-length, between-from}
 use Rattle.face.specs.Face.{handed, CallLent, ListLent}

@@ -1,8 +1,8 @@
 -- S10, a region at a time: what the exits of the code give.
 use mathlib.Core.Bool.{Bool, cond, not, _&&_, _||_}
-use Prim.Native.Nat.{ℕ, _/_, _%_, _^_}
-use lib.Dec.{eqb}
+use Prim.Native.Nat.{ℕ, _^_}
 use lib.Bits.{bitOr}
+use Rattle.loops.specs.Loops.{names}
 use Rattle.words.specs.declared.regions_word.Region.{Region}
 use Rattle.words.specs.declared.regions_word.RegionsFields.{RegionsFields}
 use Rattle.shapes.specs.declared.Board.{Board}
@@ -14,16 +14,13 @@ use Rattle.sound.specs.Limit.{entryPieces}
 unfoldable pub isOpen : Table → ℕ → ℕ → Bool
 isOpen t p i = isSome (t .k .slot p i) && t .opened p i
 
--- slot i is in a mask; the mask with the slot that a region names
-unfoldable pub marked : ℕ → ℕ → Bool
-marked m i = eqb (m / 2 ^ i % 2) 1
-
+-- the mask with the slot that a region names
 unfoldable pub slotNoted : ℕ → Region → ℕ
 slotNoted m x = cond (x .loaded) (bitOr m (2 ^ x .slot .0)) m
 
 -- what a region weighs, where those before it name the slots of the mask: the pieces of what it names, or 9, which is too much, where S10 says something else of it
 unfoldable pub weight : Board → Table → ℕ → ℕ → Region → ℕ
-weight b t p m x = cond (x .loaded) (cond (isOpen t p (x .slot .0) && not (marked m (x .slot .0))) (entryPieces b (t .k .slot p (x .slot .0))) 9) 0
+weight b t p m x = cond (x .loaded) (cond (isOpen t p (x .slot .0) && not (names m (x .slot .0))) (entryPieces b (t .k .slot p (x .slot .0))) 9) 0
 
 abbrev pub someLoaded : RegionsFields → Bool
 someLoaded f =

@@ -2,7 +2,8 @@ ghost use mathlib.Core.Path.{_≡_};
 ghost use Prim.Native.Nat.{_≤_, _<_};
 ghost use Rattle.tables.specs.View.{view};
 ghost use Rattle.sound.specs.Clauses.{s10};
-ghost use Rattle.loaded.specs.Opening.{someLoaded, isOpen, marked, slotNoted, weight};
+ghost use Rattle.loops.specs.Loops.{names};
+ghost use Rattle.loaded.specs.Opening.{someLoaded, isOpen, slotNoted, weight};
 use crate::limit::entry_pieces;
 use shapes::Board;
 use tables::read;
@@ -41,7 +42,7 @@ fn is_open(t: &[u64; 641], p: Partition, i: Slot) -> bool
 // slot i is in the mask
 fn is_marked(mask: u32, i: Slot) -> bool
     requires { ⌜ i .0 < 32 ⌝ }
-    ensures { λ r. ⌜ r ≡ marked mask (i .0) ⌝ }
+    ensures { λ r. ⌜ r ≡ names mask (i .0) ⌝ }
 {
     (mask >> i.0) % 2 == 1
 }

@@ -5,6 +5,7 @@ pub mod Carry
 pub mod Count
 pub mod Oring
 pub mod Map
+pub mod Mask
 pub mod Rewrite
 pub mod Climb
 pub mod Pigeon

@@ -1,7 +1,7 @@
--- Recursions that loops meet, each said once: a search, a test of all and of some, a carried value, sums, a climb over parents, a map of bits, a list.
+-- Recursions that loops meet, each said once: a search, a test of all and of some, a carried value, sums, a climb over parents, a mask, a map of bits, a list.
 use mathlib.Core.Path.{_≡_}
 use mathlib.Core.Bool.{Bool, false, cond, true, not}
-use Prim.Native.Nat.{ℕ, zero, suc, _<_, _+_, _*_, _≤_}
+use Prim.Native.Nat.{ℕ, zero, suc, _<_, _+_, _*_, _/_, _%_, _^_, _≤_}
 use lib.Dec.{eqb}
 use mathlib.Core.List.{List, [], _∷_}
 use lib.ListN.{length, getD}
@@ -69,6 +69,15 @@ pub data Reaches (up : ℕ → ℕ) : ℕ → ℕ → Type 0 where
 -- the test whether it does
 abbrev pub reaches : (ℕ → ℕ) → ℕ → ℕ → Bool
 reaches up n p = climb up (λ k. true) false (λ q r. r) p n
+
+-- ── a mask ──
+-- bit i, 0 or 1, bit 0 the least significant
+abbrev pub bit : ℕ → ℕ → ℕ
+bit m i = m / 2 ^ i % 2 ^ 1
+
+-- whether it is set
+unfoldable pub names : ℕ → ℕ → Bool
+names m i = eqb (bit m i) 1
 
 -- ── a map of bits: bit i says whether a test holds of i, bit 0 the least significant; its trailing zeros are the first hit ──
 -- the n bits from i on, that of i the least significant

@@ -3,10 +3,10 @@ use mathlib.Core.Path.{_≡_}
 use mathlib.Core.Bool.{Bool, true, false}
 use Prim.Native.Nat.{ℕ, suc, _%_, _≤_, _<_}
 use native.Mathlib.Omega.{arith}
-use Rattle.loops.specs.Loops.{mapFrom, mapOf}
+use Rattle.loops.specs.Loops.{mapFrom, mapOf, names}
 use Rattle.loops.specs.Laws.Map.{map-lt, map-bit}
-use Rattle.engine.specs.Engine.{names}
-use Rattle.engine.specs.Laws.Masks.{said, names-child}
+use Rattle.loops.specs.Laws.Mask.{said}
+use Rattle.engine.specs.Laws.Masks.{names-child}
 
 pub names-map : (n : ℕ) (f : ℕ → Bool) (p : ℕ) → p < n → names (mapOf n f) p ≡ f p
 names-map n f p h = said (mapOf n f) p (map-bit n f p h)

@@ -8,8 +8,9 @@ use native.Mathlib.Omega.{arith}
 use lib.Dec.{leb, ltb, eqb}
 use lib.ListN.{length, getD}
 use borrow.Author.Tests.{le-leb, lt-leb, le-ltb, lt-ltb}
-use Rattle.engine.specs.Engine.{names, between, joined, maskStruck, startMasks, giveMasks, takeMasks, strikeMasks}
-use Rattle.engine.specs.Laws.Masks.{names-or, names-struck, names-one}
+use Rattle.loops.specs.Loops.{names}
+use Rattle.engine.specs.Engine.{between, joined, maskStruck, startMasks, giveMasks, takeMasks, strikeMasks}
+use Rattle.loops.specs.Laws.Mask.{names-or, names-struck, names-one}
 use Rattle.engine.specs.Laws.Marking.{between-in, between-below, between-from}
 use Rattle.ledger.specs.Ledger.{Ledger, opening, Lines, among, enter, strike, strikeAll, apply}
 

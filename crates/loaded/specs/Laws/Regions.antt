@@ -10,8 +10,8 @@ use lib.Bits.{bitOr, or-shr, or-mod}
 use lib.Dec.{leb, eqb}
 use lib.Pow.{pow-add, pow-lt, pow-pos, high, shl-exact, shl-shr}
 use borrow.Author.Tests.{not-true, eq-eqb, ne-eqb, leb-true, le-leb}
-use Rattle.loops.specs.Loops.{bitOf, sum, carried, all}
-use Rattle.loops.specs.Laws.Bit.{flag-bit, bit-flag}
+use Rattle.loops.specs.Loops.{sum, carried, all, names}
+use Rattle.loops.specs.Laws.Mask.{names-none, names-or, names-one}
 use Rattle.loops.specs.Laws.Count.{Summing, sum-start, sum-on, sum-end, sum-ext}
 use Rattle.loops.specs.Laws.Every.{all-at, all-of, fail-at, all-ext, all-true, all-zero, all-more}
 use Rattle.words.specs.declared.regions_word.Region.{Region}
@@ -25,56 +25,7 @@ use Rattle.sound.specs.Limit.{entryPieces, regionPieces, loadedPieces}
 use Rattle.sound.specs.Laws.Limit.{none-loaded}
 use Rattle.sound.specs.Laws.Tests.{and-true, not-of, all-and, never}
 use Rattle.loaded.specs.Laws.Limit.{region-empty, region-counted}
-use Rattle.loaded.specs.Opening.{isOpen, marked, slotNoted, weight, someLoaded}
-
--- ── a mask of slots, bit by bit ──
-flagged : (m i : ℕ) → m / 2 ^ i % 2 ≡ bitOf (marked m i)
-unfolding marked
-flagged m i = sym (bit-flag (m / 2 ^ i % 2) (omega arith))
-
-said : (m i : ℕ) {x : Bool} → m / 2 ^ i % 2 ≡ bitOf x → marked m i ≡ x
-unfolding marked
-said m i {x} e = ap (λ (n : ℕ). eqb n 1) e ∙ flag-bit x
-
-marked-none : (i : ℕ) → marked 0 i ≡ false
-marked-none i =
-    let none : (0 * 2 ^ i + 0) / 2 ^ i ≡ 0 = high 0 i (pow-pos i) in
-    let e : 0 * 2 ^ i + 0 ≡ 0 = omega arith in
-    said 0 i (ap (λ (n : ℕ). n % 2) (rw e at none))
-
-marked-or : (a b i : ℕ) → marked (bitOr a b) i ≡ marked a i || marked b i
-marked-or a b i =
-    said (bitOr a b) i
-    (ap (λ (n : ℕ). n % 2 ^ 1) (or-shr a b i)
-    ∙ or-mod (a / 2 ^ i) (b / 2 ^ i) 1
-    ∙ ap₂ bitOr (flagged a i) (flagged b i)
-    ∙ two (marked a i) (marked b i))
-  where
-    two : (x y : Bool) → bitOr (bitOf x) (bitOf y) ≡ bitOf (x || y)
-    two true true = refl
-    two true false = refl
-    two false true = refl
-    two false false = refl
-
-marked-one : (c i : ℕ) → marked (2 ^ c) i ≡ eqb i c
-marked-one c i = said (2 ^ c) i (go (ℕ-discrete i c) (decLt i c))
-  where
-    go : Dec (i ≡ c) → Dec (i < c) → 2 ^ c / 2 ^ i % 2 ≡ bitOf (eqb i c)
-    go (yes z) _ =
-        let e : 2 ^ c ≡ 1 * 2 ^ i = ap (λ (n : ℕ). 2 ^ n) (sym z) ∙ omega arith in
-        rw (eq-eqb i c z) (ap (λ (n : ℕ). n / 2 ^ i % 2) e ∙ ap (λ (n : ℕ). n % 2) (shl-shr 1 i))
-    go (no n) (yes d) =
-        let k = c - i - 1 in
-        let f : c ≡ suc k + i = omega arith in
-        let e : 2 ^ c ≡ 2 ^ suc k * 2 ^ i = ap (λ (n : ℕ). 2 ^ n) f ∙ pow-add 2 (suc k) i in
-        let g : 2 ^ suc k ≡ 2 ^ k * 2 = pow-suc 2 k in
-        let even : 2 ^ suc k % 2 ≡ 0 = omega arith in
-        rw (ne-eqb i c n) (ap (λ (x : ℕ). x / 2 ^ i % 2) e ∙ ap (λ (x : ℕ). x % 2) (shl-shr (2 ^ suc k) i) ∙ even)
-    go (no n) (no d) =
-        let small : 2 ^ c < 2 ^ i = pow-lt (omega arith) in
-        let none : (0 * 2 ^ i + 2 ^ c) / 2 ^ i ≡ 0 = high 0 i small in
-        let e : 0 * 2 ^ i + 2 ^ c ≡ 2 ^ c = omega arith in
-        rw (ne-eqb i c n) (ap (λ (x : ℕ). x % 2) (rw e at none))
+use Rattle.loaded.specs.Opening.{isOpen, slotNoted, weight, someLoaded}
 
 -- ── a region ──
 -- one that is loaded names another slot than i; so do those before region r
@@ -96,13 +47,13 @@ module _ (m : ℕ) (x : Region) where
       let e : 1 * 2 ^ x .slot .0 ≡ 2 ^ x .slot .0 = omega arith in
       rw q (ap (bitOr m) (shl-exact 1 (x .slot .0) 32 (omega arith) (omega arith) ∙ e))
 
-marked-noted : (m : ℕ) (x : Region) (i : ℕ) → marked (slotNoted m x) i ≡ marked m i || not (other i x)
+names-noted : (m : ℕ) (x : Region) (i : ℕ) → names (slotNoted m x) i ≡ names m i || not (other i x)
 unfolding slotNoted other when named
-marked-noted m x i = go (x .loaded) refl
+names-noted m x i = go (x .loaded) refl
   where
-    go : (y : Bool) → x .loaded ≡ y → marked (slotNoted m x) i ≡ marked m i || not (other i x)
-    go true q = rw q (marked-or m (2 ^ x .slot .0) i ∙ ap (λ (y : Bool). marked m i || y) (marked-one (x .slot .0) i ∙ sym (Bool·not-not _)))
-    go false q = rw q (sym (or-false (marked m i)))
+    go : (y : Bool) → x .loaded ≡ y → names (slotNoted m x) i ≡ names m i || not (other i x)
+    go true q = rw q (names-or m (2 ^ x .slot .0) i ∙ ap (λ (y : Bool). names m i || y) (names-one (x .slot .0) i ∙ sym (Bool·not-not _)))
+    go false q = rw q (sym (or-false (names m i)))
 
 -- what S10 says of region r and those before it
 unfoldable pub regionRight : Table → ℕ → ℕ → Bool
@@ -142,16 +93,16 @@ module _ (b : Board) (t : Table) (p m : ℕ) (x : Region) where
     weight-closed o = rw (q, o) refl
 
     module _ (o : isOpen t p (x .slot .0) ≡ true) where
-      pub weight-again : marked m (x .slot .0) ≡ true → 9 ≡ weight b t p m x
+      pub weight-again : names m (x .slot .0) ≡ true → 9 ≡ weight b t p m x
       unfolding weight
       weight-again a = rw (q, o, a) refl
 
-      pub weight-pieces : {n : ℕ} → marked m (x .slot .0) ≡ false → n ≡ entryPieces b (t .k .slot p (x .slot .0)) → n ≡ weight b t p m x
+      pub weight-pieces : {n : ℕ} → names m (x .slot .0) ≡ false → n ≡ entryPieces b (t .k .slot p (x .slot .0)) → n ≡ weight b t p m x
       unfolding weight
       weight-pieces a e = rw (q, o, a) e
 
 -- .. with the slots of those before it in the mask
-module _ (b : Board) {l : List ℕ} {p r : ℕ} {f : RegionsFields} {x : Region} (v : SeenRegions l p f) (h : r < 8) (e : x ≡ nthRegion f r) (m : ℕ) (marks : (i : ℕ) → marked m i ≡ not (others f r i)) where
+module _ (b : Board) {l : List ℕ} {p r : ℕ} {f : RegionsFields} {x : Region} (v : SeenRegions l p f) (h : r < 8) (e : x ≡ nthRegion f r) (m : ℕ) (marks : (i : ℕ) → names m i ≡ not (others f r i)) where
   weighs : weight b (view l) p m x ≡ weightAt b (view l) p r
   unfolding weight weightAt
   weighs = go (x .loaded) refl
@@ -199,17 +150,17 @@ s10-weighed b t p = go (all 8 (regionRight t p)) refl
 -- the loop: n is what the regions before r weigh, and the mask has the slots that they name
 pub record Weighing (b : Board) (t : Table) (p : ℕ) (f : RegionsFields) (m n r : ℕ) : Type 0 where
   pub sums : Summing (weightAt b t p) 52 8 r n
-  pub marks : (i : ℕ) → marked m i ≡ not (others f r i)
+  pub marks : (i : ℕ) → names m i ≡ not (others f r i)
 
 pub weigh-start : {b : Board} {t : Table} {p : ℕ} {f : RegionsFields} → Weighing b t p f 0 0 0
 unfolding others
-weigh-start {f = f} = record { sums = sum-start; marks = λ i. marked-none i ∙ sym (ap not (all-zero (λ q. other i (nthRegion f q)))) }
+weigh-start {f = f} = record { sums = sum-start; marks = λ i. names-none i ∙ sym (ap not (all-zero (λ q. other i (nthRegion f q)))) }
 
 pub weigh-on : {b : Board} {l : List ℕ} {p : ℕ} {f : RegionsFields} {m n r : ℕ} {x : Region} {y m′ : ℕ} → Weighing b (view l) p f m n r → SeenRegions l p f → r < 8 → x ≡ nthRegion f r → y ≡ weight b (view l) p m x → y ≤ 52 → m′ ≡ slotNoted m x → Weighing b (view l) p f m′ (n + y) (r + 1)
 unfolding others
 weigh-on {b} {f = f} {m} {r = r} {x} inv v h e w few z = record {
   sums = sum-on (inv .sums) h (w ∙ weighs b v h e m (inv .marks)) few;
-  marks = λ i. ap (λ (k : ℕ). marked k i) z ∙ marked-noted m x i ∙ ap₂ _||_ (inv .marks i) (ap (λ (y : Region). not (other i y)) e) ∙ either (others f r i) (other i (nthRegion f r)) ∙ sym (ap not (all-more r (λ q. other i (nthRegion f q))));
+  marks = λ i. ap (λ (k : ℕ). names k i) z ∙ names-noted m x i ∙ ap₂ _||_ (inv .marks i) (ap (λ (y : Region). not (other i y)) e) ∙ either (others f r i) (other i (nthRegion f r)) ∙ sym (ap not (all-more r (λ q. other i (nthRegion f q))));
 }
   where
     either : (a c : Bool) → not a || not c ≡ not (a && c)
