@@ -15,7 +15,13 @@ call-spec =
     (λ c κs. c .before .before .if1 .left)
     (λ c κs. top-16 _)
     (λ c. search needs)
-    (λ c. answers-left (c .before .before .before .copy-in .ensures) (c .before .call-table .ensures) (record { small = λ i. c .before .before .before .before .before .before .before .slice-known .given i .fits }) (c .if2 .taken))
+    (λ c.
+    let copied = c .before .before .before in
+    answers-left (copied .copy-in .ensures) (c .before .call-table .ensures) (record { small = λ i. copied .before .before .before .before .slice-known .given i .fits }) (c .if2 .taken))
     (λ c κs. c .before .before .before .before .before .before .before .before .if1 .left)
     (λ c. search needs)
-    (λ c. answers-copied (c .before .before .before .before .before .before .before .before .copy-in .ensures) (c .before .before .before .before .before .before .call-table .ensures) (c .before .before .copy-out .ensures)))
+    (λ c.
+    let written = c .before .before in
+    let answered = written .before .before .before .before in
+    let copied = answered .before .before in
+    answers-copied (copied .copy-in .ensures) (answered .call-table .ensures) (written .copy-out .ensures)))

@@ -14,6 +14,12 @@ region-known-spec =
     (λ c. rw (c .if1 .taken) refl)
     (λ c. rw (c .before .if1 .left, c .if2 .taken) refl)
     (λ c κs. search needs)
-    (λ c. rw (c .before .before .before .before .before .if1 .left, c .before .before .before .before .if2 .left, ← c .before .either .ensures, not-true (c .before .either .result) (c .if3 .taken)) refl)
+    (λ c.
+    let no-write = c .before .before .before .before in
+    let no-read = no-write .before in
+    rw (no-read .if1 .left, no-write .if2 .left, ← c .before .either .ensures, not-true (c .before .either .result) (c .if3 .taken)) refl)
     (λ c κs. search needs)
-    (λ c. rw (c .before .before .before .before .before .before .if1 .left, c .before .before .before .before .before .if2 .left, ← c .before .before .either .ensures, not-false (c .before .before .either .result) (c .before .if3 .left)) (c .unused .ensures)))
+    (λ c.
+    let no-write = c .before .before .before .before .before in
+    let no-read = no-write .before in
+    rw (no-read .if1 .left, no-write .if2 .left, ← c .before .before .either .ensures, not-false (c .before .before .either .result) (c .before .if3 .left)) (c .unused .ensures)))

@@ -17,10 +17,21 @@ serve-word-spec =
     (λ c κs. search needs)
     (λ c. search needs)
     (λ c κs.
-    let h = sound-means _ _ .0 (c .before .before .before .before .before .before .before .before .before .before .pre) in
-    let canon = sound-canon (c .before .before .before .before .before .before .before .before .fits2 .ensures) h in
-    (canon, read-small _ (sym (c .before .before .before .before .read .ensures) ∙ c .before .before .read2 .given .1), sound-right canon h))
+    let fields = c .before .before in
+    let fitting = fields .before .before .before .before .before .before in
+    let h = sound-means _ _ .0 (fitting .before .before .pre) in
+    let canon = sound-canon (fitting .fits2 .ensures) h in
+    (canon, read-small _ (sym (fields .before .before .read .ensures) ∙ fields .read2 .given .1), sound-right canon h))
     (λ c κs. search needs)
     (λ c. search needs)
-    (λ c. answers-served _ _ _ (c .before .before .before .before .before .before .before .before .before .before .before .before .before .before .pre) (c .before .before .before .before .before .before .before .before .before .before .first .ensures .current) (sym (c .before .before .before .before .before .before .before .before .read .ensures) ∙ c .before .before .before .before .before .before .read2 .given .1) (c .before .before .before .serve .ensures) (c .either .ensures))
-    (λ c. answers-unread _ _ _ (c .before .before .before .before .before .before .before .before .before .pre) (c .before .before .before .before .before .first .ensures .current) (sym (c .before .before .before .read .ensures) ∙ c .before .read3 .given .1)))
+    (λ c.
+    let served = c .before .before .before in
+    let fields = served .before .before .before in
+    let caller = fields .before .before .before .before in
+    let begun = caller .before .before .before .before in
+    answers-served _ _ _ (begun .pre) (caller .first .ensures .current) (sym (fields .before .before .read .ensures) ∙ fields .read2 .given .1) (served .serve .ensures) (c .either .ensures))
+    (λ c.
+    let parted = c .before .before .before in
+    let caller = parted .before .before in
+    let begun = caller .before .before .before .before in
+    answers-unread _ _ _ (begun .pre) (caller .first .ensures .current) (sym (parted .read .ensures) ∙ c .before .read3 .given .1)))

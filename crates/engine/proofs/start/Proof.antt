@@ -16,4 +16,6 @@ start-spec =
     (λ c. let m = memory-says _ _ _ (sym (c .before .before .memory-right .ensures) ∙ not-false _ (c .before .if1 .left)) in omega (arith, m .some))
     (λ c κs. let m = memory-says _ _ _ (sym (c .before .before .memory-right .ensures) ∙ not-false _ (c .before .if1 .left)) in (omega arith, m .room))
     (λ c. search needs)
-    (λ c. engine-done _ _ _ (sym (c .before .before .before .before .before .memory-right .ensures) ∙ not-false _ (c .before .before .before .before .if1 .left)) (c .before .before .reset .ensures)))
+    (λ c.
+    let allowed = c .before .before .before .before in
+    engine-done _ _ _ (sym (allowed .before .memory-right .ensures) ∙ not-false _ (allowed .if1 .left)) (c .before .before .reset .ensures)))

@@ -18,4 +18,6 @@ strike-spec =
     (λ c. let m = strike-says _ _ _ _ (sym (c .before .before .strike-right .ensures) ∙ not-false _ (c .before .if1 .left)) in omega (arith, names-low _ (m .each)))
     (λ c κs. let m = strike-says _ _ _ _ (sym (c .before .before .strike-right .ensures) ∙ not-false _ (c .before .if1 .left)) in (omega (arith, m .memory .some), m .memory .room))
     (λ c. search needs)
-    (λ c. engine-done _ _ _ (sym (c .before .before .before .before .before .strike-right .ensures) ∙ not-false _ (c .before .before .before .before .if1 .left)) (c .before .before .clear .ensures)))
+    (λ c.
+    let allowed = c .before .before .before .before in
+    engine-done _ _ _ (sym (allowed .before .strike-right .ensures) ∙ not-false _ (allowed .if1 .left)) (c .before .before .clear .ensures)))

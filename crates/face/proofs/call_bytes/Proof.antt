@@ -22,26 +22,48 @@ call-bytes-spec =
     (λ c κs. top-at (c .before .load .ensures .0) (c .before .load .ensures .1))
     (λ c. search needs)
     (λ c κs.
-    let size = c .before .before .before .before .before .before .before .before .before .before .before .before .if1 .left in
-    let load = c .before .before .before .before .before .before .before .before .before .load .ensures .0 in
-    let answer = c .before .before .before .before .before .before .before .call-table .ensures in
-    let small = c .before .before .before .before .before .before .before .before .before .before .before .before .before .slice-known .given in
-    let done = c .before .before .before .before .outcome .given .1 in
+    let served = c .before .before .before .before in
+    let answered = served .before .before .before in
+    let loaded = answered .before .before in
+    let sized = loaded .before .before .before in
+    let size = sized .if1 .left in
+    let load = loaded .load .ensures .0 in
+    let answer = answered .call-table .ensures in
+    let small = sized .before .slice-known .given in
+    let done = served .outcome .given .1 in
     (size, call-tells _ size load answer (λ i. small i .fits) done, call-told _ size load answer (λ i. small i .fits) done))
-    (λ c κs. (omega arith, omega (arith, call-caller _ (c .before .before .before .before .before .before .before .before .before .before .if1 .left) (c .before .before .before .before .before .before .before .load .ensures .0) (c .before .before .before .before .before .call-table .ensures)), omega (arith, brief-first (call-brief _ _ _) (sym (c .before .before .before .before .before .call-table .ensures .ran .outcome) ∙ c .before .before .outcome .given .1))))
+    (λ c κs.
+    let served = c .before .before in
+    let answered = served .before .before .before in
+    let loaded = answered .before .before in
+    let sized = loaded .before .before .before in
+    (omega arith, omega (arith, call-caller _ (sized .if1 .left) (loaded .load .ensures .0) (answered .call-table .ensures)), omega (arith, brief-first (call-brief _ _ _) (sym (answered .call-table .ensures .ran .outcome) ∙ served .outcome .given .1))))
     (λ c. search needs)
-    (λ c κs. (omega (arith, number-small (call-brief _ _ _) (sym (c .before .before .before .before .call-table .ensures .ran .outcome) ∙ c .before .outcome2 .given .1)), omega (arith, call-caller _ (c .before .before .before .before .before .before .before .before .before .if1 .left) (c .before .before .before .before .before .before .load .ensures .0) (c .before .before .before .before .call-table .ensures)), omega arith))
+    (λ c κs.
+    let answered = c .before .before .before .before in
+    let loaded = answered .before .before in
+    let sized = loaded .before .before .before in
+    (omega (arith, number-small (call-brief _ _ _) (sym (answered .call-table .ensures .ran .outcome) ∙ c .before .outcome2 .given .1)), omega (arith, call-caller _ (sized .if1 .left) (loaded .load .ensures .0) (answered .call-table .ensures)), omega arith))
     (λ c. ⊎-elim (λ z. ap length (z .6) ∙ z .3 .kept .1 .0) (λ z. ap length (z .1)) (c .before .if2 .came))
     (λ c.
-    let size = c .before .before .before .before .before .before .before .before .before .before .before .if1 .left in
-    let load = c .before .before .before .before .before .before .before .before .load .ensures .0 in
-    let answer = c .before .before .before .before .before .before .call-table .ensures in
-    let small = c .before .before .before .before .before .before .before .before .before .before .before .before .slice-known .given in
-    call-lent _ size load answer (c .before .before .before .outcome .given .1) (c .packed2 .ensures)
-    (⊎-elim {C = c .before .if2 .table ≡ bytesOf (c .before .before .before .before .before .before .call-table .last .1 .0)}
+    let served = c .before .before .before in
+    let answered = served .before .before .before in
+    let loaded = answered .before .before in
+    let sized = loaded .before .before .before in
+    let size = sized .if1 .left in
+    let load = loaded .load .ensures .0 in
+    let answer = answered .call-table .ensures in
+    let small = sized .before .slice-known .given in
+    call-lent _ size load answer (served .outcome .given .1) (c .packed2 .ensures)
+    (⊎-elim {C = c .before .if2 .table ≡ bytesOf (answered .call-table .last .1 .0)}
     (λ z. z .6 ∙ z .3 .ensures)
     (λ z. z .1 ∙ call-stands _ size load answer (λ i. small i .fits) (not-false _ (z .0 .left)))
     (c .before .if2 .came))
     refl)
     (λ c. search needs)
-    (λ c. call-kept _ (c .before .before .before .before .before .before .before .before .before .before .if1 .left) (c .before .before .before .before .before .before .before .load .ensures .0) (c .before .before .before .before .before .call-table .ensures) (c .before .before .outcome2 .given .1) (c .packed3 .ensures)))
+    (λ c.
+    let refused = c .before .before in
+    let answered = refused .before .before .before in
+    let loaded = answered .before .before in
+    let sized = loaded .before .before .before in
+    call-kept _ (sized .if1 .left) (loaded .load .ensures .0) (answered .call-table .ensures) (refused .outcome2 .given .1) (c .packed3 .ensures)))

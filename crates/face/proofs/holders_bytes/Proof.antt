@@ -20,6 +20,16 @@ holders-bytes-spec =
     (λ c. search needs)
     (λ c κs. (omega (arith, holders-number _ _ _ _ (sym (c .before .before .before .before .before .holders-table .ensures .outcome) ∙ c .before .outcome2 .given .1)), omega arith, omega arith))
     (λ c. search needs)
-    (λ c. list-lent _ (c .before .before .before .before .before .before .before .before .before .before .before .if1 .left) (c .before .before .before .before .before .before .before .before .before .load .ensures .0) (c .before .before .before .before .before .before .holders-table .ensures) (c .before .before .outcome .given .1) (c .packed2 .ensures) refl)
+    (λ c.
+    let done = c .before .before in
+    let listed = done .before .before .before .before in
+    let loaded = listed .before .before .before in
+    let sized = loaded .before .before in
+    list-lent _ (sized .if1 .left) (loaded .load .ensures .0) (listed .holders-table .ensures) (done .outcome .given .1) (c .packed2 .ensures) refl)
     (λ c. search needs)
-    (λ c. list-kept _ (c .before .before .before .before .before .before .before .before .before .before .before .if1 .left) (c .before .before .before .before .before .before .before .before .before .load .ensures .0) (c .before .before .before .before .before .before .holders-table .ensures) (c .before .before .outcome2 .given .1) (c .packed3 .ensures)))
+    (λ c.
+    let refused = c .before .before in
+    let listed = refused .before .before .before .before in
+    let loaded = listed .before .before .before in
+    let sized = loaded .before .before in
+    list-kept _ (sized .if1 .left) (loaded .load .ensures .0) (listed .holders-table .ensures) (refused .outcome2 .given .1) (c .packed3 .ensures)))

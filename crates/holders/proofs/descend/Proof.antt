@@ -26,15 +26,18 @@ descend-spec =
     (λ c κs. c .before .loop .inv .small)
     (λ c. omega (arith, descent-room (c .before .before .before .loop .inv) (c .before .look .ensures .2)))
     (λ c.
-    let i = c .before .before .before .before .before .before .loop .inv in
-    let h = c .before .before .before .before .look .ensures in
+    let looked = c .before .before .before .before in
+    let begun = looked .before .before .before in
+    let i = looked .before .before .loop .inv in
+    let h = looked .look .ensures in
     let n = sym (h .0) ∙ c .if1 .taken in
-    (deepest-here _ _ _ _ n ∙ i .comes, i .small, descent-here (c .before .before .before .before .before .before .before .pre) i (h .2) n))
+    (deepest-here _ _ _ _ n ∙ i .comes, i .small, descent-here (begun .pre) i (h .2) n))
     (λ c. search needs)
     (λ c. search needs)
     (λ c.
-    let i = c .before .before .before .before .before .before .loop .inv in
-    let h = c .before .before .before .before .look .ensures in
+    let looked = c .before .before .before .before in
+    let i = looked .before .before .loop .inv in
+    let h = looked .look .ensures in
     descent-down i (h .2) (λ z. omega arith) (h .0) (h .1) (c .if1 .left))
     (λ c κs. c .before .loop .inv .small)
     (λ c. omega (arith, descent-room (c .before .before .before .loop .inv) (looked-count _ (c .before .holding-slot .ensures))))

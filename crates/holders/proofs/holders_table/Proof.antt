@@ -19,9 +19,24 @@ holders-table-spec =
     (λ c. search needs)
     (λ c. let f = c .before .before .first .ensures in listed-outside (passed (c .before .before .before .before .is-sound .ensures) (c .before .before .before .if1 .left)) (below-base _ _ (omega arith)))
     (λ c. search needs)
-    (λ c. let f = c .before .before .before .before .first .ensures in listed-outside (passed (c .before .before .before .before .before .before .is-sound .ensures) (c .before .before .before .before .before .if1 .left)) (from-end _ _ (omega arith) (omega arith)))
-    (λ c. let f = c .before .before .before .before .before .first .ensures in listed-short (passed (c .before .before .before .before .before .before .before .is-sound .ensures) (c .before .before .before .before .before .before .if1 .left)) (in-memory _ _ (omega arith) (omega arith)) (omega arith))
+    (λ c.
+    let bounds = c .before .before .before .before in
+    let accepted = bounds .before in
+    let f = bounds .first .ensures in
+    listed-outside (passed (accepted .before .is-sound .ensures) (accepted .if1 .left)) (from-end _ _ (omega arith) (omega arith)))
+    (λ c.
+    let bounds = c .before .before .before .before .before in
+    let accepted = bounds .before in
+    let f = bounds .first .ensures in
+    listed-short (passed (accepted .before .is-sound .ensures) (accepted .if1 .left)) (in-memory _ _ (omega arith) (omega arith)) (omega arith))
     (λ c. search needs)
-    (λ c κs. (tested _ _ (passed (c .before .before .before .before .before .before .before .before .is-sound .ensures) (c .before .before .before .before .before .before .before .if1 .left)), omega arith))
+    (λ c κs.
+    let accepted = c .before .before .before .before .before .before .before in
+    (tested _ _ (passed (accepted .before .is-sound .ensures) (accepted .if1 .left)), omega arith))
     (λ c. search needs)
-    (λ c. let f = c .before .before .before .before .before .before .before .before .before .first .ensures in listed-done (passed (c .before .before .before .before .before .before .before .before .before .before .before .is-sound .ensures) (c .before .before .before .before .before .before .before .before .before .before .if1 .left)) (in-memory _ _ (omega arith) (omega arith)) (omega arith) (c .before .before .write-holders .ensures)))
+    (λ c.
+    let written = c .before .before in
+    let bounds = written .before .before .before .before .before .before .before in
+    let accepted = bounds .before in
+    let f = bounds .first .ensures in
+    listed-done (passed (accepted .before .is-sound .ensures) (accepted .if1 .left)) (in-memory _ _ (omega arith) (omega arith)) (omega arith) (written .write-holders .ensures)))

@@ -21,10 +21,12 @@ look-spec =
     let e = c .before .before .before .holding-slot .ensures in
     (c .before .before .before .before .pre, lowest-some 32 _ _ (looked-slot _ e (c .before .found .given .1)) .below))
     (λ c.
-    let e = c .before .before .before .before .before .before .holding-slot .ensures in
+    let found = c .before .before .before .before in
+    let e = found .before .before .holding-slot .ensures in
     let f = c .before .before .entry .ensures in
-    (heir-given _ _ _ _ _ (looked-slot _ e (c .before .before .before .before .found .given .1)) (f .slot) (c .if1 .taken), f .given-small, looked-count _ e))
+    (heir-given _ _ _ _ _ (looked-slot _ e (found .found .given .1)) (f .slot) (c .if1 .taken), f .given-small, looked-count _ e))
     (λ c.
-    let e = c .before .before .before .before .before .before .holding-slot .ensures in
+    let found = c .before .before .before .before in
+    let e = found .before .before .holding-slot .ensures in
     let f = c .before .before .entry .ensures in
-    (heir-empty _ _ _ _ _ (looked-slot _ e (c .before .before .before .before .found .given .1)) (f .slot) (c .if1 .left), omega arith, looked-count _ e)))
+    (heir-empty _ _ _ _ _ (looked-slot _ e (found .found .given .1)) (f .slot) (c .if1 .left), omega arith, looked-count _ e)))

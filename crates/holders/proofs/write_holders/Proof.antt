@@ -14,7 +14,8 @@ write-holders-spec =
     (λ c. search needs)
     (λ c. search needs)
     (λ c.
-    let d = c .before .before .before in
-    let e = d .before .before in
-    let p = e .before .before .before .descend .ensures in
-    writes-from _ (p .0) (p .1) (e .climb .ensures .names) (d .write-way .ensures) (p .2)))
+    let written = c .before .before .before in
+    let climbed = written .before .before in
+    let descended = climbed .before .before .before in
+    let p = descended .descend .ensures in
+    writes-from _ (p .0) (p .1) (climbed .climb .ensures .names) (written .write-way .ensures) (p .2)))

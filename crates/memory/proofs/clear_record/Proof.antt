@@ -15,7 +15,9 @@ clear-record-spec =
     (λ c. search needs)
     (λ c κs. search needs)
     (λ c. search needs)
-    (λ c. zero-cleared _ (c .before .before .before .before .before .pre .0) (c .before .before .before .before .before .pre .2) (sym (c .before .word .ensures) ∙ c .if1 .taken))
+    (λ c.
+    let begun = c .before .before .before .before .before in
+    zero-cleared _ (begun .pre .0) (begun .pre .2) (sym (c .before .word .ensures) ∙ c .if1 .taken))
     (λ c. search needs)
     (λ c κs. search needs)
     (λ c. search needs)

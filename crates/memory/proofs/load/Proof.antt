@@ -21,13 +21,15 @@ load-spec =
     (λ c. (omega arith, omega arith, load-at _ _ (omega arith) (load-word _ (load-start _ (c .before .before .before .pre .1)) (omega arith) (omega arith) (c .word .ensures))))
     (λ c. search needs)
     (λ c κs.
+    let begun = c .before .before .before .before .before .before in
     let inv = c .before .before .loop .inv in
-    (c .before .before .before .before .before .before .pre .0, omega (arith, inv .1, c .before .before .before .before .zero-end .ensures .within), inv .2))
+    (begun .pre .0, omega (arith, inv .1, c .before .before .before .before .zero-end .ensures .within), inv .2))
     (λ c. search needs)
     (λ c. search needs)
     (λ c.
-    let inv = c .before .before .before .loop .inv in
-    (omega (arith, inv .1, c .before .before .before .before .before .zero-end .ensures .within), omega (arith, inv .1), c .load-four .ensures))
+    let turn = c .before .before .before in
+    let inv = turn .loop .inv in
+    (omega (arith, inv .1, turn .before .before .zero-end .ensures .within), omega (arith, inv .1), c .load-four .ensures))
     (λ c. omega (arith, c .before .before .before .zero-end .ensures .within))
     (λ c. omega (arith, c .before .before .before .zero-end .ensures .within))
     (λ c. (load-rest (c .before .before .before .zero-end .ensures) (c .before .loop .inv .2) (omega arith), end-top (c .before .before .before .zero-end .ensures) (omega (arith, c .before .before .before .zero-end .ensures .within)) (omega arith))))

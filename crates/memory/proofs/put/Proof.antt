@@ -18,4 +18,7 @@ put-spec =
     (λ c κs. search needs)
     (λ c κs. search needs)
     (λ c. search needs)
-    (λ c. c .before .before .put-quad2 .ensures ∙ rw (c .before .before .before .before .before .before .before .put-quad .ensures) (put-halves _ _ _ (omega arith) (c .before .before .before .before .before .before .before .before .turned .ensures) (c .before .before .before .turned2 .ensures))))
+    (λ c.
+    let both = c .before .before in
+    let half = both .before .before .before .before .before in
+    both .put-quad2 .ensures ∙ rw (half .put-quad .ensures) (put-halves _ _ _ (omega arith) (half .before .turned .ensures) (both .before .turned2 .ensures))))

@@ -26,7 +26,9 @@ store-four-spec =
     (λ c. search needs)
     (λ c. search needs)
     (λ c.
-    let w = c .before .before .before .before .before .before .loop .inv .1 in
-    (omega arith, wrote-at (wrote-on w (omega arith) (omega arith) (wrote-word (c .before .before .before .before .before .before .before .before .args .t .now) (c .before .before .before .before .before .before .before .before .args .k + c .before .before .before .before .before .before .loop .o) (c .before .before .put .ensures) (w .size) (omega arith) (omega arith))) _ _ refl (omega arith)))
+    let put = c .before .before in
+    let turn = put .before .before .before .before in
+    let w = turn .loop .inv .1 in
+    (omega arith, wrote-at (wrote-on w (omega arith) (omega arith) (wrote-word (turn .before .before .args .t .now) (turn .before .before .args .k + turn .loop .o) (put .put .ensures) (w .size) (omega arith) (omega arith))) _ _ refl (omega arith)))
     (λ c. c .before .loop .inv .1 .size ∙ sym (c .before .before .before .pre .0))
     (λ c. wrote-at (c .before .loop .inv .1) _ _ refl (omega (arith, c .before .loop .inv .0))))

@@ -25,7 +25,11 @@ store-record-spec =
     (λ c. search needs)
     (λ c κs. search needs)
     (λ c. search needs)
-    (λ c. clear-stored _ _ (c .before .before .before .before .before .before .before .before .pre .2 .zero _ (c .before .before .before .before .before .before .before .before .pre .1) (rw add-zero (c .before .before .before .before .if1 .taken))) (c .before .before .clear-record .ensures))
+    (λ c.
+    let cleared = c .before .before in
+    let absent = cleared .before .before in
+    let begun = absent .before .before .before .before in
+    clear-stored _ _ (begun .pre .2 .zero _ (begun .pre .1) (rw add-zero (absent .if1 .taken))) (cleared .clear-record .ensures))
     (λ c. search needs)
     (λ c. search needs)
     (λ c. (omega arith, omega arith, omega arith, wrote-none _ (c .before .before .before .before .before .pre .0)))

@@ -19,4 +19,11 @@ store-root-spec =
     (λ c. search needs)
     (λ c κs. search needs)
     (λ c. search needs)
-    (λ c. root-stored (c .before .before .before .before .before .before .before .before .before .before .before .before .before .before .before .before .before .before .before .before .before .before .before .before .before .pre .1) (c .before .before .before .before .before .before .before .before .before .before .before .before .before .before .before .before .before .before .before .before .before .before .clear .ensures) (c .before .before .before .before .before .before .before .before .before .before .before .before .before .before .before .before .before .put .ensures) (c .before .before .before .before .before .before .before .before .before .before .before .before .put2 .ensures) (c .before .before .before .before .before .before .before .put3 .ensures) (c .before .before .put4 .ensures)))
+    (λ c.
+    let entry = c .before .before in
+    let structure = entry .before .before .before .before .before in
+    let header = structure .before .before .before .before .before in
+    let first = header .before .before .before .before .before in
+    let cleared = first .before .before .before .before .before in
+    let begun = cleared .before .before .before in
+    root-stored (begun .pre .1) (cleared .clear .ensures) (first .put .ensures) (header .put2 .ensures) (structure .put3 .ensures) (entry .put4 .ensures)))

@@ -18,4 +18,10 @@ write-pair-spec =
     (λ c. search needs)
     (λ c κs. search needs)
     (λ c κs. search needs)
-    (λ c. writes-by (plain (c .before .before .before .before .before .before .before .before .args .start) (c .before .before .before .before .before .before .before .before .args .end) (c .before .before .before .before .before .before .before .before .args .rights)) (c .before .before .before .access .result) (c .before .before .before .access .ensures) (not-false _ (c .before .before .before .before .before .before .if1 .left)) (omega (arith, c .before .before .before .before .before .if2 .left)) (omega (arith, c .before .before .before .before .if3 .left)) (c .before .write .ensures) (c .parts .ensures)))
+    (λ c.
+    let reached = c .before .before .before in
+    let below = reached .before in
+    let rising = below .before in
+    let readable = rising .before in
+    let begun = readable .before .before in
+    writes-by (plain (begun .args .start) (begun .args .end) (begun .args .rights)) (reached .access .result) (reached .access .ensures) (not-false _ (readable .if1 .left)) (omega (arith, rising .if2 .left)) (omega (arith, below .if3 .left)) (c .before .write .ensures) (c .parts .ensures)))

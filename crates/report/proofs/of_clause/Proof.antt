@@ -14,10 +14,19 @@ of-clause-spec =
     (λ c. one-one _ _ (c .before .before .before .before .if1 .taken) (c .before .before .if2 .taken) (c .before .digit .ensures) (c .digit2 .ensures))
     (λ c κs. search needs)
     (λ c κs. omega (arith, c .before .before .before .before .before .pre .1))
-    (λ c. one-two _ _ (c .before .before .before .before .before .if1 .taken) (c .before .before .before .if2 .left) (c .before .before .before .before .before .before .pre .1) (c .before .before .digit3 .ensures) (c .digit4 .ensures))
+    (λ c.
+    let long-partition = c .before .before .before in
+    let short-clause = long-partition .before .before in
+    one-two _ _ (short-clause .if1 .taken) (long-partition .if2 .left) (short-clause .before .pre .1) (c .before .before .digit3 .ensures) (c .digit4 .ensures))
     (λ c κs. omega (arith, c .before .before .before .pre .0))
     (λ c κs. search needs)
-    (λ c. two-one _ _ (c .before .before .before .before .if1 .left) (c .before .before .before .before .before .pre .0) (c .before .before .if3 .taken) (c .before .digit5 .ensures) (c .digit6 .ensures))
+    (λ c.
+    let short-partition = c .before .before in
+    let long-clause = short-partition .before .before in
+    two-one _ _ (long-clause .if1 .left) (long-clause .before .pre .0) (short-partition .if3 .taken) (c .before .digit5 .ensures) (c .digit6 .ensures))
     (λ c κs. omega (arith, c .before .before .before .pre .0))
     (λ c κs. omega (arith, c .before .before .before .before .before .pre .1))
-    (λ c. let s = c .before .before .before .before .before .before in two-two _ _ (c .before .before .before .before .before .if1 .left) (s .pre .0) (c .before .before .before .if3 .left) (s .pre .1) (c .before .before .digit7 .ensures) (c .digit8 .ensures)))
+    (λ c.
+    let long-partition = c .before .before .before in
+    let long-clause = long-partition .before .before in
+    two-two _ _ (long-clause .if1 .left) (long-clause .before .pre .0) (long-partition .if3 .left) (long-clause .before .pre .1) (c .before .before .digit7 .ensures) (c .digit8 .ensures)))

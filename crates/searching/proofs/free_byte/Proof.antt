@@ -39,11 +39,14 @@ free-byte-spec =
     (λ c. search needs)
     (λ c. search needs)
     (λ c.
-    let s = c .before .before .before .before .before .structure in
-    let a = c .before .before .before .before .before .before .args in
-    map-on (c .before .before .loop .inv) (omega arith)
+    let turn = c .before .before in
+    let present = turn .before in
+    let read = present .before .before in
+    let s = read .structure in
+    let a = read .before .args in
+    map-on (turn .loop .inv) (omega arith)
     (c .empty-bit .ensures .0
     ∙ ap bitOf (empty-free (view (a .t .now) .k) (a .p .0) (a .j) _
-    (rw (s .ensures .area, structure-some) (not-false (s .result .present) (c .before .before .before .if1 .left)))
-    (omega (arith, c .before .before .loop .inv .within)))))
+    (rw (s .ensures .area, structure-some) (not-false (s .result .present) (present .if1 .left)))
+    (omega (arith, turn .loop .inv .within)))))
     (λ c. let e = map-end (c .before .loop .inv) (omega arith) in (e, rw e (map-lt _ _ 8))))

@@ -14,5 +14,14 @@ holds-line-spec =
     (tie.spec
     (λ c κs. search needs)
     (λ c. let e = c .before .before .entry in rw (e .ensures .slot, not-true (e .result .present) (c .if1 .taken)) refl)
-    (λ c. let e = c .before .before .before .before .before .entry in rw (e .ensures .slot, not-false (e .result .present) (c .before .before .before .if1 .left), lt-leb _ _ (c .if2 .taken)) refl)
-    (λ c. let e = c .before .before .before .before .before .before .before .entry in rw (e .ensures .slot, not-false (e .result .present) (c .before .before .before .before .before .if1 .left), le-leb _ _ (c .before .before .if2 .left)) refl))
+    (λ c.
+    let present = c .before .before .before in
+    let read = present .before .before in
+    let e = read .entry in
+    rw (e .ensures .slot, not-false (e .result .present) (present .if1 .left), lt-leb _ _ (c .if2 .taken)) refl)
+    (λ c.
+    let after-start = c .before .before in
+    let present = after-start .before .before .before in
+    let read = present .before .before in
+    let e = read .entry in
+    rw (e .ensures .slot, not-false (e .result .present) (present .if1 .left), le-leb _ _ (after-start .if2 .left)) refl))

@@ -15,4 +15,9 @@ is-child-spec =
     (λ c κs. search needs)
     (λ c. let h = c .before .before .header in rw (h .ensures .area, header-some, not-true (h .result .present) (c .if1 .taken)) refl)
     (λ c. let h = c .before .before .before .before .header in rw (h .ensures .area, header-some, not-false (h .result .present) (c .before .before .if1 .left), eq-eqb _ 0 (c .if2 .taken)) refl)
-    (λ c. let h = c .before .before .before .before .before .before .header in rw (h .ensures .area, header-some, not-false (h .result .present) (c .before .before .before .before .if1 .left), ne-eqb _ 0 (c .before .before .if2 .left), h .ensures .parent) refl))
+    (λ c.
+    let below = c .before .before in
+    let present = below .before .before in
+    let read = present .before .before in
+    let h = read .header in
+    rw (h .ensures .area, header-some, not-false (h .result .present) (present .if1 .left), ne-eqb _ 0 (below .if2 .left), h .ensures .parent) refl))

@@ -17,5 +17,10 @@ boot-spec =
     (λ c κs. c .before .before .before .before .before .before .if1 .left)
     (λ c. search needs)
     (λ c. search needs)
-    (λ c. ran-as (boot-any _ _ _ _ (length-replicate {A = ℕ} 641 0) (c .before .before .before .before .before .before .before .before .before .if1 .left)) (ran-copied (c .before .before .before .before .before .before .before .boot-table .ensures) (c .before .before .before .before .before .enum-told .given .1) (c .before .before .copy-out .ensures)))
+    (λ c.
+    let copied = c .before .before in
+    let done = copied .before .before .before in
+    let booted = done .before .before in
+    let sized = booted .before .before in
+    ran-as (boot-any _ _ _ _ (length-replicate {A = ℕ} 641 0) (sized .if1 .left)) (ran-copied (booted .boot-table .ensures) (done .enum-told .given .1) (copied .copy-out .ensures)))
     (λ c. ran-as (boot-any _ _ _ _ (length-replicate {A = ℕ} 641 0) (c .before .before .before .before .if1 .left)) (ran-kept (c .before .before .boot-table .ensures) (c .enum-told2 .given .1))))

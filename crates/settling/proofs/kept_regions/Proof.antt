@@ -15,12 +15,21 @@ kept-regions-spec =
     (λ c κs. (c .before .before .pre, c .before .regions .ensures .small 1))
     (λ c κs. (c .before .before .before .pre, c .before .before .regions .ensures .small 2))
     (λ c κs. (c .before .before .before .before .pre, c .before .before .before .regions .ensures .small 3))
-    (λ c κs. (c .before .before .before .before .before .pre, c .before .before .before .before .regions .ensures .small 4))
-    (λ c κs. (c .before .before .before .before .before .before .pre, c .before .before .before .before .before .regions .ensures .small 5))
-    (λ c κs. (c .before .before .before .before .before .before .before .pre, c .before .before .before .before .before .before .regions .ensures .small 6))
-    (λ c κs. (c .before .before .before .before .before .before .before .before .pre, c .before .before .before .before .before .before .before .regions .ensures .small 7))
+    (λ c κs.
+    let read = c .before .before .before .before in
+    (read .before .pre, read .regions .ensures .small 4))
+    (λ c κs.
+    let read = c .before .before .before .before .before in
+    (read .before .pre, read .regions .ensures .small 5))
+    (λ c κs.
+    let read = c .before .before .before .before .before .before in
+    (read .before .pre, read .regions .ensures .small 6))
+    (λ c κs.
+    let read = c .before .before .before .before .before .before .before in
+    (read .before .pre, read .regions .ensures .small 7))
     (λ c.
-    let d = c .before .before .before .before in
-    kept-regions _ _ _ _ (d .before .before .before .before .regions .ensures .region)
-    (d .before .before .before .kept-region .ensures) (d .before .before .kept-region2 .ensures) (d .before .kept-region3 .ensures) (d .kept-region4 .ensures)
+    let half = c .before .before .before .before in
+    let read = half .before .before .before .before in
+    kept-regions _ _ _ _ (read .regions .ensures .region)
+    (half .before .before .before .kept-region .ensures) (half .before .before .kept-region2 .ensures) (half .before .kept-region3 .ensures) (half .kept-region4 .ensures)
     (c .before .before .before .kept-region5 .ensures) (c .before .before .kept-region6 .ensures) (c .before .kept-region7 .ensures) (c .kept-region8 .ensures)))

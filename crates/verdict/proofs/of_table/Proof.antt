@@ -17,9 +17,10 @@ of-table-spec =
     (λ c κs. (top-16 _, reached-shaped (early-reached _ _ (c .before .before .before .lowest .ensures) (omega arith)) (omega arith), refl, refl))
     (λ c κs. (top-16 _, refl, refl))
     (λ c κs.
-    let g = c .before .before .before .before in
-    let a = g .before .before .before in
-    let low = early-reached _ _ (a .before .before .before .before .lowest .ensures) (omega arith) in
-    record { reached = low; orders = arranged-orders low (a .arrange .ensures); areas = g .gather-areas .ensures .areas })
+    let gathered = c .before .before .before .before in
+    let arranged = gathered .before .before .before in
+    let told = arranged .before .before .before .before in
+    let low = early-reached _ _ (told .lowest .ensures) (omega arith) in
+    record { reached = low; orders = arranged-orders low (arranged .arrange .ensures); areas = gathered .gather-areas .ensures .areas })
     (λ c κs. search needs)
     (λ c. late-said _ _ (c .before .lowest2 .ensures) (c .said2 .ensures)))

@@ -11,4 +11,6 @@ put-current-spec =
     (λ c κs. search needs)
     (λ c κs. search needs)
     (λ c κs. search needs)
-    (λ c. rw (c .store .ensures, c .before .write .ensures) (current-stored (c .before .before .before .before .before .pre) (c .before .before .before .first .ensures))))
+    (λ c.
+    let read = c .before .before .before in
+    rw (c .store .ensures, c .before .write .ensures) (current-stored (read .before .before .pre) (read .first .ensures))))

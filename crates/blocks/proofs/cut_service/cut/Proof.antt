@@ -14,6 +14,9 @@ cut-spec =
     (λ c κs. search needs)
     (λ c. search needs)
     (λ c. search needs)
-    (λ c κs. record { canon = c .before .before .before .before .before .before .pre .0; inI = c .before .before .before .before .before .before .pre .1; line = c .before .before .before .before .before .before .pre .2; entry = picked-is (c .before .before .f .given .1) (c .before .before .before .before .free-entry .ensures); right = c .before .before .before .before .before .before .pre .3 })
+    (λ c κs.
+    let entry = c .before .before in
+    let begun = entry .before .before .before .before in
+    record { canon = begun .pre .0; inI = begun .pre .1; line = begun .pre .2; entry = picked-is (entry .f .given .1) (entry .before .before .free-entry .ensures); right = begun .pre .3 })
     (λ c. ran-refused (picked-no (c .before .n .given .1) (c .before .before .before .free-entry .ensures) _))
     (λ c. search needs))

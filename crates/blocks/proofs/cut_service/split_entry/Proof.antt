@@ -13,7 +13,13 @@ split-entry-spec =
     (tie.spec
     (λ c κs. record { canon = c .before .pre .0 .canon; inP = c .before .pre .0 .inP; inI = c .before .pre .0 .inI })
     (λ c κs. record { canon = is-canon (c .before .unload-entry .ensures); inP = c .before .before .before .pre .0 .inP; inI = c .before .before .before .pre .0 .inI; present = c .before .before .before .pre .0 .present; given-small = c .before .before .before .pre .0 .given-small; start-small = c .before .before .before .pre .0 .start-small; end-small = c .before .before .before .pre .2 })
-    (λ c κs. record { canon = is-canon (c .before .put-entry .ensures); inP = c .before .before .before .before .before .pre .0 .inP; inI = c .before .before .before .before .before .pre .1; present = c .before .before .before .before .before .pre .0 .present; given-small = c .before .before .before .before .before .pre .0 .given-small; start-small = c .before .before .before .before .before .pre .2; end-small = c .before .before .before .before .before .pre .0 .end-small })
-    (λ c. is-then (λ (t : Table). putSlot t (c .before .before .before .before .before .before .args .c .0) (c .before .before .before .before .before .before .args .n .0) (some (startingAt (entryOf (c .before .before .before .before .before .before .args .f)) (c .before .before .before .before .before .before .args .l .0))) (c .before .before .before .before .before .before .args .f .opened))
-    (is-then (λ (t : Table). putSlot t (c .before .before .before .before .before .before .args .c .0) (c .before .before .before .before .before .before .args .s .0) (some (endingAt (entryOf (c .before .before .before .before .before .before .args .f)) (c .before .before .before .before .before .before .args .l .0))) (c .before .before .before .before .before .before .args .f .opened)) (c .before .before .before .before .unload-entry .ensures) (c .before .before .put-entry .ensures))
+    (λ c κs.
+    let begun = c .before .before .before .before .before in
+    record { canon = is-canon (c .before .put-entry .ensures); inP = begun .pre .0 .inP; inI = begun .pre .1; present = begun .pre .0 .present; given-small = begun .pre .0 .given-small; start-small = begun .pre .2; end-small = begun .pre .0 .end-small })
+    (λ c.
+    let put = c .before .before in
+    let unloaded = put .before .before in
+    let begun = unloaded .before .before in
+    is-then (λ (t : Table). putSlot t (begun .args .c .0) (begun .args .n .0) (some (startingAt (entryOf (begun .args .f)) (begun .args .l .0))) (begun .args .f .opened))
+    (is-then (λ (t : Table). putSlot t (begun .args .c .0) (begun .args .s .0) (some (endingAt (entryOf (begun .args .f)) (begun .args .l .0))) (begun .args .f .opened)) (unloaded .unload-entry .ensures) (put .put-entry .ensures))
     (c .put-entry2 .ensures)))

@@ -20,6 +20,15 @@ give-spec =
     (λ c κs. c .before .before .before .before .before .before .before .pre .2)
     (λ c. search needs)
     (λ c. search needs)
-    (λ c κs. record { canon = c .before .before .before .before .before .before .before .before .before .before .before .before .pre .0; now = c .before .before .before .before .before .before .before .before .before .before .first .ensures .current; caller = c .before .before .before .before .before .before .before .before .before .before .first .ensures .current-small; inP = c .before .before .before .before .before .before .before .before .before .before .before .before .pre .1; inI = c .before .before .before .before .before .before .before .before .before .before .before .before .pre .2; isChild = sym (c .before .before .before .before .before .before .before .is-child .ensures) ∙ not-false _ (c .before .before .before .before .before .before .if1 .left); entry = picked-is (c .before .before .f .given .1) (c .before .before .before .before .free-entry .ensures); right = c .before .before .before .before .before .before .before .before .before .before .before .before .pre .3 })
-    (λ c. ran-refused (pass 3 (child-now _ _ (c .before .before .before .before .before .before .before .before .before .first .ensures .current) (sym (c .before .before .before .before .before .before .is-child .ensures) ∙ not-false _ (c .before .before .before .before .before .if1 .left))) (picked-no (c .before .n .given .1) (c .before .before .before .free-entry .ensures) _)))
+    (λ c κs.
+    let entry = c .before .before in
+    let child = entry .before .before .before .before in
+    let caller = child .before .before .before .before in
+    let begun = caller .before .before in
+    record { canon = begun .pre .0; now = caller .first .ensures .current; caller = caller .first .ensures .current-small; inP = begun .pre .1; inI = begun .pre .2; isChild = sym (child .before .is-child .ensures) ∙ not-false _ (child .if1 .left); entry = picked-is (entry .f .given .1) (entry .before .before .free-entry .ensures); right = begun .pre .3 })
+    (λ c.
+    let picked = c .before .before .before in
+    let child = picked .before .before in
+    let caller = child .before .before .before .before in
+    ran-refused (pass 3 (child-now _ _ (caller .first .ensures .current) (sym (child .before .is-child .ensures) ∙ not-false _ (child .if1 .left))) (picked-no (c .before .n .given .1) (picked .free-entry .ensures) _)))
     (λ c. search needs))

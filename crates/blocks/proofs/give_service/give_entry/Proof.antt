@@ -17,8 +17,22 @@ give-entry-spec =
     (λ c. search needs)
     (λ c. give-full (c .before .before .before .before .pre) _ _ (found-is _ (sym (c .enum-told .given .1) ∙ c .before .before .free-slot .ensures)))
     (λ c κs. search needs)
-    (λ c. give-more (c .before .before .before .before .before .before .before .pre) _ _ (found-is _ (sym (c .before .before .before .found .given .1) ∙ c .before .before .before .before .before .free-slot .ensures)) (sym (c .before .rights-within .ensures) ∙ not-true _ (c .if1 .taken)))
-    (λ c. give-whole (c .before .before .before .before .before .before .before .before .pre) _ _ (found-is _ (sym (c .before .before .before .before .found .given .1) ∙ c .before .before .before .before .before .before .free-slot .ensures)) (sym (c .before .before .rights-within .ensures) ∙ not-false _ (c .before .if1 .left)) (c .if2 .taken))
-    (λ c κs. (can-hand (c .before .before .before .before .before .before .before .before .before .pre), c .before .before .before .before .before .before .before .before .before .pre .inP, lowest-some 32 _ _ (found-is _ (sym (c .before .before .before .before .before .found .given .1) ∙ c .before .before .before .before .before .before .before .free-slot .ensures)) .below))
+    (λ c.
+    let found = c .before .before .before in
+    let begun = found .before .before .before .before in
+    give-more (begun .pre) _ _ (found-is _ (sym (found .found .given .1) ∙ found .before .before .free-slot .ensures)) (sym (c .before .rights-within .ensures) ∙ not-true _ (c .if1 .taken)))
+    (λ c.
+    let found = c .before .before .before .before in
+    let begun = found .before .before .before .before in
+    give-whole (begun .pre) _ _ (found-is _ (sym (found .found .given .1) ∙ found .before .before .free-slot .ensures)) (sym (c .before .before .rights-within .ensures) ∙ not-false _ (c .before .if1 .left)) (c .if2 .taken))
+    (λ c κs.
+    let found = c .before .before .before .before .before in
+    let begun = found .before .before .before .before in
+    (can-hand (begun .pre), begun .pre .inP, lowest-some 32 _ _ (found-is _ (sym (found .found .given .1) ∙ found .before .before .free-slot .ensures)) .below))
     (λ c. search needs)
-    (λ c. give-done (c .before .before .before .before .before .before .before .before .before .before .before .pre) _ _ (found-is _ (sym (c .before .before .before .before .before .before .before .found .given .1) ∙ c .before .before .before .before .before .before .before .before .before .free-slot .ensures)) (sym (c .before .before .before .before .before .rights-within .ensures) ∙ not-false _ (c .before .before .before .before .if1 .left)) (c .before .before .before .if2 .left) (c .before .hand-over .ensures)))
+    (λ c.
+    let divisible = c .before .before .before in
+    let within = divisible .before in
+    let found = within .before .before .before in
+    let begun = found .before .before .before .before in
+    give-done (begun .pre) _ _ (found-is _ (sym (found .found .given .1) ∙ found .before .before .free-slot .ensures)) (sym (within .before .rights-within .ensures) ∙ not-false _ (within .if1 .left)) (divisible .if2 .left) (c .before .hand-over .ensures)))

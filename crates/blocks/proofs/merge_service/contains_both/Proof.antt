@@ -16,4 +16,6 @@ contains-both-spec =
     (λ c κs. search needs)
     (λ c. rw (not-false (c .before .before .before .before .args .g .present) (c .before .before .if1 .left), ← c .before .grants .ensures, not-true (c .before .grants .result) (c .if2 .taken)) refl)
     (λ c κs. search needs)
-    (λ c. rw (not-false (c .before .before .before .before .before .args .g .present) (c .before .before .before .if1 .left), ← c .before .before .grants .ensures, not-false (c .before .before .grants .result) (c .before .if2 .left)) (c .grants2 .ensures)))
+    (λ c.
+    let present = c .before .before .before in
+    rw (not-false (present .before .before .args .g .present) (present .if1 .left), ← c .before .before .grants .ensures, not-false (c .before .before .grants .result) (c .before .if2 .left)) (c .grants2 .ensures)))

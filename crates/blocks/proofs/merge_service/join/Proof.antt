@@ -14,7 +14,13 @@ join-spec =
     (tie.spec
     (λ c κs. record { canon = c .before .pre .0 .canon; inP = c .before .pre .0 .inP; inI = c .before .pre .0 .inI })
     (λ c κs. record { canon = is-canon (c .before .before .unload-entry .ensures); inP = c .before .before .before .before .pre .0 .inP; inI = c .before .before .before .before .pre .0 .inI; present = c .before .before .before .before .pre .0 .present; given-small = c .before .before .before .before .pre .0 .given-small; start-small = c .before .before .before .before .pre .0 .start-small; end-small = c .before .before .before .before .pre .2 })
-    (λ c κs. record { canon = is-canon (c .before .put-entry .ensures); inP = c .before .before .before .before .before .before .pre .0 .inP; inI = c .before .before .before .before .before .before .pre .1 })
-    (λ c. is-then (λ (t : Table). unloadedAt t (c .before .before .before .before .before .before .before .args .c .0) (c .before .before .before .before .before .before .before .args .u .0))
-    (is-then (λ (t : Table). putSlot t (c .before .before .before .before .before .before .before .args .c .0) (c .before .before .before .before .before .before .before .args .s .0) (some (endingAt (entryOf (c .before .before .before .before .before .before .before .args .e)) (c .before .before .before .before .before .before .before .args .f .end .0))) (c .before .before .before .before .before .before .before .args .e .opened)) (c .before .before .before .before .before .unload-entry .ensures) (c .before .before .put-entry .ensures))
+    (λ c κs.
+    let begun = c .before .before .before .before .before .before in
+    record { canon = is-canon (c .before .put-entry .ensures); inP = begun .pre .0 .inP; inI = begun .pre .1 })
+    (λ c.
+    let put = c .before .before in
+    let unloaded = put .before .before .before in
+    let begun = unloaded .before .before in
+    is-then (λ (t : Table). unloadedAt t (begun .args .c .0) (begun .args .u .0))
+    (is-then (λ (t : Table). putSlot t (begun .args .c .0) (begun .args .s .0) (some (endingAt (entryOf (begun .args .e)) (begun .args .f .end .0))) (begun .args .e .opened)) (unloaded .unload-entry .ensures) (put .put-entry .ensures))
     (c .unload-entry2 .ensures)))

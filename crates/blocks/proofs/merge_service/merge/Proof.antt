@@ -14,6 +14,13 @@ merge-spec =
     (λ c κs. search needs)
     (λ c. ran-refused (merge-none _ (c .before .before .before .before .before .first .ensures .current) (c .before .before .entry .ensures) (not-true _ (c .if1 .taken))))
     (λ c κs. search needs)
-    (λ c. ran-refused (merge-other-none (c .before .before .before .before .before .before .before .before .before .first .ensures .current) (c .before .before .before .before .before .before .entry .ensures) (not-false _ (c .before .before .before .before .if1 .left)) (c .before .before .entry2 .ensures) (not-true _ (c .if2 .taken))))
-    (λ c κs. record { canon = c .before .before .before .before .before .before .before .before .before .before .before .before .pre .0; now = c .before .before .before .before .before .before .before .before .before .before .first .ensures .current; caller = c .before .before .before .before .before .before .before .before .before .before .first .ensures .current-small; inI = c .before .before .before .before .before .before .before .before .before .before .before .before .pre .1; inU = c .before .before .before .before .before .before .before .before .before .before .before .before .pre .2; first = c .before .before .before .before .before .before .before .entry .ensures; first-there = not-false _ (c .before .before .before .before .before .if1 .left); second = c .before .before .before .entry2 .ensures; second-there = not-false _ (c .before .if2 .left); right = c .before .before .before .before .before .before .before .before .before .before .before .before .pre .3 })
+    (λ c.
+    let first-present = c .before .before .before .before in
+    let caller = first-present .before .before .before .before .before in
+    ran-refused (merge-other-none (caller .first .ensures .current) (first-present .before .before .entry .ensures) (not-false _ (first-present .if1 .left)) (c .before .before .entry2 .ensures) (not-true _ (c .if2 .taken))))
+    (λ c κs.
+    let first-present = c .before .before .before .before .before in
+    let caller = first-present .before .before .before .before .before in
+    let begun = caller .before .before in
+    record { canon = begun .pre .0; now = caller .first .ensures .current; caller = caller .first .ensures .current-small; inI = begun .pre .1; inU = begun .pre .2; first = first-present .before .before .entry .ensures; first-there = not-false _ (first-present .if1 .left); second = c .before .before .before .entry2 .ensures; second-there = not-false _ (c .before .if2 .left); right = begun .pre .3 })
     (λ c. search needs))

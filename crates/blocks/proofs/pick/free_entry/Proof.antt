@@ -12,6 +12,20 @@ free-entry-spec =
     (λ c κs. search needs)
     (λ c κs. (c .before .first .ensures .current-small, c .before .before .pre))
     (λ c. pick-none (c .before .before .before .before .first .ensures .current) (c .before .before .entry .ensures) (not-true _ (c .if1 .taken)))
-    (λ c. pick-closed (c .before .before .before .before .before .before .first .ensures .current) (c .before .before .before .before .entry .ensures) (not-false _ (c .before .before .if1 .left)) (not-true _ (c .if2 .taken)))
-    (λ c. pick-given (c .before .before .before .before .before .before .before .before .first .ensures .current) (c .before .before .before .before .before .before .entry .ensures) (not-false _ (c .before .before .before .before .if1 .left)) (not-false _ (c .before .before .if2 .left)) (c .if3 .taken))
-    (λ c. pick-free (c .before .before .before .before .before .before .before .before .first .ensures .current) (c .before .before .before .before .before .before .entry .ensures) (not-false _ (c .before .before .before .before .if1 .left)) (not-false _ (c .before .before .if2 .left)) (c .if3 .left)))
+    (λ c.
+    let present = c .before .before in
+    let read = present .before .before in
+    let caller = read .before .before in
+    pick-closed (caller .first .ensures .current) (read .entry .ensures) (not-false _ (present .if1 .left)) (not-true _ (c .if2 .taken)))
+    (λ c.
+    let opened = c .before .before in
+    let present = opened .before .before in
+    let read = present .before .before in
+    let caller = read .before .before in
+    pick-given (caller .first .ensures .current) (read .entry .ensures) (not-false _ (present .if1 .left)) (not-false _ (opened .if2 .left)) (c .if3 .taken))
+    (λ c.
+    let opened = c .before .before in
+    let present = opened .before .before in
+    let read = present .before .before in
+    let caller = read .before .before in
+    pick-free (caller .first .ensures .current) (read .entry .ensures) (not-false _ (present .if1 .left)) (not-false _ (opened .if2 .left)) (c .if3 .left)))

@@ -11,7 +11,24 @@ is-returned-spec =
     (tie.spec
     (λ c κs. search needs)
     (λ c. returned-none (c .before .before .before .before .args .e) (c .before .before .entry .ensures) (not-true _ (c .if1 .taken)))
-    (λ c. returned-given (c .before .before .before .before .before .before .args .e) (c .before .before .before .before .entry .ensures) (not-false _ (c .before .before .if1 .left)) (c .if2 .taken))
-    (λ c. returned-start (c .before .before .before .before .before .before .before .before .before .args .e) (c .before .before .before .before .before .before .before .entry .ensures) (not-false _ (c .before .before .before .before .before .if1 .left)) (c .before .before .before .if2 .left) (c .if3 .taken))
-    (λ c. returned-end (c .before .before .before .before .before .before .before .before .before .before .before .before .args .e) (c .before .before .before .before .before .before .before .before .before .before .entry .ensures) (not-false _ (c .before .before .before .before .before .before .before .before .if1 .left)) (c .before .before .before .before .before .before .if2 .left) (c .before .before .before .if3 .left) (c .if4 .taken))
-    (λ c. returned-open (c .before .before .before .before .before .before .before .before .before .before .before .before .args .e) (c .before .before .before .before .before .before .before .before .before .before .entry .ensures) (not-false _ (c .before .before .before .before .before .before .before .before .if1 .left)) (c .before .before .before .before .before .before .if2 .left) (c .before .before .before .if3 .left) (c .if4 .left)))
+    (λ c.
+    let present = c .before .before in
+    let read = present .before .before in
+    returned-given (read .before .before .args .e) (read .entry .ensures) (not-false _ (present .if1 .left)) (c .if2 .taken))
+    (λ c.
+    let free = c .before .before .before in
+    let present = free .before .before in
+    let read = present .before .before in
+    returned-start (read .before .before .args .e) (read .entry .ensures) (not-false _ (present .if1 .left)) (free .if2 .left) (c .if3 .taken))
+    (λ c.
+    let same-start = c .before .before .before in
+    let free = same-start .before .before .before in
+    let present = free .before .before in
+    let read = present .before .before in
+    returned-end (read .before .before .args .e) (read .entry .ensures) (not-false _ (present .if1 .left)) (free .if2 .left) (same-start .if3 .left) (c .if4 .taken))
+    (λ c.
+    let same-start = c .before .before .before in
+    let free = same-start .before .before .before in
+    let present = free .before .before in
+    let read = present .before .before in
+    returned-open (read .before .before .args .e) (read .entry .ensures) (not-false _ (present .if1 .left)) (free .if2 .left) (same-start .if3 .left) (c .if4 .left)))

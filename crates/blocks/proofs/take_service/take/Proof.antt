@@ -12,6 +12,15 @@ take-spec =
     (λ c κs. search needs)
     (λ c κs. (c .before .before .first .ensures .current-small, c .before .before .before .before .pre .1))
     (λ c. take-none (c .before .before .before .before .before .first .ensures .current) (c .before .before .entry .ensures) (not-true _ (c .if1 .taken)))
-    (λ c. take-not-given (c .before .before .before .before .before .before .before .first .ensures .current) (c .before .before .before .before .entry .ensures) (not-false _ (c .before .before .if1 .left)) (c .if2 .taken))
-    (λ c κs. record { canon = c .before .before .before .before .before .before .before .before .before .before .pre .0; now = c .before .before .before .before .before .before .before .before .first .ensures .current; caller = c .before .before .before .before .before .before .before .before .first .ensures .current-small; inI = c .before .before .before .before .before .before .before .before .before .before .pre .1; seen = c .before .before .before .before .before .entry .ensures; present = not-false _ (c .before .before .before .if1 .left); is-given = c .before .if2 .left; right = c .before .before .before .before .before .before .before .before .before .before .pre .2 })
+    (λ c.
+    let present = c .before .before in
+    let read = present .before .before in
+    let caller = read .before .before .before in
+    take-not-given (caller .first .ensures .current) (read .entry .ensures) (not-false _ (present .if1 .left)) (c .if2 .taken))
+    (λ c κs.
+    let present = c .before .before .before in
+    let read = present .before .before in
+    let caller = read .before .before .before in
+    let begun = caller .before .before in
+    record { canon = begun .pre .0; now = caller .first .ensures .current; caller = caller .first .ensures .current-small; inI = begun .pre .1; seen = read .entry .ensures; present = not-false _ (present .if1 .left); is-given = c .before .if2 .left; right = begun .pre .2 })
     (λ c. search needs))

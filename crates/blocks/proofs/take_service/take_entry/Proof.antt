@@ -17,6 +17,15 @@ take-entry-spec =
     (λ c. search needs)
     (λ c. search needs)
     (λ c. take-kept (c .before .before .before .before .pre) (found-is _ (sym (c .enum-told .given .1) ∙ c .before .before .returned-slot .ensures)))
-    (λ c κs. (can-take (c .before .before .before .before .before .before .pre), lowest-some 32 _ _ (found-is _ (sym (c .before .before .found .given .1) ∙ c .before .before .before .before .returned-slot .ensures)) .below))
-    (λ c κs. (is-canon (c .before .take-back .ensures), omega (arith, c .before .before .before .before .before .before .before .before .pre .caller, c .before .before .before .before .before .before .before .before .pre .seen .given-small)))
-    (λ c. take-done (c .before .before .before .before .before .before .before .before .before .pre) (found-is _ (sym (c .before .before .before .before .before .found .given .1) ∙ c .before .before .before .before .before .before .before .returned-slot .ensures)) (c .before .before .take-back .ensures) (c .settle-regions .ensures)))
+    (λ c κs.
+    let found = c .before .before in
+    let begun = found .before .before .before .before in
+    (can-take (begun .pre), lowest-some 32 _ _ (found-is _ (sym (found .found .given .1) ∙ found .before .before .returned-slot .ensures)) .below))
+    (λ c κs.
+    let begun = c .before .before .before .before .before .before .before .before in
+    (is-canon (c .before .take-back .ensures), omega (arith, begun .pre .caller, begun .pre .seen .given-small)))
+    (λ c.
+    let regained = c .before .before in
+    let found = regained .before .before .before in
+    let begun = found .before .before .before .before in
+    take-done (begun .pre) (found-is _ (sym (found .found .given .1) ∙ found .before .before .returned-slot .ensures)) (regained .take-back .ensures) (c .settle-regions .ensures)))

@@ -15,10 +15,12 @@ pair-bytes-spec =
     (λ c κs. search needs)
     (λ c κs. top-at (c .before .load .ensures .0) (c .before .load .ensures .1))
     (λ c.
-    let d = c .before .before .before in
-    unsound-words _ _ _ (d .before .before .if1 .left) (d .load .ensures .0) (sym (c .before .is-sound .ensures) ∙ not-true _ (c .if2 .taken)))
+    let loaded = c .before .before .before in
+    let sized = loaded .before .before in
+    unsound-words _ _ _ (sized .if1 .left) (loaded .load .ensures .0) (sym (c .before .is-sound .ensures) ∙ not-true _ (c .if2 .taken)))
     (λ c κs. search needs)
     (λ c.
-    let b = c .before .before in
-    let d = b .before .before .before in
-    sound-words _ _ _ (d .before .before .if1 .left) (d .load .ensures .0) (sym (b .before .is-sound .ensures) ∙ not-false _ (b .if2 .left)) (c .pair-in .ensures)))
+    let accepted = c .before .before in
+    let loaded = accepted .before .before .before in
+    let sized = loaded .before .before in
+    sound-words _ _ _ (sized .if1 .left) (loaded .load .ensures .0) (sym (accepted .before .is-sound .ensures) ∙ not-false _ (accepted .if2 .left)) (c .pair-in .ensures)))

@@ -18,4 +18,7 @@ pair-in-spec =
     (λ c κs. search needs)
     (λ c. no-entry (c .before .before .entry .ensures) (not-true _ (c .if3 .taken)))
     (λ c κs. search needs)
-    (λ c. let b = c .before .before .before .before in c .write-pair .ensures ∙ is-entry (b .before .before .entry .ensures) (not-false _ (b .if3 .left))))
+    (λ c.
+    let present = c .before .before .before .before in
+    let read = present .before .before in
+    c .write-pair .ensures ∙ is-entry (read .entry .ensures) (not-false _ (present .if3 .left))))

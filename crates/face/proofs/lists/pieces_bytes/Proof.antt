@@ -18,4 +18,8 @@ pieces-bytes-spec =
     (λ c κs. top-at (c .before .before .load .ensures .0) (c .before .before .load .ensures .1))
     (λ c κs. subst Small (sym (c .before .before .pieces-table .ensures .outcome)) (pieces-answers _ _ _ _ _))
     (λ c. search needs)
-    (λ c. pieces-lent _ (c .before .before .before .before .before .before .before .before .if1 .left) (c .before .before .before .before .before .before .load .ensures .0) (c .before .before .before .pieces-table .ensures) (c .answer-word2 .ensures)))
+    (λ c.
+    let listed = c .before .before .before in
+    let loaded = listed .before .before .before in
+    let sized = loaded .before .before in
+    pieces-lent _ (sized .if1 .left) (loaded .load .ensures .0) (listed .pieces-table .ensures) (c .answer-word2 .ensures)))

@@ -22,4 +22,8 @@ plan-bytes-spec =
     (λ c κs. (omega arith, c .before .before .before .pre))
     (λ c κs. top-at (c .before .load .ensures .0) (c .before .load .ensures .1))
     (λ c κs. subst (λ (p : Plan). Small (p .outcome)) (sym (c .plan-of .ensures .0)) (plan-answers _ _ _))
-    (λ c. ready-plan _ _ _ (c .before .before .before .before .before .if1 .left) (c .before .plan-of .ensures .0 ∙ ap (λ (l : List ℕ). planOf (c .before .before .before .before .before .before .before .args .board) l (c .before .before .before .before .before .before .before .args .size)) (c .before .before .before .load .ensures .0)) (c .before .plan-of .ensures .1 ∙ ap (marksIn (c .before .before .before .before .before .before .before .args .board)) (c .before .before .before .load .ensures .0)) (c .answer-word .ensures)))
+    (λ c.
+    let loaded = c .before .before .before in
+    let sized = loaded .before .before in
+    let begun = sized .before .before in
+    ready-plan _ _ _ (sized .if1 .left) (c .before .plan-of .ensures .0 ∙ ap (λ (l : List ℕ). planOf (begun .args .board) l (begun .args .size)) (loaded .load .ensures .0)) (c .before .plan-of .ensures .1 ∙ ap (marksIn (begun .args .board)) (loaded .load .ensures .0)) (c .answer-word .ensures)))

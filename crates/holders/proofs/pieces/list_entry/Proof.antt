@@ -15,6 +15,16 @@ list-entry-spec =
     (λ c κs. c .before .before .entry .ensures .end-small)
     (λ c. search needs)
     (λ c. slot-short _ (c .before .before .before .before .entry .ensures) (not-false _ (c .before .before .if1 .left)) (omega (arith, c .before .piece-count .ensures .0, c .if2 .taken)))
-    (λ c κs. can-list _ (c .before .before .before .before .before .entry .ensures) (not-false _ (c .before .before .before .if1 .left)) (c .before .before .before .before .before .before .before .pre .2) (omega (arith, c .before .before .piece-count .ensures .0, c .before .if2 .left)))
+    (λ c κs.
+    let counted = c .before .before in
+    let present = counted .before in
+    let read = present .before .before in
+    can-list _ (read .entry .ensures) (not-false _ (present .if1 .left)) (read .before .before .pre .2) (omega (arith, counted .piece-count .ensures .0, c .before .if2 .left)))
     (λ c. search needs)
-    (λ c. slot-listed _ (c .before .before .before .before .before .before .before .before .entry .ensures) (not-false _ (c .before .before .before .before .before .before .if1 .left)) (omega (arith, c .before .before .before .before .before .piece-count .ensures .0, c .before .before .before .before .if2 .left)) (c .before .before .write-pieces .ensures)))
+    (λ c.
+    let written = c .before .before in
+    let room = written .before .before in
+    let counted = room .before in
+    let present = counted .before in
+    let read = present .before .before in
+    slot-listed _ (read .entry .ensures) (not-false _ (present .if1 .left)) (omega (arith, counted .piece-count .ensures .0, room .if2 .left)) (written .write-pieces .ensures)))

@@ -21,4 +21,7 @@ pieces-table-spec =
     (λ c. search needs)
     (λ c κs. (omega arith, omega arith, tested _ _ (passed (c .before .before .before .before .is-sound .ensures) (c .before .before .before .if1 .left))))
     (λ c. search needs)
-    (λ c. pieces-listed _ (passed (c .before .before .before .before .before .before .before .is-sound .ensures) (c .before .before .before .before .before .before .if1 .left)) (c .before .before .list-entry .ensures)))
+    (λ c.
+    let listed = c .before .before in
+    let accepted = listed .before .before .before .before in
+    pieces-listed _ (passed (accepted .before .is-sound .ensures) (accepted .if1 .left)) (listed .list-entry .ensures)))

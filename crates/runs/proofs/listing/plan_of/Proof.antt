@@ -19,8 +19,11 @@ plan-of-spec =
     (λ c κs. (tested _ _ (decided-sound (c .before .before .before .is-ordered .ensures) (c .before .before .if1 .left)), decided-order (c .before .before .before .is-ordered .ensures) (c .before .before .if1 .left)))
     (λ c κs. search needs)
     (λ c.
-    let s = decided-sound (c .before .before .before .before .before .before .is-ordered .ensures) (c .before .before .before .before .before .if1 .left) in
-    (c .refuse2 .ensures ∙ plan-short _ _ _ s (c .before .before .leave-marks .ensures .0) (c .before .if2 .taken), marks-sound _ _ s (c .before .before .leave-marks .ensures .1)))
+    let left = c .before .before in
+    let ordered = left .before .before .before in
+    let s = decided-sound (ordered .before .is-ordered .ensures) (ordered .if1 .left) in
+    (c .refuse2 .ensures ∙ plan-short _ _ _ s (left .leave-marks .ensures .0) (c .before .if2 .taken), marks-sound _ _ s (left .leave-marks .ensures .1)))
     (λ c.
-    let s = decided-sound (c .before .before .before .before .before .is-ordered .ensures) (c .before .before .before .before .if1 .left) in
+    let ordered = c .before .before .before .before in
+    let s = decided-sound (ordered .before .is-ordered .ensures) (ordered .if1 .left) in
     (plan-done _ _ _ s (c .before .leave-marks .ensures .0) (omega arith), marks-sound _ _ s (c .before .leave-marks .ensures .1))))

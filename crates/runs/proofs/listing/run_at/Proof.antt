@@ -17,4 +17,9 @@ run-at-spec =
     (λ c. search needs)
     (λ c κs. c .before .before .pre .next)
     (λ c κs. search needs)
-    (λ c. run-is (c .before .before .before .before .before .before .before .args .marks .now) (c .before .before .before .before .before .before .before .args .i) (c .before .before .before .before .before .fields .ensures ∙ ap (λ (m : ℕ). fieldsIn mark m) (c .before .before .before .before .before .before .number .ensures)) (c .before .before .before .fields2 .ensures ∙ ap (λ (m : ℕ). fieldsIn mark m) (c .before .before .before .before .number2 .ensures))))
+    (λ c.
+    let next = c .before .before .before in
+    let next-read = next .before in
+    let here = next-read .before in
+    let here-read = here .before in
+    run-is (here-read .before .args .marks .now) (here-read .before .args .i) (here .fields .ensures ∙ ap (λ (m : ℕ). fieldsIn mark m) (here-read .number .ensures)) (next .fields2 .ensures ∙ ap (λ (m : ℕ). fieldsIn mark m) (next-read .number2 .ensures))))

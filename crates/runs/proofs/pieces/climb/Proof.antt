@@ -24,8 +24,12 @@ climb-spec =
     (λ c. omega (arith, c .before .loop .inv .within, c .before .before .pre .deep))
     (λ c. omega (arith, c .before .loop .inv .within, c .before .before .pre .deep, c .before .before .pre .size))
     (λ c κs. search needs)
-    (λ c. record { climbing = c .before .before .before .before .before .before .loop .inv; low = omega (arith, ap (λ (f : MarkFields). f .line .0) (c .before .before .before .fields .ensures)) })
+    (λ c.
+    let turn = c .before .before .before .before .before .before in
+    record { climbing = turn .loop .inv; low = omega (arith, ap (λ (f : MarkFields). f .line .0) (c .before .before .before .fields .ensures)) })
     (λ c. search needs)
     (λ c. search needs)
-    (λ c. climb-up (c .before .before .before .before .before .before .loop .inv) (omega arith) (omega (arith, ap (λ (f : MarkFields). f .line .0) (c .before .before .before .fields .ensures))))
+    (λ c.
+    let turn = c .before .before .before .before .before .before in
+    climb-up (turn .loop .inv) (omega arith) (omega (arith, ap (λ (f : MarkFields). f .line .0) (c .before .before .before .fields .ensures))))
     (λ c. climb-root (c .before .loop .inv) (c .before .before .pre) (omega arith)))

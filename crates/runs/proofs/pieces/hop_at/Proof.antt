@@ -25,16 +25,27 @@ hop-at-spec =
     (λ c. omega (arith, holder-small (c .before .pre .0) (c .before .pre .3)))
     (λ c. record { passing = c .before .before .pre .2 .at _ (holder-small (c .before .before .pre .0) (c .before .before .pre .3)); passed = c .before .before .pre .2 })
     (λ c κs. pass-in (c .before .before .before .before .pre .0) (c .before .before .before .before .pre .1) (c .before .before .before .before .pre .3) (c .before .loop .inv .passing))
-    (λ c. omega (arith, holder-small (c .before .before .before .before .before .before .before .before .pre .0) (c .before .before .before .before .before .before .before .before .pre .3)))
-    (λ c. omega (arith, holder-small (c .before .before .before .before .before .before .before .before .pre .0) (c .before .before .before .before .before .before .before .before .pre .3)))
-    (λ c. (
-      pass-here (c .before .before .before .before .before .before .before .before .before .before .pre .0) (c .before .before .before .before .before .before .before .before .before .before .pre .1) (c .before .before .before .before .before .before .before .before .before .before .pre .3) (c .before .before .before .before .before .before .before .loop .inv .passing) _ (c .before .before .before .before .before .entry-at .ensures .slot) (omega arith) (c .before .before .before .before .before .entry-at .ensures .given-small),
-      passed-set (c .before .before .before .before .before .before .before .loop .inv .passed) (c .before .before .before .before .before .before .before .loop .inv .passing),
+    (λ c.
+    let begun = c .before .before .before .before .before .before .before .before in
+    omega (arith, holder-small (begun .pre .0) (begun .pre .3)))
+    (λ c.
+    let begun = c .before .before .before .before .before .before .before .before in
+    omega (arith, holder-small (begun .pre .0) (begun .pre .3)))
+    (λ c.
+    let read = c .before .before .before .before .before in
+    let turn = read .before .before in
+    let begun = turn .before .before .before in (
+      pass-here (begun .pre .0) (begun .pre .1) (begun .pre .3) (turn .loop .inv .passing) _ (read .entry-at .ensures .slot) (omega arith) (read .entry-at .ensures .given-small),
+      passed-set (turn .loop .inv .passed) (turn .loop .inv .passing),
     ))
     (λ c. search needs)
     (λ c. search needs)
-    (λ c. record {
-      passing = pass-on (c .before .before .before .before .before .before .before .before .pre .0) (c .before .before .before .before .before .before .before .before .pre .1) (c .before .before .before .before .before .before .before .before .pre .3) (c .before .before .before .before .before .loop .inv .passing) _ (c .before .before .before .entry-at .ensures .slot) (omega arith);
-      passed = c .before .before .before .before .before .loop .inv .passed;
+    (λ c.
+    let read = c .before .before .before in
+    let turn = read .before .before in
+    let begun = turn .before .before .before in
+    record {
+      passing = pass-on (begun .pre .0) (begun .pre .1) (begun .pre .3) (turn .loop .inv .passing) _ (read .entry-at .ensures .slot) (omega arith);
+      passed = turn .loop .inv .passed;
     })
     (λ c. absurd (omega (arith, pass-in (c .before .before .before .before .pre .0) (c .before .before .before .before .pre .1) (c .before .before .before .before .pre .3) (c .before .loop .inv .passing) .1))))

@@ -25,17 +25,39 @@ piece-at-spec =
     (λ c. omega (arith, c .climb .ensures .climbing .within, c .before .before .pre .2 .way .deep))
     (λ c. omega (arith, c .climb .ensures .climbing .within, c .before .before .pre .2 .way .deep, c .before .before .pre .2 .way .size))
     (λ c κs. search needs)
-    (λ c. walk-start (c .before .before .before .before .before .before .pre .2) (c .before .before .before .before .climb .ensures) (c .before .before .fields .ensures))
-    (λ c κs. (c .before .before .before .before .before .before .before .before .before .pre .0, c .before .before .before .before .before .before .before .before .before .pre .1, c .before .before .loop .inv .passed, walk-holds (c .before .before .before .before .before .before .before .before .before .pre .0) (c .before .before .loop .inv) .holds))
+    (λ c.
+    let stood = c .before .before in
+    let climbed = stood .before .before in
+    walk-start (climbed .before .before .pre .2) (climbed .climb .ensures) (stood .fields .ensures))
+    (λ c κs.
+    let turn = c .before .before in
+    let begun = turn .before .before .before .before .before .before .before in
+    (begun .pre .0, begun .pre .1, turn .loop .inv .passed, walk-holds (begun .pre .0) (turn .loop .inv) .holds))
     (λ c κs. search needs)
-    (λ c. walk-here (c .before .before .before .before .before .before .before .before .before .before .before .before .before .before .before .pre .0) (c .before .before .before .before .before .before .before .before .loop .inv) (c .before .before .before .before .before .hop-at .ensures .0) (c .before .before .before .lower .ensures) (c .before .before .before .before .before .hop-at .ensures .1) (omega arith) (c .if1 .taken))
+    (λ c.
+    let lowered = c .before .before .before in
+    let hopped = lowered .before .before in
+    let turn = hopped .before .before .before in
+    let begun = turn .before .before .before .before .before .before .before in
+    walk-here (begun .pre .0) (turn .loop .inv) (hopped .hop-at .ensures .0) (lowered .lower .ensures) (hopped .hop-at .ensures .1) (omega arith) (c .if1 .taken))
     (λ c. search needs)
-    (λ c κs. (
-      low-small (c .before .before .before .before .before .before .before .before .before .before .before .before .before .before .before .pre .0) (c .before .before .before .before .before .before .before .before .loop .inv) (c .before .before .before .before .before .hop-at .ensures .0) (c .before .before .before .lower .ensures) (c .before .before .before .before .before .hop-at .ensures .1) (omega arith) (stop-small (c .before .before .before .before .before .before .before .before .before .before .before .before .before .before .before .args .t .now)),
-      c .before .before .before .before .before .hop-at .ensures .0 .small,
+    (λ c κs.
+    let lowered = c .before .before .before in
+    let hopped = lowered .before .before in
+    let turn = hopped .before .before .before in
+    let begun = turn .before .before .before .before .before .before .before in (
+      low-small (begun .pre .0) (turn .loop .inv) (hopped .hop-at .ensures .0) (lowered .lower .ensures) (hopped .hop-at .ensures .1) (omega arith) (stop-small (begun .args .t .now)),
+      hopped .hop-at .ensures .0 .small,
     ))
     (λ c. omega (arith, c .before .before .before .before .before .before .before .before .before .loop .inv .way .deep))
-    (λ c. omega (arith, c .before .before .before .before .before .before .before .before .before .loop .inv .way .deep, c .before .before .before .before .before .before .before .before .before .loop .inv .way .size))
+    (λ c.
+    let turn = c .before .before .before .before .before .before .before .before .before in
+    omega (arith, turn .loop .inv .way .deep, turn .loop .inv .way .size))
     (λ c. search needs)
-    (λ c. walk-down (c .before .before .before .before .before .before .before .before .before .before .before .before .before .before .before .before .pre .0) (c .before .before .before .before .before .before .before .before .before .loop .inv) (c .before .before .before .before .before .before .hop-at .ensures .0) (c .before .before .before .before .lower .ensures) (c .before .before .before .before .before .before .hop-at .ensures .1) (omega arith) (stop-small (c .before .before .before .before .before .before .before .before .before .before .before .before .before .before .before .before .args .t .now)) (c .mark-of .ensures) (c .before .if1 .left))
+    (λ c.
+    let lowered = c .before .before .before .before in
+    let hopped = lowered .before .before in
+    let turn = hopped .before .before .before in
+    let begun = turn .before .before .before .before .before .before .before in
+    walk-down (begun .pre .0) (turn .loop .inv) (hopped .hop-at .ensures .0) (lowered .lower .ensures) (hopped .hop-at .ensures .1) (omega arith) (stop-small (begun .args .t .now)) (c .mark-of .ensures) (c .before .if1 .left))
     (λ c. walk-last (c .before .before .before .before .before .before .before .before .pre .0) (c .before .loop .inv) (omega arith)))

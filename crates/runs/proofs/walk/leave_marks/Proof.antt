@@ -17,5 +17,11 @@ leave-marks-spec =
     (tie.spec
     (λ c κs. search needs)
     (λ c κs. (c .before .before .before .before .pre .0, c .before .before .before .before .pre .1, refl))
-    (λ c κs. (ap length (c .before .before .mark-runs .ensures .1) ∙ length-tab 513 _, omega (arith, c .before .before .mark-runs .ensures .0, runs-bound (c .before .before .before .before .before .before .before .pre .0)), c .before .before .before .before .before .sized .ensures))
-    (λ c. (c .before .before .before .mark-runs .ensures .0, c .keep .ensures ∙ kept-marks (replicate 513 0) (c .before .before .before .before .before .before .before .before .args .t .now) (c .before .before .before .before .before .before .before .before .pre .0) (c .before .before .before .mark-runs .ensures .0) (c .before .before .before .mark-runs .ensures .1))))
+    (λ c κs.
+    let marked = c .before .before in
+    let sized = marked .before .before .before in
+    (ap length (marked .mark-runs .ensures .1) ∙ length-tab 513 _, omega (arith, marked .mark-runs .ensures .0, runs-bound (sized .before .before .pre .0)), sized .sized .ensures))
+    (λ c.
+    let marked = c .before .before .before in
+    let begun = marked .before .before .before .before .before in
+    (marked .mark-runs .ensures .0, c .keep .ensures ∙ kept-marks (replicate 513 0) (begun .args .t .now) (begun .pre .0) (marked .mark-runs .ensures .0) (marked .mark-runs .ensures .1))))

@@ -25,16 +25,46 @@ mark-runs-spec =
     (λ c κs. search needs)
     (λ c κs. (omega (arith, c .before .first .ensures .end-small), omega arith))
     (λ c. walk-begins (c .before .before .before .before .pre .0) (stop-small (c .before .before .before .before .args .t .now)) (c .before .before .before .before .pre .2) (sym (c .before .before .before .first .ensures .base)) (sym (c .before .before .before .first .ensures .stop)) (c .before .mark-of .ensures))
-    (λ c κs. (c .before .before .before .before .before .before .before .before .before .before .pre .0, c .before .before .before .before .before .before .before .before .before .before .pre .1, standing (c .before .before .before .before .before .loop .inv) (omega (arith, c .before .before .before .before .before .before .before .before .before .first .ensures .stop, c .before .before .if1 .taken))))
-    (λ c κs. (
-      c .before .before .before .before .before .before .before .before .loop .inv .marking .size,
-      marks-few (c .before .before .before .before .before .before .before .before .before .before .before .before .before .pre .0) (c .before .before .before .before .before .before .before .before .loop .inv .marking),
-      omega (arith, c .before .before .before .before .before .if1 .taken, c .before .before .before .before .before .before .before .before .before .before .before .before .first .ensures .end-small),
-      c .before .before .piece-at .ensures .small,
+    (λ c κs.
+    let inside = c .before .before in
+    let turn = inside .before .before .before in
+    let bounds = turn .before .before .before .before in
+    (bounds .before .pre .0, bounds .before .pre .1, standing (turn .loop .inv) (omega (arith, bounds .first .ensures .stop, inside .if1 .taken))))
+    (λ c κs.
+    let pieced = c .before .before in
+    let inside = pieced .before .before .before in
+    let turn = inside .before .before .before in
+    let bounds = turn .before .before .before .before in (
+      turn .loop .inv .marking .size,
+      marks-few (bounds .before .pre .0) (turn .loop .inv .marking),
+      omega (arith, inside .if1 .taken, bounds .first .ensures .end-small),
+      pieced .piece-at .ensures .small,
     ))
-    (λ c. rw (c .before .before .before .before .before .before .before .before .before .before .before .before .before .before .first .ensures .stop) at (walk-nearer (c .before .before .before .before .before .before .before .before .before .before .loop .inv) (omega (arith, c .before .before .before .before .before .before .before .before .before .before .before .before .before .before .first .ensures .stop, c .before .before .before .before .before .before .before .if1 .taken)) (c .before .before .before .before .piece-at .ensures .end)))
-    (λ c. walk-on (c .before .before .before .before .before .before .before .before .before .before .loop .inv) (c .before .before .before .before .before .before .before .before .before .before .before .before .before .before .before .pre .0) (stop-small (c .before .before .before .before .before .before .before .before .before .before .before .before .before .before .before .args .t .now)) (omega (arith, c .before .before .before .before .before .before .before .before .before .before .before .before .before .before .first .ensures .stop, c .before .before .before .before .before .before .before .if1 .taken)) (c .before .before .before .before .piece-at .ensures) (c .before .mark .ensures))
-    (λ c κs. (omega (arith, c .before .before .before .loop .inv .marking .to, c .before .before .before .before .before .before .before .first .ensures .stop, c .before .before .before .before .before .before .before .first .ensures .end-small), omega arith))
-    (λ c. omega (arith, marks-few (c .before .before .before .before .before .before .before .before .before .pre .0) (c .before .before .before .before .loop .inv .marking)))
-    (λ c. omega (arith, marks-few (c .before .before .before .before .before .before .before .before .before .pre .0) (c .before .before .before .before .loop .inv .marking), c .before .before .before .before .loop .inv .marking .size))
-    (λ c. mark-end (c .before .before .before .before .before .before .before .before .before .pre .0) (c .before .before .before .before .loop .inv .marking) (omega (arith, c .before .before .before .before .before .before .before .before .first .ensures .stop, c .before .if1 .left)) (stop-small (c .before .before .before .before .before .before .before .before .before .args .t .now)) (c .mark-of2 .ensures)))
+    (λ c.
+    let pieced = c .before .before .before .before in
+    let inside = pieced .before .before .before in
+    let turn = inside .before .before .before in
+    let bounds = turn .before .before .before .before in
+    rw (bounds .first .ensures .stop) at (walk-nearer (turn .loop .inv) (omega (arith, bounds .first .ensures .stop, inside .if1 .taken)) (pieced .piece-at .ensures .end)))
+    (λ c.
+    let pieced = c .before .before .before .before in
+    let inside = pieced .before .before .before in
+    let turn = inside .before .before .before in
+    let bounds = turn .before .before .before .before in
+    walk-on (turn .loop .inv) (bounds .before .pre .0) (stop-small (bounds .before .args .t .now)) (omega (arith, bounds .first .ensures .stop, inside .if1 .taken)) (pieced .piece-at .ensures) (c .before .mark .ensures))
+    (λ c κs.
+    let turn = c .before .before .before in
+    let bounds = turn .before .before .before .before in
+    (omega (arith, turn .loop .inv .marking .to, bounds .first .ensures .stop, bounds .first .ensures .end-small), omega arith))
+    (λ c.
+    let turn = c .before .before .before .before in
+    let begun = turn .before .before .before .before .before in
+    omega (arith, marks-few (begun .pre .0) (turn .loop .inv .marking)))
+    (λ c.
+    let turn = c .before .before .before .before in
+    let begun = turn .before .before .before .before .before in
+    omega (arith, marks-few (begun .pre .0) (turn .loop .inv .marking), turn .loop .inv .marking .size))
+    (λ c.
+    let turn = c .before .before .before .before in
+    let bounds = turn .before .before .before .before in
+    mark-end (bounds .before .pre .0) (turn .loop .inv .marking) (omega (arith, bounds .first .ensures .stop, c .before .if1 .left)) (stop-small (bounds .before .args .t .now)) (c .mark-of2 .ensures)))

@@ -37,8 +37,12 @@ pub +climb-spec : {M : Type 1} → statement M
     (λ c. let b = room-one (c .before .before .before .before .before .before .pre .1 .1) in search needs)
     (λ c. search needs)
     (λ c κs.
-    let d = c .before .before .before in
-    (omega arith, (d .header .ensures .parent-small, room-step (d .before .before .before .before .pre .1 .1) (d .before .if2 .left) (d .before .before .before .before .pre .1 .0))))
+    let read = c .before .before .before in
+    let steps-left = read .before in
+    let begun = steps-left .before .before .before in
+    (omega arith, (read .header .ensures .parent-small, room-step (begun .pre .1 .1) (steps-left .if2 .left) (begun .pre .1 .0))))
     (λ c.
-    let d = c .before .before .before .before in
-    up-step (d .before .before .if1 .left) (d .before .if2 .left) (d .header .ensures .parent) (c .climb .ensures))
+    let read = c .before .before .before .before in
+    let steps-left = read .before in
+    let below = steps-left .before in
+    up-step (below .if1 .left) (steps-left .if2 .left) (read .header .ensures .parent) (c .climb .ensures))

@@ -14,5 +14,11 @@ put-root-spec =
     (λ c κs. search needs)
     (λ c κs. record { canon = is-canon (c .before .empty-table .ensures); inP = omega arith; present = refl; parent-small = omega arith; start-small = omega arith; end-small = omega arith })
     (λ c κs. record { canon = is-canon (c .before .put-header .ensures); inP = omega arith; inJ = omega arith; present = refl; start-small = omega arith; end-small = omega arith })
-    (λ c κs. record { canon = is-canon (c .before .put-structure .ensures); inP = omega arith; inI = omega arith; present = refl; given-small = omega arith; start-small = c .before .before .before .before .before .before .before .pre .0; end-small = c .before .before .before .before .before .before .before .pre .1 })
-    (λ c. root-words _ _ (c .before .before .before .before .before .before .empty-table .ensures) (c .before .before .before .before .put-header .ensures) (c .before .before .put-structure .ensures) (c .put-entry .ensures)))
+    (λ c κs.
+    let begun = c .before .before .before .before .before .before .before in
+    record { canon = is-canon (c .before .put-structure .ensures); inP = omega arith; inI = omega arith; present = refl; given-small = omega arith; start-small = begun .pre .0; end-small = begun .pre .1 })
+    (λ c.
+    let structured = c .before .before in
+    let headed = structured .before .before in
+    let emptied = headed .before .before in
+    root-words _ _ (emptied .empty-table .ensures) (headed .put-header .ensures) (structured .put-structure .ensures) (c .put-entry .ensures)))

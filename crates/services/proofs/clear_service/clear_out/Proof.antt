@@ -20,6 +20,18 @@ clear-out-spec =
     (λ c κs. search needs)
     (λ c. ran-refused (fail 3 _ (child-now _ _ (c .before .before .before .before .first .ensures .current) (sym (c .before .is-child .ensures) ∙ not-true _ (c .if1 .taken)))))
     (λ c κs. search needs)
-    (λ c κs. let (n, there) = ungiven-child _ _ (c .before .before .before .before .before .before .before .first .ensures .current) (sym (c .before .before .before .before .is-child .ensures) ∙ not-false _ (c .before .before .before .if1 .left)) (c .before .ungive .ensures) in (is-canon (c .before .ungive .ensures), c .before .before .before .before .before .before .before .before .before .pre .1, n, there))
-    (λ c κs. (is-canon (c .before .clear-partition .ensures .is), gone-branch (c .before .clear-partition .ensures) (gone-words (c .before .before .before .ungive .ensures) (gone-ungiven (right-gone (c .before .before .before .before .before .before .before .before .before .before .before .pre .2)) _ _))))
-    (λ c. clear-done _ _ (c .before .before .before .before .before .before .before .before .before .before .first .ensures .current) (sym (c .before .before .before .before .before .before .before .is-child .ensures) ∙ not-false _ (c .before .before .before .before .before .before .if1 .left)) (c .before .before .before .before .ungive .ensures) (c .before .before .clear-partition .ensures) (c .settle .ensures)))
+    (λ c κs.
+    let child = c .before .before .before in
+    let caller = child .before .before .before .before in
+    let (n, there) = ungiven-child _ _ (caller .first .ensures .current) (sym (child .before .is-child .ensures) ∙ not-false _ (child .if1 .left)) (c .before .ungive .ensures) in
+    (is-canon (c .before .ungive .ensures), caller .before .before .pre .1, n, there))
+    (λ c κs.
+    let freed = c .before .before .before in
+    let begun = freed .before .before .before .before .before .before .before .before in
+    (is-canon (c .before .clear-partition .ensures .is), gone-branch (c .before .clear-partition .ensures) (gone-words (freed .ungive .ensures) (gone-ungiven (right-gone (begun .pre .2)) _ _))))
+    (λ c.
+    let cleared = c .before .before in
+    let freed = cleared .before .before in
+    let child = freed .before .before in
+    let caller = child .before .before .before .before in
+    clear-done _ _ (caller .first .ensures .current) (sym (child .before .is-child .ensures) ∙ not-false _ (child .if1 .left)) (freed .ungive .ensures) (cleared .clear-partition .ensures) (c .settle .ensures)))

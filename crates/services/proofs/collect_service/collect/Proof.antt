@@ -21,11 +21,45 @@ collect-spec =
     (λ c. ran-refused (fail 3 _ (sym (c .before .own-or-child .ensures) ∙ not-true _ (c .if1 .taken))))
     (λ c. ran-refused (pass 3 (sym (c .before .before .own-or-child .ensures) ∙ not-false _ (c .before .if1 .left)) (fail 4 _ (no-such _ _ (c .if2 .taken)))))
     (λ c κs. (c .before .before .before .before .before .pre .1, c .before .if2 .left))
-    (λ c. ran-refused (pass 3 (sym (c .before .before .before .before .before .before .own-or-child .ensures) ∙ not-false _ (c .before .before .before .before .before .if1 .left)) (fail 4 _ (structure-there (c .before .before .structure .ensures) (c .before .before .before .before .if2 .left) (not-true _ (c .if3 .taken))))))
-    (λ c κs. (c .before .before .before .before .before .before .before .before .before .pre .1, c .before .before .before .before .before .if2 .left))
-    (λ c. ran-refused (pass 3 (sym (c .before .before .before .before .before .before .before .before .before .own-or-child .ensures) ∙ not-false _ (c .before .before .before .before .before .before .before .before .if1 .left)) (pass 4 (structure-there (c .before .before .before .before .before .structure .ensures) (c .before .before .before .before .before .before .before .if2 .left) (not-false _ (c .before .before .before .if3 .left))) (fail 15 _ (occupied-exit (c .before .before .before .before .before .before .before .before .before .before .before .args .p .0) (c .before .before .before .before .before .before .before .before .before .before .before .args .j) (sym (c .before .vacant .ensures) ∙ not-true _ (c .if4 .taken)))))))
-    (λ c. omega (arith, c .before .before .before .before .before .before .before .before .before .before .before .before .pre .1, c .before .before .before .before .before .before .before .before .if2 .left))
-    (λ c. ran-refused (pass 3 (sym (c .before .before .before .before .before .before .before .before .before .before .before .own-or-child .ensures) ∙ not-false _ (c .before .before .before .before .before .before .before .before .before .before .if1 .left)) (pass 4 (structure-there (c .before .before .before .before .before .before .before .structure .ensures) (c .before .before .before .before .before .before .before .before .before .if2 .left) (not-false _ (c .before .before .before .before .before .if3 .left))) (fail 15 _ (root-first _ _ (sym (c .before .before .before .vacant .ensures) ∙ not-false _ (c .before .before .if4 .left)) (c .if5 .taken))))))
-    (λ c κs. record { canon = c .before .before .before .before .before .before .before .before .before .before .before .before .before .before .pre .0; inP = c .before .before .before .before .before .before .before .before .before .before .before .before .before .before .pre .1; inI = c .before .before .before .before .before .before .before .before .before .before .if2 .left })
-    (λ c κs. (is-canon (c .before .clear-structure .ensures), gone-words (c .before .clear-structure .ensures) (gone-structure (right-gone (c .before .before .before .before .before .before .before .before .before .before .before .before .before .before .before .before .pre .2)) _ _ (sym (c .before .before .before .before .before .before .vacant .ensures) ∙ not-false _ (c .before .before .before .before .before .if4 .left)))))
-    (λ c. ran-done (pass 3 (sym (c .before .before .before .before .before .before .before .before .before .before .before .before .before .before .before .own-or-child .ensures) ∙ not-false _ (c .before .before .before .before .before .before .before .before .before .before .before .before .before .before .if1 .left)) (pass 4 (structure-there (c .before .before .before .before .before .before .before .before .before .before .before .structure .ensures) (c .before .before .before .before .before .before .before .before .before .before .before .before .before .if2 .left) (not-false _ (c .before .before .before .before .before .before .before .before .before .if3 .left))) (pass 15 (not-root-first _ _ (sym (c .before .before .before .before .before .before .before .vacant .ensures) ∙ not-false _ (c .before .before .before .before .before .before .if4 .left)) (c .before .before .before .before .if5 .left)) refl))) (sym (settled-is (c .before .before .clear-structure .ensures) (c .settle .ensures) .encoded))))
+    (λ c.
+    let known = c .before .before .before .before in
+    let allowed = known .before in
+    ran-refused (pass 3 (sym (allowed .before .own-or-child .ensures) ∙ not-false _ (allowed .if1 .left)) (fail 4 _ (structure-there (c .before .before .structure .ensures) (known .if2 .left) (not-true _ (c .if3 .taken))))))
+    (λ c κs.
+    let known = c .before .before .before .before .before in
+    let begun = known .before .before .before .before in
+    (begun .pre .1, known .if2 .left))
+    (λ c.
+    let present = c .before .before .before in
+    let known = present .before .before .before .before in
+    let allowed = known .before in
+    let begun = allowed .before .before .before in
+    ran-refused (pass 3 (sym (allowed .before .own-or-child .ensures) ∙ not-false _ (allowed .if1 .left)) (pass 4 (structure-there (present .before .before .structure .ensures) (known .if2 .left) (not-false _ (present .if3 .left))) (fail 15 _ (occupied-exit (begun .args .p .0) (begun .args .j) (sym (c .before .vacant .ensures) ∙ not-true _ (c .if4 .taken)))))))
+    (λ c.
+    let known = c .before .before .before .before .before .before .before .before in
+    let begun = known .before .before .before .before in
+    omega (arith, begun .pre .1, known .if2 .left))
+    (λ c.
+    let empty = c .before .before in
+    let present = empty .before .before .before in
+    let known = present .before .before .before .before in
+    let allowed = known .before in
+    ran-refused (pass 3 (sym (allowed .before .own-or-child .ensures) ∙ not-false _ (allowed .if1 .left)) (pass 4 (structure-there (present .before .before .structure .ensures) (known .if2 .left) (not-false _ (present .if3 .left))) (fail 15 _ (root-first _ _ (sym (empty .before .vacant .ensures) ∙ not-false _ (empty .if4 .left)) (c .if5 .taken))))))
+    (λ c κs.
+    let present = c .before .before .before .before .before .before in
+    let known = present .before .before .before .before in
+    let begun = known .before .before .before .before in
+    record { canon = begun .pre .0; inP = begun .pre .1; inI = known .if2 .left })
+    (λ c κs.
+    let empty = c .before .before .before .before .before in
+    let known = empty .before .before .before .before .before .before .before in
+    let begun = known .before .before .before .before in
+    (is-canon (c .before .clear-structure .ensures), gone-words (c .before .clear-structure .ensures) (gone-structure (right-gone (begun .pre .2)) _ _ (sym (empty .before .vacant .ensures) ∙ not-false _ (empty .if4 .left)))))
+    (λ c.
+    let cleared = c .before .before in
+    let removable = cleared .before .before in
+    let empty = removable .before .before in
+    let present = empty .before .before .before in
+    let known = present .before .before .before .before in
+    let allowed = known .before in
+    ran-done (pass 3 (sym (allowed .before .own-or-child .ensures) ∙ not-false _ (allowed .if1 .left)) (pass 4 (structure-there (present .before .before .structure .ensures) (known .if2 .left) (not-false _ (present .if3 .left))) (pass 15 (not-root-first _ _ (sym (empty .before .vacant .ensures) ∙ not-false _ (empty .if4 .left)) (removable .if5 .left)) refl))) (sym (settled-is (cleared .clear-structure .ensures) (c .settle .ensures) .encoded))))

@@ -20,8 +20,26 @@ delete-spec =
     (λ c κs. c .before .before .before .before .pre .1)
     (λ c. ran-refused (fail 3 _ (child-now _ _ (c .before .before .before .before .first .ensures .current) (sym (c .before .is-child .ensures) ∙ not-true _ (c .if1 .taken)))))
     (λ c κs. search needs)
-    (λ c. delete-parent _ (c .before .before .before .before .before .before .before .first .ensures .current) (sym (c .before .before .before .before .is-child .ensures) ∙ not-false _ (c .before .before .before .if1 .left)) (sym (c .before .has-child .ensures) ∙ c .if2 .taken))
-    (λ c κs. (c .before .before .before .before .before .before .before .before .before .before .pre .0, c .before .before .before .before .before .before .before .before .first .ensures .current-small))
-    (λ c κs. record { canon = is-canon (c .before .ungive .ensures); inP = c .before .before .before .before .before .before .before .before .before .before .before .before .pre .1 })
-    (λ c κs. (is-canon (c .before .clear-record .ensures), gone-words (c .before .clear-record .ensures) (gone-cleared (gone-words (c .before .before .before .ungive .ensures) (gone-ungiven (right-gone (c .before .before .before .before .before .before .before .before .before .before .before .before .before .before .pre .2)) _ _)) _)))
-    (λ c. delete-done _ (c .before .before .before .before .before .before .before .before .before .before .before .before .before .first .ensures .current) (sym (c .before .before .before .before .before .before .before .before .before .before .is-child .ensures) ∙ not-false _ (c .before .before .before .before .before .before .before .before .before .if1 .left)) (sym (c .before .before .before .before .before .before .before .has-child .ensures) ∙ c .before .before .before .before .before .before .if2 .left) (c .before .before .before .before .ungive .ensures) (c .before .before .clear-record .ensures) (c .settle .ensures)))
+    (λ c.
+    let child = c .before .before .before in
+    let caller = child .before .before .before .before in
+    delete-parent _ (caller .first .ensures .current) (sym (child .before .is-child .ensures) ∙ not-false _ (child .if1 .left)) (sym (c .before .has-child .ensures) ∙ c .if2 .taken))
+    (λ c κs.
+    let caller = c .before .before .before .before .before .before .before .before in
+    (caller .before .before .pre .0, caller .first .ensures .current-small))
+    (λ c κs.
+    let child = c .before .before .before .before .before .before in
+    let begun = child .before .before .before .before .before .before in
+    record { canon = is-canon (c .before .ungive .ensures); inP = begun .pre .1 })
+    (λ c κs.
+    let freed = c .before .before .before in
+    let child = freed .before .before .before .before .before in
+    let begun = child .before .before .before .before .before .before in
+    (is-canon (c .before .clear-record .ensures), gone-words (c .before .clear-record .ensures) (gone-cleared (gone-words (freed .ungive .ensures) (gone-ungiven (right-gone (begun .pre .2)) _ _)) _)))
+    (λ c.
+    let cleared = c .before .before in
+    let freed = cleared .before .before in
+    let childless = freed .before .before in
+    let child = childless .before .before .before in
+    let caller = child .before .before .before .before in
+    delete-done _ (caller .first .ensures .current) (sym (child .before .is-child .ensures) ∙ not-false _ (child .if1 .left)) (sym (childless .before .has-child .ensures) ∙ childless .if2 .left) (freed .ungive .ensures) (cleared .clear-record .ensures) (c .settle .ensures)))

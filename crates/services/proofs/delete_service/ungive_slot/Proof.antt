@@ -12,6 +12,17 @@ ungive-slot-spec =
     (tie.spec
     (λ c κs. search needs)
     (λ c. slot-empty (c .before .before .entry .ensures) _ (c .before .before .before .before .pre .0) (not-true _ (c .if1 .taken)))
-    (λ c. slot-others (c .before .before .before .before .before .entry .ensures) _ (c .before .before .before .before .before .before .before .pre .0) (not-false _ (c .before .before .before .if1 .left)) (c .if2 .taken))
-    (λ c κs. record { canon = c .before .before .before .before .before .before .before .before .pre .0; inP = c .before .before .before .before .before .before .before .before .pre .1; inI = c .before .before .before .before .before .before .before .before .pre .2; present = not-false _ (c .before .before .before .before .if1 .left); given-small = omega arith; start-small = c .before .before .before .before .before .before .entry .ensures .start-small; end-small = c .before .before .before .before .before .before .entry .ensures .end-small })
-    (λ c. slot-ungiven (c .before .before .before .before .before .before .before .entry .ensures) _ (not-false _ (c .before .before .before .before .before .if1 .left)) (c .before .before .if2 .left) (c .put-entry .ensures)))
+    (λ c.
+    let present = c .before .before .before in
+    let read = present .before .before in
+    slot-others (read .entry .ensures) _ (read .before .before .pre .0) (not-false _ (present .if1 .left)) (c .if2 .taken))
+    (λ c κs.
+    let present = c .before .before .before .before in
+    let read = present .before .before in
+    let begun = read .before .before in
+    record { canon = begun .pre .0; inP = begun .pre .1; inI = begun .pre .2; present = not-false _ (present .if1 .left); given-small = omega arith; start-small = read .entry .ensures .start-small; end-small = read .entry .ensures .end-small })
+    (λ c.
+    let given = c .before .before in
+    let present = given .before .before .before in
+    let read = present .before .before in
+    slot-ungiven (read .entry .ensures) _ (not-false _ (present .if1 .left)) (given .if2 .left) (c .put-entry .ensures)))

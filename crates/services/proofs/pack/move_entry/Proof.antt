@@ -15,5 +15,11 @@ move-entry-spec =
     (tie.spec
     (λ c κs. search needs)
     (λ c κs. record { canon = is-canon (c .before .put-entry .ensures); inP = c .before .before .before .pre .0 .inP; inI = c .before .before .before .pre .1 })
-    (λ c κs. (is-canon (c .before .clear-entry .ensures), c .before .before .before .before .before .pre .0 .inP, c .before .before .before .before .before .pre .0 .inI))
-    (λ c. is-then (λ (t : Table). renamed t (c .before .before .before .before .before .before .args .p .0) (c .before .before .before .before .before .before .args .i .0) (c .before .before .before .before .before .before .args .j .0)) (is-then (λ (t : Table). putSlot t (c .before .before .before .before .before .before .args .p .0) (c .before .before .before .before .before .before .args .i .0) none false) (c .before .before .before .before .put-entry .ensures) (c .before .before .clear-entry .ensures)) (c .rename-regions .ensures)))
+    (λ c κs.
+    let begun = c .before .before .before .before .before in
+    (is-canon (c .before .clear-entry .ensures), begun .pre .0 .inP, begun .pre .0 .inI))
+    (λ c.
+    let cleared = c .before .before in
+    let put = cleared .before .before in
+    let begun = put .before .before in
+    is-then (λ (t : Table). renamed t (begun .args .p .0) (begun .args .i .0) (begun .args .j .0)) (is-then (λ (t : Table). putSlot t (begun .args .p .0) (begun .args .i .0) none false) (put .put-entry .ensures) (cleared .clear-entry .ensures)) (c .rename-regions .ensures)))

@@ -31,4 +31,7 @@ pack-spec =
     (λ c. search needs)
     (λ c. search needs)
     (λ c. pack-more (c .before .before .before .loop .inv) (omega arith) (c .pack-slot .ensures))
-    (λ c. pack-end (c .before .before .before .before .before .pre .2) (sym (c .before .before .before .own-or-child .ensures) ∙ not-false _ (c .before .before .if1 .left)) (c .before .loop .inv) (omega arith)))
+    (λ c.
+    let allowed = c .before .before in
+    let begun = allowed .before .before .before in
+    pack-end (begun .pre .2) (sym (allowed .before .own-or-child .ensures) ∙ not-false _ (allowed .if1 .left)) (c .before .loop .inv) (omega arith)))

@@ -17,8 +17,25 @@ pack-slot-spec =
     (λ c κs. search needs)
     (λ c. search needs)
     (λ c. search needs)
-    (λ c. turn-full (c .before .before .before .before .before .before .before .before .pre) (c .before .before .before .before .before .before .entry .ensures) (not-false _ (c .before .before .before .before .if1 .left)) (found-is _ (sym (c .enum-told .given .1) ∙ c .before .before .free-slot .ensures)))
-    (λ c. turn-above (c .before .before .before .before .before .before .before .before .before .before .before .before .pre) (c .before .before .before .before .before .before .before .before .before .before .entry .ensures) (not-false _ (c .before .before .before .before .before .before .before .before .if1 .left)) _ (found-is _ (sym (c .before .before .before .before .found .given .1) ∙ c .before .before .before .before .before .before .free-slot .ensures)) (c .if2 .taken))
-    (λ c κs. (record { canon = c .before .before .before .before .before .before .before .before .before .before .before .before .before .pre .canon; inP = c .before .before .before .before .before .before .before .before .before .before .before .before .before .pre .inP; inI = lowest-some 32 _ _ (found-is _ (sym (c .before .before .before .before .before .found .given .1) ∙ c .before .before .before .before .before .before .before .free-slot .ensures)) .below; present = (not-false _ (c .before .before .before .before .before .before .before .before .before .if1 .left)); given-small = c .before .before .before .before .before .before .before .before .before .before .before .entry .ensures .given-small; start-small = c .before .before .before .before .before .before .before .before .before .before .before .entry .ensures .start-small; end-small = c .before .before .before .before .before .before .before .before .before .before .before .entry .ensures .end-small }, c .before .before .before .before .before .before .before .before .before .before .before .before .before .pre .inI))
+    (λ c.
+    let present = c .before .before .before .before in
+    let read = present .before .before in
+    turn-full (read .before .before .pre) (read .entry .ensures) (not-false _ (present .if1 .left)) (found-is _ (sym (c .enum-told .given .1) ∙ c .before .before .free-slot .ensures)))
+    (λ c.
+    let found = c .before .before .before .before in
+    let present = found .before .before .before .before in
+    let read = present .before .before in
+    turn-above (read .before .before .pre) (read .entry .ensures) (not-false _ (present .if1 .left)) _ (found-is _ (sym (found .found .given .1) ∙ found .before .before .free-slot .ensures)) (c .if2 .taken))
+    (λ c κs.
+    let found = c .before .before .before .before .before in
+    let present = found .before .before .before .before in
+    let read = present .before .before in
+    let begun = read .before .before in
+    (record { canon = begun .pre .canon; inP = begun .pre .inP; inI = lowest-some 32 _ _ (found-is _ (sym (found .found .given .1) ∙ found .before .before .free-slot .ensures)) .below; present = (not-false _ (present .if1 .left)); given-small = read .entry .ensures .given-small; start-small = read .entry .ensures .start-small; end-small = read .entry .ensures .end-small }, begun .pre .inI))
     (λ c. search needs)
-    (λ c. turn-moves (c .before .before .before .before .before .before .before .before .before .before .before .before .before .before .pre) (c .before .before .before .before .before .before .before .before .before .before .before .before .entry .ensures) (not-false _ (c .before .before .before .before .before .before .before .before .before .before .if1 .left)) _ (found-is _ (sym (c .before .before .before .before .before .before .found .given .1) ∙ c .before .before .before .before .before .before .before .before .free-slot .ensures)) (c .before .before .if2 .left) (c .move-entry .ensures)))
+    (λ c.
+    let lower = c .before .before in
+    let found = lower .before .before .before .before in
+    let present = found .before .before .before .before in
+    let read = present .before .before in
+    turn-moves (read .before .before .pre) (read .entry .ensures) (not-false _ (present .if1 .left)) _ (found-is _ (sym (found .found .given .1) ∙ found .before .before .free-slot .ensures)) (lower .if2 .left) (c .move-entry .ensures)))

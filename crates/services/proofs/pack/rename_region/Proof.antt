@@ -11,7 +11,19 @@ rename-region-spec =
     (tie.spec
     (λ c κs. search needs)
     (λ c κs. search needs)
-    (λ c. rename-unloaded (c .before .before .before .regions .ensures) _ _ _ (c .before .before .before .before .before .pre .3) (c .before .before .nth .ensures) (c .before .before .before .before .before .pre .0) (not-true _ (c .if1 .taken)))
-    (λ c. rename-other (c .before .before .before .before .before .before .before .regions .ensures) _ _ _ (c .before .before .before .before .before .before .before .before .before .pre .3) (c .before .before .before .before .before .before .nth .ensures) (c .before .before .before .before .before .before .before .before .before .pre .0) (not-false _ (c .before .before .before .before .if1 .left)) (c .if2 .taken))
+    (λ c.
+    let chosen = c .before .before in
+    let read = chosen .before in
+    rename-unloaded (read .regions .ensures) _ _ _ (read .before .before .pre .3) (chosen .nth .ensures) (read .before .before .pre .0) (not-true _ (c .if1 .taken)))
+    (λ c.
+    let loaded = c .before .before .before .before in
+    let chosen = loaded .before .before in
+    let read = chosen .before in
+    rename-other (read .regions .ensures) _ _ _ (read .before .before .pre .3) (chosen .nth .ensures) (read .before .before .pre .0) (not-false _ (loaded .if1 .left)) (c .if2 .taken))
     (λ c κs. search needs)
-    (λ c. rename-hit (c .before .before .before .before .before .before .before .before .before .regions .ensures) _ _ _ (c .before .before .before .before .before .before .before .before .before .before .before .pre .3) (c .before .before .before .before .before .before .before .before .nth .ensures) (not-false _ (c .before .before .before .before .before .before .if1 .left)) (c .before .before .if2 .left) (c .put-region .ensures)))
+    (λ c.
+    let named = c .before .before in
+    let loaded = named .before .before .before .before in
+    let chosen = loaded .before .before in
+    let read = chosen .before in
+    rename-hit (read .regions .ensures) _ _ _ (read .before .before .pre .3) (chosen .nth .ensures) (not-false _ (loaded .if1 .left)) (named .if2 .left) (c .put-region .ensures)))

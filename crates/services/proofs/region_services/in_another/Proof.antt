@@ -12,5 +12,14 @@ in-another-spec =
     (λ c. another-same _ _ _ _ _ (c .if1 .taken))
     (λ c κs. search needs)
     (λ c κs. search needs)
-    (λ c. another-none _ _ _ _ _ (c .before .before .before .before .if1 .left) (region-none (c .before .before .before .regions .ensures) _ (c .before .before .before .before .before .pre .1) (c .before .before .nth .ensures) (not-true _ (c .if2 .taken))))
-    (λ c. another-some _ _ _ _ _ (c .before .before .before .before .before .before .before .if1 .left) (region-some (c .before .before .before .before .before .before .regions .ensures) _ (c .before .before .before .before .before .before .before .before .pre .1) (c .before .before .before .before .before .nth .ensures) (not-false _ (c .before .before .before .if2 .left)))))
+    (λ c.
+    let chosen = c .before .before in
+    let read = chosen .before in
+    let other = read .before in
+    another-none _ _ _ _ _ (other .if1 .left) (region-none (read .regions .ensures) _ (other .before .pre .1) (chosen .nth .ensures) (not-true _ (c .if2 .taken))))
+    (λ c.
+    let loaded = c .before .before .before in
+    let chosen = loaded .before .before in
+    let read = chosen .before in
+    let other = read .before in
+    another-some _ _ _ _ _ (other .if1 .left) (region-some (read .regions .ensures) _ (other .before .pre .1) (chosen .nth .ensures) (not-false _ (loaded .if2 .left)))))

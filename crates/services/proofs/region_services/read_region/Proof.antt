@@ -21,6 +21,22 @@ read-region-spec =
     (λ c. ran-refused (pass 3 (sym (c .before .before .own-or-child .ensures) ∙ not-false _ (c .before .if1 .left)) (fail 16 _ (region-high _ (c .if2 .taken)))))
     (λ c κs. search needs)
     (λ c κs. search needs)
-    (λ c. ran-done (pass 3 (sym (c .before .before .before .before .before .before .own-or-child .ensures) ∙ not-false _ (c .before .before .before .before .before .if1 .left)) (pass 16 (region-low _ (c .before .before .before .before .if2 .left)) (second-is (word-none (c .before .before .before .regions .ensures) _ (omega (arith, c .before .before .before .before .if2 .left)) (c .before .before .nth .ensures) (not-true _ (c .if3 .taken)))))) (settled-words (canon-is (c .before .before .before .before .before .before .before .pre .0)) (right-settled (c .before .before .before .before .before .before .before .pre .2))))
-    (λ c κs. record { canon = c .before .before .before .before .before .before .before .before .pre .0; inP = c .before .before .before .before .before .before .before .before .pre .1; inI = region-small (c .before .before .before .before .regions .ensures) _ (omega (arith, c .before .before .before .before .before .if2 .left)) (c .before .before .before .nth .ensures) })
-    (λ c. ran-done (pass 3 (sym (c .before .before .before .before .before .before .before .before .own-or-child .ensures) ∙ not-false _ (c .before .before .before .before .before .before .before .if1 .left)) (pass 16 (region-low _ (c .before .before .before .before .before .before .if2 .left)) (second-is (word-some (c .before .before .before .before .before .regions .ensures) _ (omega (arith, c .before .before .before .before .before .before .if2 .left)) (c .before .before .before .before .nth .ensures) (not-false _ (c .before .before .if3 .left)) (c .entry-word .ensures))))) (settled-words (canon-is (c .before .before .before .before .before .before .before .before .before .pre .0)) (right-settled (c .before .before .before .before .before .before .before .before .before .pre .2)))))
+    (λ c.
+    let chosen = c .before .before in
+    let read = chosen .before in
+    let known = read .before in
+    let allowed = known .before in
+    ran-done (pass 3 (sym (allowed .before .own-or-child .ensures) ∙ not-false _ (allowed .if1 .left)) (pass 16 (region-low _ (known .if2 .left)) (second-is (word-none (read .regions .ensures) _ (omega (arith, known .if2 .left)) (chosen .nth .ensures) (not-true _ (c .if3 .taken)))))) (settled-words (canon-is (allowed .before .before .pre .0)) (right-settled (allowed .before .before .pre .2))))
+    (λ c κs.
+    let chosen = c .before .before .before in
+    let read = chosen .before in
+    let known = read .before in
+    let begun = known .before .before .before in
+    record { canon = begun .pre .0; inP = begun .pre .1; inI = region-small (read .regions .ensures) _ (omega (arith, known .if2 .left)) (chosen .nth .ensures) })
+    (λ c.
+    let loaded = c .before .before in
+    let chosen = loaded .before .before in
+    let read = chosen .before in
+    let known = read .before in
+    let allowed = known .before in
+    ran-done (pass 3 (sym (allowed .before .own-or-child .ensures) ∙ not-false _ (allowed .if1 .left)) (pass 16 (region-low _ (known .if2 .left)) (second-is (word-some (read .regions .ensures) _ (omega (arith, known .if2 .left)) (chosen .nth .ensures) (not-false _ (loaded .if3 .left)) (c .entry-word .ensures))))) (settled-words (canon-is (allowed .before .before .pre .0)) (right-settled (allowed .before .before .pre .2)))))

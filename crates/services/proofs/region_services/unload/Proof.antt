@@ -18,5 +18,11 @@ unload-spec =
     (λ c κs. search needs)
     (λ c. ran-refused (fail 3 _ (sym (c .before .own-or-child .ensures) ∙ not-true _ (c .if1 .taken))))
     (λ c. ran-refused (pass 3 (sym (c .before .before .own-or-child .ensures) ∙ not-false _ (c .before .if1 .left)) (fail 16 _ (region-high _ (c .if2 .taken)))))
-    (λ c κs. record { canon = c .before .before .before .before .before .pre .0; inP = c .before .before .before .before .before .pre .1; inI = omega (arith, c .before .if2 .left) })
-    (λ c. ran-done (pass 3 (sym (c .before .before .before .before .own-or-child .ensures) ∙ not-false _ (c .before .before .before .if1 .left)) (pass 16 (region-low _ (c .before .before .if2 .left)) refl)) (settled-words (c .clear-region .ensures) (unload-settled (c .before .before .before .before .before .before .pre .2) _ _))))
+    (λ c κs.
+    let begun = c .before .before .before .before .before in
+    record { canon = begun .pre .0; inP = begun .pre .1; inI = omega (arith, c .before .if2 .left) })
+    (λ c.
+    let known = c .before .before in
+    let allowed = known .before in
+    let begun = allowed .before .before .before in
+    ran-done (pass 3 (sym (allowed .before .own-or-child .ensures) ∙ not-false _ (allowed .if1 .left)) (pass 16 (region-low _ (known .if2 .left)) refl)) (settled-words (c .clear-region .ensures) (unload-settled (begun .pre .2) _ _))))

@@ -16,4 +16,7 @@ switch-spec =
     (λ c κs. search needs)
     (λ c. ran-refused (fail 3 _ (sym (c .before .parent-or-child .ensures) ∙ not-true _ (c .if1 .taken))))
     (λ c κs. record { canon = c .before .before .before .before .pre .0; inC = c .before .before .before .before .pre .1 })
-    (λ c. ran-done (pass 3 (sym (c .before .before .before .parent-or-child .ensures) ∙ not-false _ (c .before .before .if1 .left)) refl) (settled-words (c .put-current .ensures) (current-settled (c .before .before .before .before .before .pre .2) _))))
+    (λ c.
+    let allowed = c .before .before in
+    let begun = allowed .before .before .before in
+    ran-done (pass 3 (sym (allowed .before .parent-or-child .ensures) ∙ not-false _ (allowed .if1 .left)) refl) (settled-words (c .put-current .ensures) (current-settled (begun .pre .2) _))))

@@ -12,6 +12,14 @@ parent-or-child-spec =
     (λ c κs. search needs)
     (λ c. of-root _ _ (c .before .before .before .first .ensures .current) (c .before .if1 .taken) (c .is-child .ensures))
     (λ c κs. search needs)
-    (λ c. is-parent _ _ (c .before .before .before .before .before .before .first .ensures .current) (c .before .before .before .before .if1 .left) (c .before .before .before .header .ensures .parent) (c .if2 .taken))
+    (λ c.
+    let read = c .before .before .before in
+    let below = read .before in
+    let caller = below .before .before in
+    is-parent _ _ (caller .first .ensures .current) (below .if1 .left) (read .header .ensures .parent) (c .if2 .taken))
     (λ c κs. search needs)
-    (λ c. no-parent _ _ (c .before .before .before .before .before .before .before .first .ensures .current) (c .before .before .before .before .before .if1 .left) (c .before .before .before .before .header .ensures .parent) (c .before .if2 .left) (c .is-child2 .ensures)))
+    (λ c.
+    let read = c .before .before .before .before in
+    let below = read .before in
+    let caller = below .before .before in
+    no-parent _ _ (caller .first .ensures .current) (below .if1 .left) (read .header .ensures .parent) (c .before .if2 .left) (c .is-child2 .ensures)))

@@ -12,13 +12,33 @@ close-slot-spec =
     (tie.spec
     (λ c κs. search needs)
     (λ c. let h = c .before .before .before .before .pre in stays-closed (h .0) (h .1) (c .before .before .entry .ensures) (not-true _ (c .if1 .taken)))
-    (λ c. let h = c .before .before .before .before .before .before .before .pre in stays-open (h .0) (h .1) (c .before .before .before .before .before .entry .ensures) (not-false _ (c .before .before .before .if1 .left)) (off-behind _ _ _ _ (c .if2 .taken)))
-    (λ c. let h = c .before .before .before .before .before .before .before .before .before .before .pre in stays-open (h .0) (h .1) (c .before .before .before .before .before .before .before .before .entry .ensures) (not-false _ (c .before .before .before .before .before .before .if1 .left)) (off-before _ _ _ _ (c .if3 .taken)))
+    (λ c.
+    let opened = c .before .before .before in
+    let read = opened .before .before in
+    let h = read .before .before .pre in
+    stays-open (h .0) (h .1) (read .entry .ensures) (not-false _ (opened .if1 .left)) (off-behind _ _ _ _ (c .if2 .taken)))
+    (λ c.
+    let opened = c .before .before .before .before .before .before in
+    let read = opened .before .before in
+    let h = read .before .before .pre in
+    stays-open (h .0) (h .1) (read .entry .ensures) (not-false _ (opened .if1 .left)) (off-before _ _ _ _ (c .if3 .taken)))
     (λ c. search needs)
     (λ c. search needs)
     (λ c. search needs)
     (λ c. search needs)
     (λ c κs. search needs)
     (λ c κs. search needs)
-    (λ c κs. let h = c .before .before .before .before .before .before .before .before .before .before .before .before .before .before .before .before .pre in (close-canon (h .0) (h .1) (c .before .before .before .before .before .before .before .before .before .before .before .before .before .before .entry .ensures) (h .2) (h .3) (not-false _ (c .before .before .before .before .before .before .before .before .before .before .before .before .if1 .left)) (c .before .before .write .ensures) (c .before .store .ensures), h .2))
-    (λ c. let h = c .before .before .before .before .before .before .before .before .before .before .before .before .before .before .before .before .before .pre in closes (h .0) (h .1) (c .before .before .before .before .before .before .before .before .before .before .before .before .before .before .before .entry .ensures) (h .2) (h .3) (not-false _ (c .before .before .before .before .before .before .before .before .before .before .before .before .before .if1 .left)) (on-both _ _ _ _ (c .before .before .before .before .before .before .before .before .before .before .if2 .left) (c .before .before .before .before .before .before .before .if3 .left)) (c .before .before .before .write .ensures) (c .before .before .store .ensures) (c .settle-regions .ensures)))
+    (λ c κs.
+    let shares = c .before .before .before .before .before .before in
+    let opened = shares .before .before .before .before .before .before in
+    let read = opened .before .before in
+    let h = read .before .before .pre in
+    (close-canon (h .0) (h .1) (read .entry .ensures) (h .2) (h .3) (not-false _ (opened .if1 .left)) (c .before .before .write .ensures) (c .before .store .ensures), h .2))
+    (λ c.
+    let stored = c .before .before in
+    let shares = stored .before .before .before .before .before in
+    let begins-below = shares .before .before .before in
+    let opened = begins-below .before .before .before in
+    let read = opened .before .before in
+    let h = read .before .before .pre in
+    closes (h .0) (h .1) (read .entry .ensures) (h .2) (h .3) (not-false _ (opened .if1 .left)) (on-both _ _ _ _ (begins-below .if2 .left) (shares .if3 .left)) (stored .before .write .ensures) (stored .store .ensures) (c .settle-regions .ensures)))

@@ -15,7 +15,10 @@ close-slots-spec =
     (λ t₀ p lo hi n i₀ t i. n - i)
     (λ c κs. c .before .pre .2)
     (λ c. row-start (c .before .before .pre .0) (c .before .before .pre .1))
-    (λ c κs. let n = c .before .before .loop .inv .near in (n .canon, n .still, c .before .before .before .before .before .pre .2, omega (arith, c .before .before .before .used-slots .ensures .is, c .before .before .before .used-slots .ensures .within)))
+    (λ c κs.
+    let begun = c .before .before .before .before .before in
+    let n = c .before .before .loop .inv .near in
+    (n .canon, n .still, begun .pre .2, omega (arith, c .before .before .before .used-slots .ensures .is, c .before .before .before .used-slots .ensures .within)))
     (λ c. search needs)
     (λ c. search needs)
     (λ c. row-more (c .before .before .before .loop .inv) (c .close-slot .ensures))

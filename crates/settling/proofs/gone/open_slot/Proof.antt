@@ -11,7 +11,10 @@ open-slot-spec =
     (tie.spec
     (λ c κs. search needs)
     (λ c. let h = c .before .before .before .before .pre in stays-empty (h .0) (h .1) (c .before .before .entry .ensures) (not-true _ (c .if1 .taken)))
-    (λ c. let h = c .before .before .before .before .before .pre in open-stays (h .0) (h .1) (c .before .before .before .entry .ensures) (c .if2 .taken))
+    (λ c.
+    let read = c .before .before .before in
+    let h = read .before .before .pre in
+    open-stays (h .0) (h .1) (read .entry .ensures) (c .if2 .taken))
     (λ c κs. c .before .before .before .before .before .pre .2 .rising .few)
     (λ c. search needs)
     (λ c. search needs)
@@ -19,4 +22,9 @@ open-slot-spec =
     (λ c. search needs)
     (λ c κs. search needs)
     (λ c κs. search needs)
-    (λ c. let d = c .before .before .before .before .before in let h = d .before .before .before .before .before .before .pre in opens (h .0) (h .1) (d .before .before .before .before .entry .ensures) (h .3) (h .4) (h .2) (not-false _ (d .before .before .if1 .left)) (d .clear-of .ensures) (c .before .write .ensures) (c .store .ensures)))
+    (λ c.
+    let judged = c .before .before .before .before .before in
+    let present = judged .before .before in
+    let read = present .before .before in
+    let h = read .before .before .pre in
+    opens (h .0) (h .1) (read .entry .ensures) (h .3) (h .4) (h .2) (not-false _ (present .if1 .left)) (judged .clear-of .ensures) (c .before .write .ensures) (c .store .ensures)))

@@ -15,7 +15,11 @@ open-slots-spec =
     (λ t₀ p n s e m i₀ t i. m - i)
     (λ c κs. c .before .pre .3)
     (λ c. row-start (c .before .before .pre .0) (c .before .before .pre .1))
-    (λ c κs. let n = c .before .before .loop .inv .near in let h = c .before .before .before .before .before .pre in (n .canon, n .still, near-areas n (h .2), h .3, omega (arith, c .before .before .before .used-slots .ensures .is, c .before .before .before .used-slots .ensures .within)))
+    (λ c κs.
+    let begun = c .before .before .before .before .before in
+    let n = c .before .before .loop .inv .near in
+    let h = begun .pre in
+    (n .canon, n .still, near-areas n (h .2), h .3, omega (arith, c .before .before .before .used-slots .ensures .is, c .before .before .before .used-slots .ensures .within)))
     (λ c. search needs)
     (λ c. search needs)
     (λ c. row-more (c .before .before .before .loop .inv) (c .open-slot .ensures))

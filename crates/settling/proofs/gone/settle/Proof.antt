@@ -17,7 +17,10 @@ settle-spec =
     (λ t₀ starts ends n p₀ t p. 16 - p)
     (λ c κs. (top-16 _, refl, refl))
     (λ c. all-start (c .before .before .before .before .pre .0) (c .before .before .before .before .pre .1))
-    (λ c κs. let n = c .before .before .before .before .loop .inv .near in (n .canon, n .still, near-areas n (c .before .before .before .before .before .gather-areas .ensures .areas), omega arith))
+    (λ c κs.
+    let turn = c .before .before .before .before in
+    let n = turn .loop .inv .near in
+    (n .canon, n .still, near-areas n (turn .before .gather-areas .ensures .areas), omega arith))
     (λ c. search needs)
     (λ c. search needs)
     (λ c. all-more (c .before .before .before .before .before .loop .inv) (c .open-slots .ensures))

@@ -23,17 +23,27 @@ family-sound-spec =
     rw (ne-eqb _ 0 (c .before .before .before .before .if1 .left), h .ensures .area, not-true (h .result .present) (c .before .if2 .taken)) (c .zero-record .ensures))
     (λ c κs. search needs)
     (λ c.
-    let h = c .before .before .before .before .header in
+    let present = c .before .before in
+    let read = present .before .before in
+    let below = read .before in
+    let h = read .header in
     let u = c .before .is-present in
-    rw (ne-eqb _ 0 (c .before .before .before .before .before .if1 .left), h .ensures .area, not-false (h .result .present) (c .before .before .if2 .left), h .ensures .parent, ← u .ensures, not-true (u .result) (c .if3 .taken)) refl)
+    rw (ne-eqb _ 0 (below .if1 .left), h .ensures .area, not-false (h .result .present) (present .if2 .left), h .ensures .parent, ← u .ensures, not-true (u .result) (c .if3 .taken)) refl)
     (λ c κs. search needs)
     (λ c.
-    let h = c .before .before .before .before .before .before .header in
-    rw (ne-eqb _ 0 (c .before .before .before .before .before .before .before .if1 .left), h .ensures .area, not-false (h .result .present) (c .before .before .before .before .if2 .left), ← c .before .is-nowhere .ensures, c .if4 .taken, and-false) refl)
+    let present = c .before .before .before .before in
+    let read = present .before .before in
+    let below = read .before in
+    let h = read .header in
+    rw (ne-eqb _ 0 (below .if1 .left), h .ensures .area, not-false (h .result .present) (present .if2 .left), ← c .before .is-nowhere .ensures, c .if4 .taken, and-false) refl)
     (λ c κs. search needs)
     (λ c.
-    let d = c .before in
-    let h = d .before .before .before .before .before .before .before .header in
-    let u = d .before .before .before .before .is-present in
-    rw (ne-eqb _ 0 (d .before .before .before .before .before .before .before .before .if1 .left), h .ensures .area, not-false (h .result .present) (d .before .before .before .before .before .if2 .left), h .ensures .parent, ← u .ensures, not-false (u .result) (d .before .before .before .if3 .left), ← d .before .before .is-nowhere .ensures, d .before .if4 .left)
+    let somewhere = c .before .before in
+    let parent-present = somewhere .before .before in
+    let present = parent-present .before .before in
+    let read = present .before .before in
+    let below = read .before in
+    let h = read .header in
+    let u = parent-present .before .is-present in
+    rw (ne-eqb _ 0 (below .if1 .left), h .ensures .area, not-false (h .result .present) (present .if2 .left), h .ensures .parent, ← u .ensures, not-false (u .result) (parent-present .if3 .left), ← somewhere .before .is-nowhere .ensures, somewhere .if4 .left)
     (c .climb .ensures .rooted)))

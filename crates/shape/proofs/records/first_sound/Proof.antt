@@ -20,7 +20,9 @@ first-sound-spec =
     rw (f .base, f .stop, lt-ltb _ _ (c .before .before .if1 .left), f .current, ← u .ensures, not-true (u .result) (c .if2 .taken)) refl)
     (λ c κs. search needs)
     (λ c.
-    let f = c .before .before .before .before .before .first .ensures in
+    let rising = c .before .before .before in
+    let read = rising .before .before in
+    let f = read .first .ensures in
     let u = c .before .before .is-present in
-    rw (f .base, f .stop, lt-ltb _ _ (c .before .before .before .if1 .left), f .current, ← u .ensures, not-false (u .result) (c .before .if2 .left))
+    rw (f .base, f .stop, lt-ltb _ _ (rising .if1 .left), f .current, ← u .ensures, not-false (u .result) (c .before .if2 .left))
     (c .first-bits .ensures)))

@@ -22,7 +22,9 @@ header-sound-spec =
     rw (← b .ensures, not-false (b .result) (c .before .before .before .if1 .left), h .ensures .area, not-true (h .result .present) (c .if2 .taken)) refl)
     (λ c κs. search needs)
     (λ c.
-    let h = c .before .before .before .header in
-    let b = c .before .before .before .before .before .header-bits in
-    rw (← b .ensures, not-false (b .result) (c .before .before .before .before .if1 .left), h .ensures .area, not-false (h .result .present) (c .before .if2 .left))
+    let read = c .before .before .before in
+    let clean = read .before in
+    let h = read .header in
+    let b = clean .before .header-bits in
+    rw (← b .ensures, not-false (b .result) (clean .if1 .left), h .ensures .area, not-false (h .result .present) (c .before .if2 .left))
     (c .area-sound .ensures)))

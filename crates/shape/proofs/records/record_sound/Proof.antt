@@ -21,30 +21,30 @@ record-sound-spec =
     rw (← record-is, ← h .ensures, not-false (h .result) (d .if1 .left), ← s .ensures, not-true (s .result) (c .if2 .taken)) refl)
     (λ c κs. search needs)
     (λ c.
+    let structures-right = c .before .before in
+    let header-right = structures-right .before .before in
     let r = c .before .regions-sound in
-    let e = c .before .before in
-    let s = e .before .structures-sound in
-    let d = e .before .before in
-    let h = d .before .header-sound in
-    rw (← record-is, ← h .ensures, not-false (h .result) (d .if1 .left), ← s .ensures, not-false (s .result) (e .if2 .left), ← r .ensures, not-true (r .result) (c .if3 .taken)) refl)
+    let s = structures-right .before .structures-sound in
+    let h = header-right .before .header-sound in
+    rw (← record-is, ← h .ensures, not-false (h .result) (header-right .if1 .left), ← s .ensures, not-false (s .result) (structures-right .if2 .left), ← r .ensures, not-true (r .result) (c .if3 .taken)) refl)
     (λ c κs. search needs)
     (λ c.
+    let regions-right = c .before .before in
+    let structures-right = regions-right .before .before in
+    let header-right = structures-right .before .before in
     let b = c .before .blank-words in
-    let f = c .before .before in
-    let r = f .before .regions-sound in
-    let e = f .before .before in
-    let s = e .before .structures-sound in
-    let d = e .before .before in
-    let h = d .before .header-sound in
-    rw (← record-is, ← h .ensures, not-false (h .result) (d .if1 .left), ← s .ensures, not-false (s .result) (e .if2 .left), ← r .ensures, not-false (r .result) (f .if3 .left), ← b .ensures, not-true (b .result) (c .if4 .taken)) refl)
+    let r = regions-right .before .regions-sound in
+    let s = structures-right .before .structures-sound in
+    let h = header-right .before .header-sound in
+    rw (← record-is, ← h .ensures, not-false (h .result) (header-right .if1 .left), ← s .ensures, not-false (s .result) (structures-right .if2 .left), ← r .ensures, not-false (r .result) (regions-right .if3 .left), ← b .ensures, not-true (b .result) (c .if4 .taken)) refl)
     (λ c κs. search needs)
     (λ c.
+    let regions-right = c .before .before .before in
+    let structures-right = regions-right .before .before in
+    let header-right = structures-right .before .before in
     let b = c .before .before .blank-words in
-    let f = c .before .before .before in
-    let r = f .before .regions-sound in
-    let e = f .before .before in
-    let s = e .before .structures-sound in
-    let d = e .before .before in
-    let h = d .before .header-sound in
-    rw (← record-is, ← h .ensures, not-false (h .result) (d .if1 .left), ← s .ensures, not-false (s .result) (e .if2 .left), ← r .ensures, not-false (r .result) (f .if3 .left), ← b .ensures, not-false (b .result) (c .before .if4 .left))
+    let r = regions-right .before .regions-sound in
+    let s = structures-right .before .structures-sound in
+    let h = header-right .before .header-sound in
+    rw (← record-is, ← h .ensures, not-false (h .result) (header-right .if1 .left), ← s .ensures, not-false (s .result) (structures-right .if2 .left), ← r .ensures, not-false (r .result) (regions-right .if3 .left), ← b .ensures, not-false (b .result) (c .before .if4 .left))
     (c .slots-sound .ensures)))

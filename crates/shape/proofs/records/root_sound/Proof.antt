@@ -20,6 +20,8 @@ root-sound-spec =
     let n = c .before .is-nowhere in
     rw (h .ensures .area, not-false (h .result .present) (c .before .before .if1 .left), ← n .ensures, not-true (n .result) (c .if2 .taken)) refl)
     (λ c.
-    let h = c .before .before .before .before .before .header in
+    let present = c .before .before .before in
+    let read = present .before .before in
+    let h = read .header in
     let n = c .before .before .is-nowhere in
-    rw (h .ensures .area, not-false (h .result .present) (c .before .before .before .if1 .left), ← n .ensures, not-false (n .result) (c .before .if2 .left), h .ensures .parent) refl))
+    rw (h .ensures .area, not-false (h .result .present) (present .if1 .left), ← n .ensures, not-false (n .result) (c .before .if2 .left), h .ensures .parent) refl))

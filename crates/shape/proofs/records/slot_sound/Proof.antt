@@ -21,5 +21,6 @@ slot-sound-spec =
     let z = d .before .before .slot-word in
     rw (d .entry .ensures .slot, not-true (d .entry .result .present) (c .if2 .taken), ← z .ensures, d .before .if1 .left) refl)
     (λ c.
-    let d = c .before .before .before in
-    rw (d .entry .ensures .slot, not-false (d .entry .result .present) (c .before .if2 .left), d .before .before .before .pre .2 .there) refl))
+    let read = c .before .before .before in
+    let begun = read .before .before .before in
+    rw (read .entry .ensures .slot, not-false (read .entry .result .present) (c .before .if2 .left), begun .pre .2 .there) refl))

@@ -26,15 +26,19 @@ structure-sound-spec =
     (c .area-sound .ensures))
     (λ c κs. search needs)
     (λ c.
-    let d = c .before .before .before in
-    let b = d .before .before .structure-bits in
+    let absent = c .before .before in
+    let read = absent .before in
+    let clean = read .before in
+    let b = clean .before .structure-bits in
     let z = c .before .structure-word in
-    rw (← b .ensures, not-false (b .result) (d .before .if1 .left), d .structure .ensures .area, c .before .before .if2 .left, ← z .ensures, not-true (z .result) (c .if3 .taken)) refl)
+    rw (← b .ensures, not-false (b .result) (clean .if1 .left), read .structure .ensures .area, absent .if2 .left, ← z .ensures, not-true (z .result) (c .if3 .taken)) refl)
     (λ c. search needs)
     (λ c κs. search needs)
     (λ c.
-    let d = c .before .before .before .before in
-    let b = d .before .before .structure-bits in
+    let absent = c .before .before .before in
+    let read = absent .before in
+    let clean = read .before in
+    let b = clean .before .structure-bits in
     let z = c .before .before .structure-word in
-    rw (← b .ensures, not-false (b .result) (d .before .if1 .left), d .structure .ensures .area, c .before .before .before .if2 .left, ← z .ensures, not-false (z .result) (c .before .if3 .left))
+    rw (← b .ensures, not-false (b .result) (clean .if1 .left), read .structure .ensures .area, absent .if2 .left, ← z .ensures, not-false (z .result) (c .before .if3 .left))
     (ap not (c .is-rooted .ensures))))

@@ -16,18 +16,26 @@ write-shaped-spec =
     (λ c κs. search needs)
     (λ c κs. search needs)
     (λ c.
-    let d = c .before .before .before in
-    let size = list-size (d .loop .inv) (d .before .before .pre) in
-    let room = list-room (d .loop .inv) (d .before .before .pre) (omega arith) in
+    let turn = c .before .before .before in
+    let size = list-size (turn .loop .inv) (turn .before .before .pre) in
+    let room = list-room (turn .loop .inv) (turn .before .before .pre) (omega arith) in
     search needs)
-    (λ c. let d = c .before .before .before in list-room (d .loop .inv) (d .before .before .pre) (omega arith))
     (λ c.
-    let d = c .before .before .before in
-    let size = list-size (d .loop .inv) (d .before .before .pre) in
-    let room = list-room (d .loop .inv) (d .before .before .pre) (omega arith) in
+    let turn = c .before .before .before in
+    list-room (turn .loop .inv) (turn .before .before .pre) (omega arith))
+    (λ c.
+    let turn = c .before .before .before in
+    let size = list-size (turn .loop .inv) (turn .before .before .pre) in
+    let room = list-room (turn .loop .inv) (turn .before .before .pre) (omega arith) in
     search needs)
-    (λ c. let d = c .before .before .before in omega (arith, list-within (d .loop .inv) (d .before .before .pre) (omega arith) (c .before .widest .ensures)))
-    (λ c. let d = c .before .before .before in omega (arith, list-some (d .loop .inv) (d .before .before .pre) (omega arith) (c .before .widest .ensures)))
-    (λ c. let d = c .before .before .before in list-on (d .loop .inv) (d .before .before .pre) (omega arith) (c .before .widest .ensures) (c .piece-word .ensures))
+    (λ c.
+    let turn = c .before .before .before in
+    omega (arith, list-within (turn .loop .inv) (turn .before .before .pre) (omega arith) (c .before .widest .ensures)))
+    (λ c.
+    let turn = c .before .before .before in
+    omega (arith, list-some (turn .loop .inv) (turn .before .before .pre) (omega arith) (c .before .widest .ensures)))
+    (λ c.
+    let turn = c .before .before .before in
+    list-on (turn .loop .inv) (turn .before .before .pre) (omega arith) (c .before .widest .ensures) (c .piece-word .ensures))
     (λ c. list-size (c .before .loop .inv) (c .before .before .before .pre))
     (λ c. list-end (c .before .loop .inv) (c .before .before .before .pre) (omega arith)))

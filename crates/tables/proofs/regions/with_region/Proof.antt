@@ -16,4 +16,6 @@ with-region-spec =
     (λ c κs. search needs)
     (λ c κs. search needs)
     (λ c κs. search needs)
-    (λ c. rw (← c .before .before .before .before .before .before .before .choose .ensures, ← c .before .before .before .before .before .before .choose2 .ensures, ← c .before .before .before .before .before .choose3 .ensures, ← c .before .before .before .before .choose4 .ensures, ← c .before .before .before .choose5 .ensures, ← c .before .before .choose6 .ensures, ← c .before .choose7 .ensures, ← c .choose8 .ensures) refl))
+    (λ c.
+    let half = c .before .before .before .before in
+    rw (← half .before .before .before .choose .ensures, ← half .before .before .choose2 .ensures, ← half .before .choose3 .ensures, ← half .choose4 .ensures, ← c .before .before .before .choose5 .ensures, ← c .before .before .choose6 .ensures, ← c .before .choose7 .ensures, ← c .choose8 .ensures) refl))

@@ -19,6 +19,7 @@ header-backed-spec =
     header-absent (h .ensures) (sym (d .before .is-rooted .ensures) ∙ d .if1 .left) (not-true (h .result .present) (c .if2 .taken)))
     (λ c κs. search needs)
     (λ c.
-    let d = c .before .before .before .before in
-    let h = c .before .before .before .header in
-    header-parent (h .ensures) (sym (d .before .is-rooted .ensures) ∙ d .if1 .left) (not-false (h .result .present) (c .before .if2 .left)) (c .has-equal .ensures)))
+    let read = c .before .before .before in
+    let unrooted = read .before in
+    let h = read .header in
+    header-parent (h .ensures) (sym (unrooted .before .is-rooted .ensures) ∙ unrooted .if1 .left) (not-false (h .result .present) (c .before .if2 .left)) (c .has-equal .ensures)))

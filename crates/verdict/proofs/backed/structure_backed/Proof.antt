@@ -15,17 +15,23 @@ structure-backed-spec =
     (λ c. search needs)
     (λ c κs. search needs)
     (λ c.
-    let d = c .before .before .before in
-    let f = c .before .before .structure in
-    structure-absent _ (d .before .before .pre .1) (f .ensures) (sym (d .before .is-rooted .ensures) ∙ d .if1 .left) (not-true (f .result .present) (c .if2 .taken)))
+    let read = c .before .before in
+    let unrooted = read .before in
+    let f = read .structure in
+    structure-absent _ (unrooted .before .before .pre .1) (f .ensures) (sym (unrooted .before .is-rooted .ensures) ∙ unrooted .if1 .left) (not-true (f .result .present) (c .if2 .taken)))
     (λ c κs. search needs)
     (λ c.
-    let d = c .before .before .before .before .before in
-    let f = c .before .before .before .before .structure in
-    structure-own _ (d .before .before .pre .1) (f .ensures) (sym (d .before .is-rooted .ensures) ∙ d .if1 .left) (not-false (f .result .present) (c .before .before .if2 .left)) (c .before .has-equal .ensures) (c .if3 .taken))
+    let present = c .before .before in
+    let read = present .before .before in
+    let unrooted = read .before in
+    let f = read .structure in
+    structure-own _ (unrooted .before .before .pre .1) (f .ensures) (sym (unrooted .before .is-rooted .ensures) ∙ unrooted .if1 .left) (not-false (f .result .present) (present .if2 .left)) (c .before .has-equal .ensures) (c .if3 .taken))
     (λ c κs. search needs)
     (λ c κs. search needs)
     (λ c.
-    let d = c .before .before .before .before .before .before .before in
-    let f = c .before .before .before .before .before .before .structure in
-    structure-parent _ (d .before .before .pre .1) (f .ensures) (sym (d .before .is-rooted .ensures) ∙ d .if1 .left) (not-false (f .result .present) (c .before .before .before .before .if2 .left)) (c .before .before .before .has-equal .ensures) (c .before .before .if3 .left) (c .before .header .ensures) (c .has-equal2 .ensures)))
+    let not-own = c .before .before in
+    let present = not-own .before .before in
+    let read = present .before .before in
+    let unrooted = read .before in
+    let f = read .structure in
+    structure-parent _ (unrooted .before .before .pre .1) (f .ensures) (sym (unrooted .before .is-rooted .ensures) ∙ unrooted .if1 .left) (not-false (f .result .present) (present .if2 .left)) (not-own .before .has-equal .ensures) (not-own .if3 .left) (c .before .header .ensures) (c .has-equal2 .ensures)))

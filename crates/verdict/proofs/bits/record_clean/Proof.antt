@@ -21,19 +21,18 @@ record-clean-spec =
     rw (← h .ensures, not-false (h .result) (d .if1 .left), ← s .ensures, not-true (s .result) (c .if2 .taken)) refl)
     (λ c κs. search needs)
     (λ c.
+    let structures-right = c .before .before in
+    let header-right = structures-right .before .before in
     let r = c .before .regions-sound in
-    let e = c .before .before in
-    let s = e .before .structures-clean in
-    let d = e .before .before in
-    let h = d .before .header-bits in
-    rw (← h .ensures, not-false (h .result) (d .if1 .left), ← s .ensures, not-false (s .result) (e .if2 .left), ← r .ensures, not-true (r .result) (c .if3 .taken)) refl)
+    let s = structures-right .before .structures-clean in
+    let h = header-right .before .header-bits in
+    rw (← h .ensures, not-false (h .result) (header-right .if1 .left), ← s .ensures, not-false (s .result) (structures-right .if2 .left), ← r .ensures, not-true (r .result) (c .if3 .taken)) refl)
     (λ c κs. search needs)
     (λ c.
-    let f = c .before in
-    let r = f .before .regions-sound in
-    let e = f .before .before in
-    let s = e .before .structures-clean in
-    let d = e .before .before in
-    let h = d .before .header-bits in
-    rw (← h .ensures, not-false (h .result) (d .if1 .left), ← s .ensures, not-false (s .result) (e .if2 .left), ← r .ensures, not-false (r .result) (f .if3 .left))
+    let structures-right = c .before .before .before in
+    let header-right = structures-right .before .before in
+    let r = c .before .before .regions-sound in
+    let s = structures-right .before .structures-clean in
+    let h = header-right .before .header-bits in
+    rw (← h .ensures, not-false (h .result) (header-right .if1 .left), ← s .ensures, not-false (s .result) (structures-right .if2 .left), ← r .ensures, not-false (r .result) (c .before .if3 .left))
     (c .blank-words .ensures)))

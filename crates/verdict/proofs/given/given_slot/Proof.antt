@@ -21,11 +21,17 @@ given-slot-spec =
     let w = c .before .whole-right in
     rw (f .ensures .slot, f .ensures .opened, not-false (f .result .present) (c .before .before .if1 .left), ← w .ensures, not-true (w .result) (c .if2 .taken)) refl)
     (λ c.
-    let f = c .before .before .before .before .before .before .entry in
-    let w = c .before .before .before .whole-right in
-    rw (f .ensures .slot, f .ensures .opened, not-false (f .result .present) (c .before .before .before .before .if1 .left), ← w .ensures, not-false (w .result) (c .before .before .if2 .left), eq-eqb _ 0 (c .if3 .taken)) refl)
+    let whole-kept = c .before .before in
+    let present = whole-kept .before .before in
+    let read = present .before .before in
+    let f = read .entry in
+    let w = whole-kept .before .whole-right in
+    rw (f .ensures .slot, f .ensures .opened, not-false (f .result .present) (present .if1 .left), ← w .ensures, not-false (w .result) (whole-kept .if2 .left), eq-eqb _ 0 (c .if3 .taken)) refl)
     (λ c κs. search needs)
     (λ c.
-    let f = c .before .before .before .before .before .before .before .entry in
-    let w = c .before .before .before .before .whole-right in
-    rw (f .ensures .slot, f .ensures .opened, not-false (f .result .present) (c .before .before .before .before .before .if1 .left), ← w .ensures, not-false (w .result) (c .before .before .before .if2 .left), ne-eqb _ 0 (c .before .if3 .left)) (c .is-child .ensures)))
+    let whole-kept = c .before .before .before in
+    let present = whole-kept .before .before in
+    let read = present .before .before in
+    let f = read .entry in
+    let w = whole-kept .before .whole-right in
+    rw (f .ensures .slot, f .ensures .opened, not-false (f .result .present) (present .if1 .left), ← w .ensures, not-false (w .result) (whole-kept .if2 .left), ne-eqb _ 0 (c .before .if3 .left)) (c .is-child .ensures)))

@@ -21,4 +21,7 @@ holds-spec =
     (λ c κs. search needs)
     (λ c. let z : c .before .before .before .before .before .args .k ≡ 10 = omega arith in rw z (c .regions-right .ensures))
     (λ c κs. let h = c .before .before .before .before .pre in (h .0, reached-shaped (h .2) (omega arith), h .3 .orders, reached-before (h .2) (omega arith) _ (h .0)))
-    (λ c. let z : c .before .before .before .before .before .args .k ≡ 11 = omega (arith, c .before .before .before .before .before .pre .2 .to) in rw z (c .rights-at .ensures)))
+    (λ c.
+    let begun = c .before .before .before .before .before in
+    let z : begun .args .k ≡ 11 = omega (arith, begun .pre .2 .to) in
+    rw z (c .rights-at .ensures)))

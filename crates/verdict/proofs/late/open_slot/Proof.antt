@@ -12,4 +12,8 @@ open-slot-spec =
     (λ c κs. search needs)
     (λ c. let f = c .before .before .entry in let h = c .before .before .before .pre in open-empty (f .ensures) (h .2) (h .0) (h .1) (not-true (f .result .present) (c .if1 .taken)))
     (λ c κs. c .before .before .before .pre .3 .rising .few)
-    (λ c. let f = c .before .before .before .before .entry in open-there (f .ensures) (c .before .before .before .before .before .pre .3) (not-false (f .result .present) (c .before .before .if1 .left)) (c .before .clear-of .ensures)))
+    (λ c.
+    let present = c .before .before in
+    let read = present .before .before in
+    let f = read .entry in
+    open-there (f .ensures) (read .before .pre .3) (not-false (f .result .present) (present .if1 .left)) (c .before .clear-of .ensures)))

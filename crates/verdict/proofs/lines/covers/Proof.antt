@@ -18,7 +18,10 @@ covers-spec =
     (λ c. search needs)
     (λ c. search needs)
     (λ c κs.
-    let h = c .before .before .before .before .before .before .before .pre in
-    let g = c .before .before .header .ensures in
-    child-of (h .2) (h .3) (h .0) (h .1) (c .before .before .before .if1 .left) (g .parent-small) (g .parent))
+    let read = c .before .before in
+    let below = read .before in
+    let begun = below .before .before .before .before in
+    let h = begun .pre in
+    let g = read .header .ensures in
+    child-of (h .2) (h .3) (h .0) (h .1) (below .if1 .left) (g .parent-small) (g .parent))
     (λ c. search needs))

@@ -15,18 +15,21 @@ tiles-grants-spec =
     (λ t p q order n m i₀ j₀ i j. m - j)
     (λ c. walk-start (c .pre))
     (λ c κs. let h = c .before .before .pre .above in (h .inP, omega (arith, h .rows .ordered .few), h .rows .ordered .under _ (omega arith)))
-    (λ c κs. let d = c .before .before .before .before .before in (d .before .pre .own, d .loop .inv .few))
+    (λ c κs.
+    let turn = c .before .before .before .before .before in
+    (turn .before .pre .own, turn .loop .inv .few))
     (λ c.
-    let e = c .before .before .before .before .before in
-    let d = e .before .before in
-    walk-stuck (d .before .pre) (d .loop .inv) (omega arith) (e .entry-at .ensures) (c .before .before .if1 .taken) (c .before .tile-lines .ensures) (omega arith))
+    let given = c .before .before in
+    let read = given .before .before .before in
+    let turn = read .before .before in
+    walk-stuck (turn .before .pre) (turn .loop .inv) (omega arith) (read .entry-at .ensures) (given .if1 .taken) (c .before .tile-lines .ensures) (omega arith))
     (λ c. search needs)
     (λ c. search needs)
     (λ c.
-    let e = c .before .before .before in
-    let d = e .before .before in
+    let read = c .before .before .before in
+    let turn = read .before .before in
     ⊎-elim
-    (λ w. rw (w .3) (walk-on (d .before .pre) (d .loop .inv) (omega arith) (e .entry-at .ensures) (w .0 .taken) (w .1 .ensures) (omega (arith, w .2 .left))))
-    (λ w. rw (w .1) (walk-skip (d .before .pre) (d .loop .inv) (omega arith) (e .entry-at .ensures) (w .0 .left)))
+    (λ w. rw (w .3) (walk-on (turn .before .pre) (turn .loop .inv) (omega arith) (read .entry-at .ensures) (w .0 .taken) (w .1 .ensures) (omega (arith, w .2 .left))))
+    (λ w. rw (w .1) (walk-skip (turn .before .pre) (turn .loop .inv) (omega arith) (read .entry-at .ensures) (w .0 .left)))
     (c .if1 .came))
     (λ c. walk-end (c .before .before .pre) (c .before .loop .inv) (omega arith)))

@@ -24,7 +24,10 @@ owned-at-spec =
     (λ c. let f = c .before .areas-backed in rw (← f .ensures, not-true (f .result) (c .if1 .taken)) refl)
     (λ c. seek-start)
     (λ c κs. search needs)
-    (λ c. let d = c .before .before .before in seek-hit (d .loop .inv) (omega arith) (ap not (sym (c .before .area-apart .ensures)) ∙ c .if2 .taken) ∙ and-is _ _ (passed (d .before .before .areas-backed .ensures) (d .before .if1 .left)))
+    (λ c.
+    let turn = c .before .before .before in
+    let backed = turn .before in
+    seek-hit (turn .loop .inv) (omega arith) (ap not (sym (c .before .area-apart .ensures)) ∙ c .if2 .taken) ∙ and-is _ _ (passed (backed .before .areas-backed .ensures) (backed .if1 .left)))
     (λ c. search needs)
     (λ c. search needs)
     (λ c. seek-on (c .before .before .before .loop .inv) (omega arith) (ap not (sym (c .before .area-apart .ensures)) ∙ c .if2 .left))

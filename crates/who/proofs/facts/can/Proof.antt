@@ -14,8 +14,26 @@ can-spec =
     (λ c. can-1 _ _ _ _ _ _ (not-false _ (c .before .before .if1 .left)) (not-true _ (c .if2 .taken)))
     (λ c κs. search needs)
     (λ c κs. search needs)
-    (λ c. can-2 _ _ _ _ _ _ (not-false _ (c .before .before .before .before .before .before .if1 .left)) (not-false _ (c .before .before .before .before .if2 .left)) (sym (c .before .before .before .loaded .ensures) ∙ not-true _ (c .before .before .if3 .taken)) (c .before .piece-count .ensures .0) (c .if4 .taken))
-    (λ c. can-3 _ _ _ _ _ _ (not-false _ (c .before .before .before .before .before .before .if1 .left)) (not-false _ (c .before .before .before .before .if2 .left)) (sym (c .before .before .before .loaded .ensures) ∙ not-true _ (c .before .before .if3 .taken)) (c .before .piece-count .ensures .0) (c .if4 .left))
+    (λ c.
+    let unloaded = c .before .before in
+    let writable = unloaded .before .before in
+    let opened = writable .before .before in
+    can-2 _ _ _ _ _ _ (not-false _ (opened .if1 .left)) (not-false _ (writable .if2 .left)) (sym (unloaded .before .loaded .ensures) ∙ not-true _ (unloaded .if3 .taken)) (c .before .piece-count .ensures .0) (c .if4 .taken))
+    (λ c.
+    let unloaded = c .before .before in
+    let writable = unloaded .before .before in
+    let opened = writable .before .before in
+    can-3 _ _ _ _ _ _ (not-false _ (opened .if1 .left)) (not-false _ (writable .if2 .left)) (sym (unloaded .before .loaded .ensures) ∙ not-true _ (unloaded .if3 .taken)) (c .before .piece-count .ensures .0) (c .if4 .left))
     (λ c κs. search needs)
-    (λ c. can-4 _ _ _ _ _ _ (not-false _ (c .before .before .before .before .before .before .before .before .if1 .left)) (not-false _ (c .before .before .before .before .before .before .if2 .left)) (sym (c .before .before .before .before .before .loaded .ensures) ∙ not-false _ (c .before .before .before .before .if3 .left)) (c .before .before .before .first .ensures .current) (c .if5 .taken))
-    (λ c. can-5 _ _ _ _ _ _ (not-false _ (c .before .before .before .before .before .before .before .before .if1 .left)) (not-false _ (c .before .before .before .before .before .before .if2 .left)) (sym (c .before .before .before .before .before .loaded .ensures) ∙ not-false _ (c .before .before .before .before .if3 .left)) (c .before .before .before .first .ensures .current) (c .if5 .left)))
+    (λ c.
+    let caller = c .before .before .before in
+    let loaded = caller .before in
+    let writable = loaded .before .before in
+    let opened = writable .before .before in
+    can-4 _ _ _ _ _ _ (not-false _ (opened .if1 .left)) (not-false _ (writable .if2 .left)) (sym (loaded .before .loaded .ensures) ∙ not-false _ (loaded .if3 .left)) (caller .first .ensures .current) (c .if5 .taken))
+    (λ c.
+    let caller = c .before .before .before in
+    let loaded = caller .before in
+    let writable = loaded .before .before in
+    let opened = writable .before .before in
+    can-5 _ _ _ _ _ _ (not-false _ (opened .if1 .left)) (not-false _ (writable .if2 .left)) (sym (loaded .before .loaded .ensures) ∙ not-false _ (loaded .if3 .left)) (caller .first .ensures .current) (c .if5 .left)))

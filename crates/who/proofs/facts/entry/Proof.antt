@@ -14,4 +14,6 @@ entry-spec =
     (λ c κs. search needs)
     (λ c κs. search needs)
     (λ c κs. search needs)
-    (λ c. entry-numbers _ _ _ _ _ (c .before .before .before .before .bit .ensures) (c .before .before .before .bit2 .ensures) (c .before .before .bit3 .ensures) (c .before .bit4 .ensures) (c .bit5 .ensures) (c .before .before .before .before .before .piece-count .ensures .0)))
+    (λ c.
+    let counted = c .before .before .before .before .before in
+    entry-numbers _ _ _ _ _ (c .before .before .before .before .bit .ensures) (c .before .before .before .bit2 .ensures) (c .before .before .bit3 .ensures) (c .before .bit4 .ensures) (c .bit5 .ensures) (counted .piece-count .ensures .0)))

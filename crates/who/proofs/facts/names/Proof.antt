@@ -12,4 +12,8 @@ names-spec =
     (λ c κs. search needs)
     (λ c κs. search needs)
     (λ c. names-none _ (c .before .before .before .regions .ensures) _ (c .before .before .before .before .pre .1) (c .before .before .nth .ensures) (not-true _ (c .if1 .taken)))
-    (λ c. names-some _ (c .before .before .before .before .before .before .regions .ensures) _ (c .before .before .before .before .before .before .before .pre .1) (c .before .before .before .before .before .nth .ensures) (not-false _ (c .before .before .before .if1 .left))))
+    (λ c.
+    let loaded = c .before .before .before in
+    let chosen = loaded .before .before in
+    let read = chosen .before in
+    names-some _ (read .regions .ensures) _ (read .before .pre .1) (chosen .nth .ensures) (not-false _ (loaded .if1 .left))))

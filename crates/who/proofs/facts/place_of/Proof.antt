@@ -15,5 +15,9 @@ place-of-spec =
     (λ c. search needs)
     (λ c. place-none _ _ _ (looked-slot _ (c .before .before .holding-slot .ensures) (c .enum-told .given .1)))
     (λ c κs. (c .before .before .before .before .pre, lowest-some 32 _ _ (looked-slot _ (c .before .before .before .holding-slot .ensures) (c .before .found .given .1)) .below))
-    (λ c. place-entry _ _ _ _ _ (looked-slot _ (c .before .before .before .before .before .before .holding-slot .ensures) (c .before .before .before .before .found .given .1)) (c .before .before .entry .ensures .slot) (c .if1 .taken))
-    (λ c. place-empty _ _ _ _ _ (looked-slot _ (c .before .before .before .before .before .before .holding-slot .ensures) (c .before .before .before .before .found .given .1)) (c .before .before .entry .ensures .slot) (c .if1 .left)))
+    (λ c.
+    let found = c .before .before .before .before in
+    place-entry _ _ _ _ _ (looked-slot _ (found .before .before .holding-slot .ensures) (found .found .given .1)) (c .before .before .entry .ensures .slot) (c .if1 .taken))
+    (λ c.
+    let found = c .before .before .before .before in
+    place-empty _ _ _ _ _ (looked-slot _ (found .before .before .holding-slot .ensures) (found .found .given .1)) (c .before .before .entry .ensures .slot) (c .if1 .left)))

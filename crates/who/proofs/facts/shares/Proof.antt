@@ -16,6 +16,24 @@ shares-spec =
     (λ c κs. search needs)
     (λ c. let f = c .before .before .area in rw (f .ensures .area, not-true (f .result .present) (c .if1 .taken)) refl)
     (λ c. let f = c .before .before .before .before .area in rw (f .ensures .area, not-false (f .result .present) (c .before .before .if1 .left), le-ltb _ _ (c .if2 .taken)) refl)
-    (λ c. let f = c .before .before .before .before .before .before .before .area in rw (f .ensures .area, not-false (f .result .present) (c .before .before .before .before .before .if1 .left), lt-ltb _ _ (c .before .before .before .if2 .left), le-ltb _ _ (c .if3 .taken)) refl)
-    (λ c. let f = c .before .before .before .before .before .before .before .before .before .before .area in rw (f .ensures .area, not-false (f .result .present) (c .before .before .before .before .before .before .before .before .if1 .left), lt-ltb _ _ (c .before .before .before .before .before .before .if2 .left), lt-ltb _ _ (c .before .before .before .if3 .left), le-ltb _ _ (c .if4 .taken)) refl)
-    (λ c. let f = c .before .before .before .before .before .before .before .before .before .before .before .before .area in rw (f .ensures .area, not-false (f .result .present) (c .before .before .before .before .before .before .before .before .before .before .if1 .left), lt-ltb _ _ (c .before .before .before .before .before .before .before .before .if2 .left), lt-ltb _ _ (c .before .before .before .before .before .if3 .left), lt-ltb _ _ (c .before .before .if4 .left)) refl))
+    (λ c.
+    let area-lines = c .before .before .before in
+    let present = area-lines .before .before in
+    let read = present .before .before in
+    let f = read .area in
+    rw (f .ensures .area, not-false (f .result .present) (present .if1 .left), lt-ltb _ _ (area-lines .if2 .left), le-ltb _ _ (c .if3 .taken)) refl)
+    (λ c.
+    let range-lines = c .before .before .before in
+    let area-lines = range-lines .before .before .before in
+    let present = area-lines .before .before in
+    let read = present .before .before in
+    let f = read .area in
+    rw (f .ensures .area, not-false (f .result .present) (present .if1 .left), lt-ltb _ _ (area-lines .if2 .left), lt-ltb _ _ (range-lines .if3 .left), le-ltb _ _ (c .if4 .taken)) refl)
+    (λ c.
+    let begins-below = c .before .before in
+    let range-lines = begins-below .before .before .before in
+    let area-lines = range-lines .before .before .before in
+    let present = area-lines .before .before in
+    let read = present .before .before in
+    let f = read .area in
+    rw (f .ensures .area, not-false (f .result .present) (present .if1 .left), lt-ltb _ _ (area-lines .if2 .left), lt-ltb _ _ (range-lines .if3 .left), lt-ltb _ _ (begins-below .if4 .left)) refl))
