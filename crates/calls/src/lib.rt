@@ -161,7 +161,7 @@ pub fn serve_word(board: Board, t: &mut [u64; 641], word: u64) -> Answer
     tables::fits(t);
     let first = tables::read::first(t);
     let caller = first.current;
-    let read = words::call_word::read(word);
+    let read = otherwords::call_word::read(word);
     match read {
         CallRead::Fields(f) => {
             let outcome = serve(board, t, f);

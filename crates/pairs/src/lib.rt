@@ -7,11 +7,11 @@ ghost use Rattle.pairs.specs.Pair.{oneWord, halves, plain, parted, write
 pub mod pair_word;
 
 use pair_word::PairFields;
+use tablewords::slot_word;
 use words::Line;
 use words::Partition;
 use words::Rights;
 use words::Written;
-use words::slot_word;
 use words::slot_word::SlotFields;
 
 // The two registers: base address and limit address.

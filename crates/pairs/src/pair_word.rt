@@ -1,11 +1,10 @@
 ghost use mathlib.Core.Path.{_≡_};
-ghost use Prim.Native.Nat.{_≤_};
-ghost use Rattle.loops.specs.Loops.{bitOf};
 ghost use Rattle.words.specs.Kind.{fieldsIn, writing};
 ghost use Rattle.words.specs.Parts.{zeroSum};
 ghost use Rattle.pairs.specs.Word.{pair};
 use words::Line;
 use words::Written;
+use words::bit;
 
 // The two registers as one word: base address in the high half, limit address in the low one. Here, and nowhere above, it is known which bits their fields are.
 pub struct PairFields {
@@ -34,13 +33,6 @@ pub fn zero_bits(w: u64) -> u64
     ensures { λ r. ⌜ r ≡ zeroSum (pair .parts) w ⌝ }
 {
     w / 0x8_0000_0000 % 4 + w / 2 % 16
-}
-
-// A flag as a bit of the word.
-fn bit(b: bool) -> u64
-    ensures { λ r. ⌜ (r ≡ bitOf b) × (r ≤ 1) ⌝ }
-{
-    if b { 1 } else { 0 }
 }
 
 pub fn write(f: PairFields) -> Written

@@ -3,9 +3,9 @@ ghost use Rattle.tables.specs.Top.{Top};
 ghost use Rattle.runs.specs.Marks.{runAt, MarksAt};
 ghost use Rattle.runs.specs.Listing.{refusal, planOf, marksIn};
 use crate::Run;
+use otherwords::mark_word;
 use shapes::Board;
 use tables::Outcome;
-use words::mark_word;
 
 // What is settled before a record is written: how many runs are written, and the outcome.
 pub struct Plan {

@@ -2,10 +2,10 @@ ghost use mathlib.Core.Path.{_≡_};
 ghost use Prim.Native.Nat.{_<_, _^_};
 ghost use Rattle.words.specs.Kinds.{markFor};
 ghost use Rattle.runs.specs.Ways.{Short, wordWritten};
+use otherwords::mark_word;
 use words::Line;
 use words::Partition;
 use words::Written;
-use words::mark_word;
 use words::mark_word::MarkFields;
 
 // The word of a mark, in 32 bits. A refusal keeps nothing: no caller here meets one.

@@ -8,9 +8,9 @@ ghost use Rattle.runs.specs.Places.{AllInOrder, Passed};
 ghost use Rattle.runs.specs.Ways.{Climbs, Climbed, Standing, Pieced};
 use crate::marks::mark_of;
 use ordering::order::entry_at;
+use otherwords::mark_word;
 use words::Line;
 use words::Partition;
-use words::mark_word;
 
 // Whom a partition gave its entry that holds a line (0 is nobody), and where that entry ends.
 pub struct Hop {

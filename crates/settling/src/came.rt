@@ -30,7 +30,7 @@ fn close_slot(t: &mut [u64; 641], p: Partition, i: Slot, lo: Line, hi: Line)
     let mut g = f;
     g.opened = false;
     let at = (9 + 40 * p.0 + i.0) as usize;
-    store(t, at, words::slot_word::write(g));
+    store(t, at, tablewords::slot_word::write(g));
     settle_regions(t, p);
 }
 

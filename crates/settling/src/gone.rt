@@ -27,7 +27,7 @@ fn open_slot(t: &mut [u64; 641], p: Partition, i: Slot, n: usize, s: &[u32; 80],
     let mut g = f;
     g.opened = areas::clear_of(n, s, e, f.start, f.end);
     let at = (9 + 40 * p.0 + i.0) as usize;
-    store(t, at, words::slot_word::write(g));
+    store(t, at, tablewords::slot_word::write(g));
 }
 
 // .. in every slot of p

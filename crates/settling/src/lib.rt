@@ -76,5 +76,5 @@ pub fn settle_regions(t: &mut [u64; 641], p: Partition)
     ensures { λ _. ⌜ Is (now (t .exit)) (keepRegions (view (now (t .entry))) (p .0)) ⌝ }
 {
     let at = (6 + 40 * p.0) as usize;
-    store(t, at, words::regions_word::write(kept_regions(t, p)));
+    store(t, at, regionwords::regions_word::write(kept_regions(t, p)));
 }

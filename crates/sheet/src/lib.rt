@@ -135,7 +135,7 @@ fn touched_of_caller(t: &[u64; 641], service: u32, i: Slot) -> Whose
 pub fn touched(t: &[u64; 641], word: u64) -> Whose
     ensures { λ r. ⌜ (r ≡ touched (view (now (t .entry)) .k) word) × Named r ⌝ }
 {
-    let f = words::call_word::fields(word);
+    let f = otherwords::call_word::fields(word);
     let service = f.service;
     let named = f.partition;
     if service == 9 {
@@ -159,7 +159,7 @@ fn put_again(t: &[u64; 641], p: Partition, sheet: &mut [u8])
     ensures { λ _. ⌜ now (sheet .exit) ≡ keptPair (view (now (t .entry))) (p .0) (now (sheet .entry)) ⌝ }
 {
     let at = (16 * p.0) as usize;
-    let old = words::masks_word::fields(memory::word(sheet, at));
+    let old = otherwords::masks_word::fields(memory::word(sheet, at));
     put_pair(t, p, old.children, sheet);
 }
 

@@ -99,12 +99,12 @@ pub fn words_of(t: &[u64; 641], p: Partition, children: u32) -> Pair
         return Pair { masks: 0, lines: 0 };
     }
     let x = crate::sums::gather(t, p);
-    let masks = words::masks_word::write(MasksFields {
+    let masks = otherwords::masks_word::write(MasksFields {
         children,
         slots: x.slots,
         structures: structures(t, p),
     });
-    let lines = words::lines_word::write(LinesFields {
+    let lines = otherwords::lines_word::write(LinesFields {
         held: x.held,
         opened: x.opened,
     });

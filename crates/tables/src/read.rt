@@ -15,7 +15,7 @@ use words::structure_word::StructureFields;
 pub fn first(t: &[u64; 641]) -> FirstFields
     ensures { λ r. ⌜ SeenFirst (now (t .entry)) r ⌝ }
 {
-    words::first_word::fields(t[0])
+    tablewords::first_word::fields(t[0])
 }
 
 pub fn header(t: &[u64; 641], p: Partition) -> HeaderFields
@@ -23,7 +23,7 @@ pub fn header(t: &[u64; 641], p: Partition) -> HeaderFields
     ensures { λ r. ⌜ SeenHeader (now (t .entry)) (p .0) r ⌝ }
 {
     let at = (1 + 40 * p.0) as usize;
-    words::header_word::fields(t[at])
+    tablewords::header_word::fields(t[at])
 }
 
 pub fn structure(t: &[u64; 641], p: Partition, j: u32) -> StructureFields
@@ -31,7 +31,7 @@ pub fn structure(t: &[u64; 641], p: Partition, j: u32) -> StructureFields
     ensures { λ r. ⌜ SeenStructure (now (t .entry)) (p .0) j r ⌝ }
 {
     let at = (2 + 40 * p.0 + j) as usize;
-    words::structure_word::fields(t[at])
+    tablewords::structure_word::fields(t[at])
 }
 
 pub fn regions(t: &[u64; 641], p: Partition) -> RegionsFields
@@ -39,7 +39,7 @@ pub fn regions(t: &[u64; 641], p: Partition) -> RegionsFields
     ensures { λ r. ⌜ SeenRegions (now (t .entry)) (p .0) r ⌝ }
 {
     let at = (6 + 40 * p.0) as usize;
-    words::regions_word::fields(t[at])
+    regionwords::regions_word::fields(t[at])
 }
 
 pub fn entry(t: &[u64; 641], p: Partition, i: Slot) -> SlotFields
@@ -47,7 +47,7 @@ pub fn entry(t: &[u64; 641], p: Partition, i: Slot) -> SlotFields
     ensures { λ r. ⌜ Seen (now (t .entry)) (p .0) (i .0) r ⌝ }
 {
     let at = (9 + 40 * p.0 + i.0) as usize;
-    words::slot_word::fields(t[at])
+    tablewords::slot_word::fields(t[at])
 }
 
 // the word of a slot, as find and read region answer it

@@ -24,7 +24,7 @@ fn word(t: &[u64; 641], p: Partition, o: u32) -> u64
 pub fn first_bits(t: &[u64; 641]) -> bool
     ensures { λ r. ⌜ r ≡ zeroed first (firstWord (now (t .entry))) ⌝ }
 {
-    words::first_word::zero_bits(t[0]) == 0
+    tablewords::first_word::zero_bits(t[0]) == 0
 }
 
 // .. in that of p's header
@@ -32,7 +32,7 @@ pub fn header_bits(t: &[u64; 641], p: Partition) -> bool
     requires { ⌜ p .0 < 16 ⌝ }
     ensures { λ r. ⌜ r ≡ zeroed header (areaWordAt (now (t .entry)) (p .0) 0) ⌝ }
 {
-    words::header_word::zero_bits(word(t, p, 0)) == 0
+    tablewords::header_word::zero_bits(word(t, p, 0)) == 0
 }
 
 // .. in that of structure j
@@ -40,7 +40,7 @@ pub fn structure_bits(t: &[u64; 641], p: Partition, j: u32) -> bool
     requires { ⌜ (p .0 < 16) × (j < 4) ⌝ }
     ensures { λ r. ⌜ r ≡ zeroed structure (areaWordAt (now (t .entry)) (p .0) (1 + j)) ⌝ }
 {
-    words::structure_word::zero_bits(word(t, p, 1 + j)) == 0
+    tablewords::structure_word::zero_bits(word(t, p, 1 + j)) == 0
 }
 
 // .. in that of the regions
@@ -48,7 +48,7 @@ pub fn regions_bits(t: &[u64; 641], p: Partition) -> bool
     requires { ⌜ p .0 < 16 ⌝ }
     ensures { λ r. ⌜ r ≡ zeroed regions (regionsWordAt (now (t .entry)) (p .0)) ⌝ }
 {
-    words::regions_word::zero_bits(word(t, p, 5)) == 0
+    regionwords::regions_word::zero_bits(word(t, p, 5)) == 0
 }
 
 // the word of structure j is zero

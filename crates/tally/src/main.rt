@@ -163,7 +163,7 @@ fn main() {
         print_boot(2);
         return;
     }
-    let read = words::boot_word::read(word_at(&piece, 0));
+    let read = otherwords::boot_word::read(word_at(&piece, 0));
     match read {
         BootRead::Fields(f) => {
             let mut t = [0u64; 641];

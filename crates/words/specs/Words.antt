@@ -1,7 +1,7 @@
 -- 01's packed words, column by column, the two of 02's sheet, and one of the library's own: the parts of each kind, most significant first, and the struct that has its fields.
 use mathlib.Core.List.{List, [], _∷_, _++_}
 use mathlib.Core.Logic.{_⊎_, inl, inr}
-use Prim.Native.Nat.{ℕ, _+_, _*_}
+use Prim.Native.Nat.{ℕ, _+_}
 use lib.ListN.{getD}
 use lib.Dec.{eqb}
 use Rattle.loops.specs.Loops.{bitOf}
@@ -75,13 +75,6 @@ regionAt l i = record { loaded = eqb (getD l i 0) 1; slot = record { 0 = getD l 
 
 abbrev regionList : Region → List ℕ
 regionList r = bitOf (r .loaded) ∷ r .slot .0 ∷ []
-
-abbrev regionNumber : Region → ℕ
-regionNumber r = bitOf (r .loaded) * 128 + r .slot .0
-
--- four regions, as a number
-abbrev pub halfWord : Region → Region → Region → Region → ℕ
-halfWord a b c d = regionNumber a * 0x100_0000 + (regionNumber b * 0x1_0000 + (regionNumber c * 256 + regionNumber d))
 
 -- regions: eight bytes, region 0 first: loaded 1, zero 2, slot 5
 unfoldable pub regions : Kind RegionsFields RegionsRead

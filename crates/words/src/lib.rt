@@ -2,8 +2,8 @@ ghost use mathlib.Core.Path.{_≡_};
 ghost use Prim.Native.Nat.{_≤_};
 ghost use Rattle.loops.specs.Loops.{bitOf};
 
-// A packed word has fields and zero bits. Here, and nowhere above, it is known which bits they are.
-// One module a kind of word: its fields, a reader, a writer.
+// A packed word has fields and zero bits. Here and in the code of the kinds (tablewords, regionwords, otherwords), and nowhere above, it is known which bits they are.
+// One module a kind of word: its fields, and what its reader answers.
 pub mod boot_word;
 pub mod call_word;
 pub mod first_word;
@@ -36,8 +36,8 @@ pub enum Written {
     Refused(u64),
 }
 
-// A flag as a bit of a word.
-fn bit(b: bool) -> u64
+// A flag as a bit of a word, for the writers.
+pub fn bit(b: bool) -> u64
     ensures { λ r. ⌜ (r ≡ bitOf b) × (r ≤ 1) ⌝ }
 {
     if b { 1 } else { 0 }

@@ -25,7 +25,7 @@ pub fn put_entry(t: &mut [u64; 641], p: Partition, i: Slot, f: SlotFields)
     ensures { λ _. ⌜ Is (now (t .exit)) (putSlot (view (now (t .entry))) (p .0) (i .0) (some (entryOf f)) (f .opened)) ⌝ }
 {
     let at = (9 + 40 * p.0 + i.0) as usize;
-    store(t, at, words::slot_word::write(f));
+    store(t, at, tablewords::slot_word::write(f));
 }
 
 // slot i of p is free
@@ -42,7 +42,7 @@ pub fn put_header(t: &mut [u64; 641], p: Partition, f: HeaderFields)
     ensures { λ _. ⌜ Is (now (t .exit)) (putHeader (view (now (t .entry))) (p .0) (f .parent .0) (some (span (f .start) (f .end)))) ⌝ }
 {
     let at = (1 + 40 * p.0) as usize;
-    store(t, at, words::header_word::write(f));
+    store(t, at, tablewords::header_word::write(f));
 }
 
 // structure j of p
@@ -51,7 +51,7 @@ pub fn put_structure(t: &mut [u64; 641], p: Partition, j: u32, f: StructureField
     ensures { λ _. ⌜ Is (now (t .exit)) (putStructure (view (now (t .entry))) (p .0) j (some (span (f .start) (f .end)))) ⌝ }
 {
     let at = (2 + 40 * p.0 + j) as usize;
-    store(t, at, words::structure_word::write(f));
+    store(t, at, tablewords::structure_word::write(f));
 }
 
 // structure j of p is absent
@@ -73,7 +73,7 @@ pub fn put_region(t: &mut [u64; 641], p: Partition, r: u32, slot: Slot)
         r,
         Region { loaded: true, slot },
     );
-    store(t, at, words::regions_word::write(f));
+    store(t, at, regionwords::regions_word::write(f));
 }
 
 // region r of p names nothing
@@ -90,7 +90,7 @@ pub fn clear_region(t: &mut [u64; 641], p: Partition, r: u32)
             slot: Slot(0),
         },
     );
-    store(t, at, words::regions_word::write(f));
+    store(t, at, regionwords::regions_word::write(f));
 }
 
 // c is current
@@ -100,7 +100,7 @@ pub fn put_current(t: &mut [u64; 641], c: Partition)
 {
     let mut f = tables::read::first(t);
     f.current = c;
-    store(t, 0, words::first_word::write(f));
+    store(t, 0, tablewords::first_word::write(f));
 }
 
 // the 40 words of p are zero
@@ -124,7 +124,7 @@ pub fn empty_table(t: &mut [u64; 641], base: Line, end: Line)
     store(
         t,
         0,
-        words::first_word::write(FirstFields {
+        tablewords::first_word::write(FirstFields {
             base,
             end,
             current: Partition(0),

@@ -18,16 +18,23 @@ mark-structure-spec =
     (λ c. let h = c .before .before .before .before .before .pre in let f = c .before .before .structure in structure-absent _ (h .2 .shaped) (h .2 .inP) (h .0) (h .1) (h .2 .marked) (f .ensures) (not-true (f .result .present) (c .if2 .taken)))
     (λ c κs. let h = c .before .before .before .before .before .before .pre in (h .2 .inP, h .2 .shaped, h .2 .marked .size))
     (λ c.
-    let h = c .before .before .before .before .before .before .before .before .pre in
-    let f = c .before .before .before .before .before .structure in
-    structure-own _ (h .2 .shaped) (h .2 .inP) (h .0) (h .1) (h .2 .marked) (f .ensures) (sym (c .before .before .before .before .before .before .before .is-rooted .ensures) ∙ c .before .before .before .before .before .before .if1 .left) (not-false (f .result .present) (c .before .before .before .if2 .left)) (c .before .mark-equal .ensures) (c .if3 .taken))
+    let read = c .before .before .before .before .before in
+    let begun = read .before .before .before in
+    let h = begun .pre in
+    let f = read .structure in
+    structure-own _ (h .2 .shaped) (h .2 .inP) (h .0) (h .1) (h .2 .marked) (f .ensures) (sym (read .before .before .is-rooted .ensures) ∙ read .before .if1 .left) (not-false (f .result .present) (c .before .before .before .if2 .left)) (c .before .mark-equal .ensures) (c .if3 .taken))
     (λ c κs. search needs)
     (λ c κs.
-    let h = c .before .before .before .before .before .before .before .before .before .before .pre in
-    let f = c .before .before .before .before .before .before .before .structure in
-    let (e, _) = kept _ (h .2 .shaped) (h .2 .inP) (h .0) (h .1) (h .2 .marked) (f .ensures) (sym (c .before .before .before .before .before .before .before .before .before .is-rooted .ensures) ∙ c .before .before .before .before .before .before .before .before .if1 .left) (not-false (f .result .present) (c .before .before .before .before .before .if2 .left)) (c .before .before .before .mark-equal .ensures) (c .before .before .if3 .left) in
+    let read = c .before .before .before .before .before .before .before in
+    let begun = read .before .before .before in
+    let h = begun .pre in
+    let f = read .structure in
+    let (e, _) = kept _ (h .2 .shaped) (h .2 .inP) (h .0) (h .1) (h .2 .marked) (f .ensures) (sym (read .before .before .is-rooted .ensures) ∙ read .before .if1 .left) (not-false (f .result .present) (c .before .before .before .before .before .if2 .left)) (c .before .before .before .mark-equal .ensures) (c .before .before .if3 .left) in
     (c .before .header .ensures .parent-small, h .2 .shaped, rw e (h .2 .marked .size)))
     (λ c.
-    let h = c .before .before .before .before .before .before .before .before .before .before .before .pre in
-    let f = c .before .before .before .before .before .before .before .before .structure in
-    structure-parent _ (h .2 .shaped) (h .2 .inP) (h .0) (h .1) (h .2 .marked) (f .ensures) (sym (c .before .before .before .before .before .before .before .before .before .before .is-rooted .ensures) ∙ c .before .before .before .before .before .before .before .before .before .if1 .left) (not-false (f .result .present) (c .before .before .before .before .before .before .if2 .left)) (c .before .before .before .before .mark-equal .ensures) (c .before .before .before .if3 .left) (c .before .before .header .ensures) (c .mark-equal2 .ensures)))
+    let marked = c .before .before .before .before in
+    let read = marked .before .before .before .before in
+    let begun = read .before .before .before in
+    let h = begun .pre in
+    let f = read .structure in
+    structure-parent _ (h .2 .shaped) (h .2 .inP) (h .0) (h .1) (h .2 .marked) (f .ensures) (sym (read .before .before .is-rooted .ensures) ∙ read .before .if1 .left) (not-false (f .result .present) (c .before .before .before .before .before .before .if2 .left)) (marked .mark-equal .ensures) (c .before .before .before .if3 .left) (c .before .before .header .ensures) (c .mark-equal2 .ensures)))

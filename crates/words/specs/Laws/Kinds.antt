@@ -1,6 +1,6 @@
 -- Which fields of each kind are in range; each kind is lawful; and a mark fits 32 bits.
 use mathlib.Core.Path.{_≡_, refl, ap}
-use Prim.Native.Nat.{ℕ, _+_, _/_, _^_, _<_}
+use Prim.Native.Nat.{ℕ, _^_, _<_}
 use native.Mathlib.Omega.{arith}
 use Rattle.loops.specs.Laws.Bit.{flag-bit, bit-mod, bit-lt}
 use Rattle.words.specs.Kind.{fieldsIn, wordOf, reading, InRange, Lawful}
@@ -38,12 +38,6 @@ pub regions-range : (f : RegionsFields) → f .region0 .slot .0 < 32 → f .regi
 unfolding regions
 regions-range f a b c d e g h i =
     (bit-lt (f .region0 .loaded), (a, (bit-lt (f .region1 .loaded), (b, (bit-lt (f .region2 .loaded), (c, (bit-lt (f .region3 .loaded), (d, (bit-lt (f .region4 .loaded), (e, (bit-lt (f .region5 .loaded), (g, (bit-lt (f .region6 .loaded), (h, (bit-lt (f .region7 .loaded), (i, tt))))))))))))))))
-
--- none of eight slots leaves a quotient
-pub eight-slots : (a b c d e g h i : ℕ) → a / 32 + (b / 32 + (c / 32 + (d / 32 + (e / 32 + (g / 32 + (h / 32 + i / 32)))))) ≡ 0
-    → (a < 32) × (b < 32) × (c < 32) × (d < 32) × (e < 32) × (g < 32) × (h < 32) × (i < 32)
-eight-slots a b c d e g h i q =
-    (omega arith, omega arith, omega arith, omega arith, omega arith, omega arith, omega arith, omega arith)
 
 pub slot-range : (f : SlotFields) → f .given .0 < 16 → f .start .0 < 2 ^ 27 → f .end .0 < 2 ^ 27 → InRange slot f
 unfolding slot
