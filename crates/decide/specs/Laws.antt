@@ -5,3 +5,4 @@ pub mod Granted
 pub mod Decided
 pub mod Tiles
 pub mod Lines
+pub mod Walk

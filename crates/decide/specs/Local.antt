@@ -32,3 +32,7 @@ localAt b t m p = all 32 (entryRight t m p) && (exactly (t .k) p && s11 (t .k) p
 
 unfoldable pub localWhere : Board → Table → List ℕ → ℕ → Bool
 localWhere b t m p = not (present (t .k) p) || localAt b t m p
+
+-- .. but for what the walk tells of the entries by themselves
+unfoldable pub leftWhere : Board → Table → ℕ → Bool
+leftWhere b t p = not (present (t .k) p) || (exactly (t .k) p && s11 (t .k) p && grantsOpen t p) && s10 b t p

@@ -3,14 +3,13 @@ use mathlib.Core.Path.{_≡_}
 use mathlib.Core.Bool.{Bool, true, false, cond}
 use mathlib.Core.List.{List}
 use mathlib.Core.Logic.{_↔_}
-use Prim.Native.Nat.{ℕ, _≤_, _<_}
+use Prim.Native.Nat.{ℕ, _+_, _≤_, _<_}
 use Rattle.words.specs.declared.Rights.{Rights}
 use Rattle.tables.specs.State.{Opt, none, some, Entry, entry, allRights}
 use Rattle.tables.specs.View.{view}
 use Rattle.tables.specs.Lines.{In}
 use Rattle.sound.specs.Clauses.{within, sameRights}
-use Rattle.ordering.specs.Order.{Solid}
-use Rattle.ordering.specs.Order.{placed, Rows}
+use Rattle.ordering.specs.Order.{Solid, placed, Rows}
 
 -- ── one range lo to hi with rights r ──
 -- e lies inside it, ends by line at, and has no right beyond r
@@ -36,6 +35,10 @@ pub record GoesOn (E : ℕ → Entry) (n i k hi at : ℕ) (r : Rights) : Type 0 
   pub rights : within (E k .rights) r ≡ true
   pub equal : E k .rights ≡ E i .rights
 
+-- rights as a number, a bit each
+unfoldable pub rightsNumber : Rights → ℕ
+rightsNumber a = cond (a .read) 4 0 + cond (a .write) 2 0 + cond (a .execute) 1 0
+
 -- The first of a range has no right beyond those of the range; a later one has those of the one before it.
 unfoldable pub follows : Bool → Rights → Rights → Bool
 follows first a b = cond first (within a b) (sameRights a b)
@@ -59,12 +62,23 @@ unfoldable pub entryOr : Opt Entry → Entry
 entryOr none = entry 0 0 0 allRights false
 entryOr (some e) = e
 
+abbrev pub entryAt : List ℕ → ℕ → ℕ → Entry
+entryAt l p j = entryOr (view l .k .slot p j)
+
 abbrev pub rowOf : List ℕ → List ℕ → ℕ → ℕ → Entry
-rowOf l o p a = entryOr (view l .k .slot p (placed o p a))
+rowOf l o p a = entryAt l p (placed o p a)
 
 -- .. and their open bits
 abbrev pub openedBit : List ℕ → List ℕ → ℕ → ℕ → Bool
 openedBit l o p a = view l .opened p (placed o p a)
+
+-- slot j of q has an entry
+abbrev pub Filled : List ℕ → ℕ → ℕ → Type 0
+Filled l q j = (e : Entry) × (view l .k .slot q j ≡ some e)
+
+-- x is the place after the entries of p that tile it from place i on, as above
+abbrev pub TiledSlot : List ℕ → List ℕ → ℕ → ℕ → ℕ → ℕ → ℕ → ℕ → Type 0
+TiledSlot l o p n i q j x = TiledAs (rowOf l o p) (openedBit l o p) n i (entryAt l q j .start) (entryAt l q j .stop) (entryAt l q j .rights) (view l .opened q j) x
 
 -- an entry as if it had all rights and no mark; those of p by place
 abbrev pub unranked : Entry → Entry

@@ -1,9 +1,10 @@
 ghost use mathlib.Core.Path.{_≡_};
-ghost use mathlib.Core.Bool.{not, _||_};
+ghost use mathlib.Core.Bool.{true, not, _||_};
 ghost use Prim.Native.Nat.{_<_};
 ghost use lib.ListN.{length};
 ghost use Rattle.loops.specs.Loops.{all, any};
 ghost use Rattle.tables.specs.View.{entryOf, entryIn, view};
+ghost use Rattle.tables.specs.Seen.{Seen};
 ghost use Rattle.sound.specs.Clauses.{has, lends, undivided};
 ghost use Rattle.shape.specs.AtOnce.{Shaped};
 ghost use Rattle.decide.specs.Entries.{fullSlot};
@@ -76,15 +77,11 @@ pub fn whole_right(t: &[u64; 641], p: Partition, f: SlotFields) -> bool
     true
 }
 
-// slot i of p is given to a child of p; or to nobody, and then it is open exactly if no area marked it; a whole one is undivided
-fn entry_right(t: &[u64; 641], p: Partition, i: Slot, mark: &[u8; 512]) -> bool
-    requires { ⌜ (p .0 < 16) × (i .0 < 32) × Shaped (now t) × (length (now mark) ≡ 512) ⌝ }
+// f, which stands in slot i of p, is given to a child of p; or to nobody, and then it is open exactly if no area marked it; a whole one is undivided
+pub fn entry_right(t: &[u64; 641], p: Partition, i: Slot, f: SlotFields, mark: &[u8; 512]) -> bool
+    requires { ⌜ (p .0 < 16) × (i .0 < 32) × Shaped (now t) × (length (now mark) ≡ 512) × Seen (now t) (p .0) (i .0) f × (f .present ≡ true) ⌝ }
     ensures { λ r. ⌜ r ≡ entryRight (view (now (t .entry))) (now (mark .entry)) (p .0) (i .0) ⌝ }
 {
-    let f = read::entry(t, p, i);
-    if !f.present {
-        return true;
-    }
     if f.given.0 != 0 {
         if f.whole {
             return false;
@@ -96,22 +93,6 @@ fn entry_right(t: &[u64; 641], p: Partition, i: Slot, mark: &[u8; 512]) -> bool
     }
     let k = (32 * p.0 + i.0) as usize;
     f.opened == (mark[k] == 0)
-}
-
-// .. each slot
-pub fn entries_right(t: &[u64; 641], p: Partition, mark: &[u8; 512]) -> bool
-    requires { ⌜ (p .0 < 16) × Shaped (now t) × (length (now mark) ≡ 512) ⌝ }
-    ensures { λ r. ⌜ r ≡ all 32 (entryRight (view (now (t .entry))) (now (mark .entry)) (p .0)) ⌝ }
-{
-    let used = used_slots(t, p);
-    let mut i = 0u32;
-    while i < used {
-        if !entry_right(t, p, Slot(i), mark) {
-            return false;
-        }
-        i += 1;
-    }
-    true
 }
 
 // slot i of p has all rights, or no entry

@@ -1,19 +1,19 @@
 ghost use mathlib.Core.Path.{_≡_};
-ghost use mathlib.Core.Bool.{true};
 ghost use Prim.Native.Nat.{_<_};
 ghost use lib.ListN.{length};
 ghost use Rattle.loops.specs.Loops.{all};
 ghost use Rattle.tables.specs.View.{view};
 ghost use Rattle.tables.specs.Top.{Top};
-ghost use Rattle.tables.specs.Search.{present};
 ghost use Rattle.sound.specs.Clauses.{sound};
 ghost use Rattle.shape.specs.AtOnce.{shapeAt};
-ghost use Rattle.decide.specs.Local.{localAt, localWhere};
+ghost use Rattle.decide.specs.Local.{localWhere, leftWhere};
 ghost use Rattle.decide.specs.Decide.{CanDecide, Decided};
+ghost use Rattle.decide.specs.Walk.{noneLeft, Ended};
 
 // Whether a table is sound, decided along its entries in order, of which its areas mark those that they equal.
 pub mod entries;
 pub mod tiles;
+mod walk;
 
 use shapes::Board;
 use words::Partition;
@@ -47,45 +47,54 @@ fn shapes_sound(t: &[u64; 641], top: u32) -> bool
     true
 }
 
-// S7 and S9 to S11 at a present partition.
-fn present_sound(
+// S7 at p, which is present, but for what it says of given and whole entries, S11, and the open bits of what p was given: the walk has left none of its entries over
+fn none_left(p: Partition, counts: &[u32; 16], next: &[u32; 16]) -> bool
+    requires { ⌜ (p .0 < 16) × (length (now counts) ≡ 16) × (length (now next) ≡ 16) ⌝ }
+    ensures { λ r. ⌜ r ≡ noneLeft (now (counts .entry)) (now (next .entry)) (p .0) ⌝ }
+{
+    if p.0 == 0 {
+        return true;
+    }
+    let k = p.0 as usize;
+    next[k] == counts[k]
+}
+
+// what is told of p once the walk has ended: that, and S10
+fn partition_sound(
     board: Board,
     t: &[u64; 641],
     p: Partition,
-    order: &[u8; 512],
     counts: &[u32; 16],
-    mark: &[u8; 512],
+    next: &[u32; 16],
 ) -> bool
-    requires { ⌜ (p .0 < 16) × (present (view (now t) .k) (p .0) ≡ true) × CanDecide (now t) (now order) (now counts) (now mark) ⌝ }
-    ensures { λ r. ⌜ r ≡ localAt board (view (now (t .entry))) (now (mark .entry)) (p .0) ⌝ }
+    requires { ⌜ (p .0 < 16) × Ended (now t) (now counts) (now next) ⌝ }
+    ensures { λ r. ⌜ r ≡ leftWhere board (view (now (t .entry))) (p .0) ⌝ }
 {
-    if !entries::entries_right(t, p, mark) {
-        return false;
+    if !searching::is_present(t, p) {
+        return true;
     }
-    if !tiles::covers(t, p, order, counts) {
+    if !none_left(p, counts, next) {
         return false;
     }
     loaded::opening::regions_right(board, t, p)
 }
 
-// where p is present
-fn partition_sound(
-    board: Board,
-    t: &[u64; 641],
-    p: Partition,
-    order: &[u8; 512],
-    counts: &[u32; 16],
-    mark: &[u8; 512],
-) -> bool
-    requires { ⌜ (p .0 < 16) × CanDecide (now t) (now order) (now counts) (now mark) ⌝ }
-    ensures { λ r. ⌜ r ≡ localWhere board (view (now (t .entry))) (now (mark .entry)) (p .0) ⌝ }
+// .. of each
+fn rest_sound(board: Board, t: &[u64; 641], top: u32, counts: &[u32; 16], next: &[u32; 16]) -> bool
+    requires { ⌜ Top (now t) top × Ended (now t) (now counts) (now next) ⌝ }
+    ensures { λ r. ⌜ r ≡ all 16 (leftWhere board (view (now (t .entry)))) ⌝ }
 {
-    if !searching::is_present(t, p) {
-        return true;
+    let mut p = 0u32;
+    while p < top {
+        if !partition_sound(board, t, Partition(p), counts, next) {
+            return false;
+        }
+        p += 1;
     }
-    present_sound(board, t, p, order, counts, mark)
+    true
 }
 
+// S7 and S9 to S11
 fn partitions_sound(
     board: Board,
     t: &[u64; 641],
@@ -97,14 +106,14 @@ fn partitions_sound(
     requires { ⌜ Top (now t) top × CanDecide (now t) (now order) (now counts) (now mark) ⌝ }
     ensures { λ r. ⌜ r ≡ all 16 (localWhere board (view (now (t .entry))) (now (mark .entry))) ⌝ }
 {
-    let mut p = 0u32;
-    while p < top {
-        if !partition_sound(board, t, Partition(p), order, counts, mark) {
-            return false;
-        }
-        p += 1;
+    if !tiles::covers_whole(t, Partition(0), order, counts[0]) {
+        return false;
     }
-    true
+    let mut next = [0u32; 16];
+    if !walk::walk(t, top, order, counts, mark, &mut next) {
+        return false;
+    }
+    rest_sound(board, t, top, counts, &next)
 }
 
 // Exactly the sound tables pass. Of such a table the entries are left in order, for who lists its runs.

@@ -1,43 +1,49 @@
 ghost use mathlib.Core.Path.{_≡_};
-ghost use mathlib.Core.Bool.{true, _&&_, Bool·beq};
+ghost use mathlib.Core.Bool.{true, cond, _&&_};
 ghost use Prim.Native.Nat.{_≤_, _<_};
 ghost use Rattle.tables.specs.State.{allRights};
 ghost use Rattle.tables.specs.View.{view};
 ghost use Rattle.tables.specs.Search.{present};
-ghost use Rattle.sound.specs.Clauses.{sameRights, s11};
+ghost use Rattle.sound.specs.Clauses.{within, sameRights, s11};
 ghost use Rattle.shape.specs.AtOnce.{Shaped};
 ghost use Rattle.decide.specs.Entries.{exactly};
-ghost use Rattle.ordering.specs.Order.{Orders};
+ghost use Rattle.ordering.specs.Order.{placed, Orders};
 ghost use Rattle.decide.specs.Local.{grantsOpen};
-ghost use Rattle.decide.specs.Tiles.{follows, rowOf, openedBit, plainRow, InOrder, ChildOf, Tiled, TiledAs};
+ghost use Rattle.decide.specs.Tiles.{rightsNumber, follows, rowOf, openedBit, plainRow, InOrder, ChildOf, Filled, Tiled, TiledAs, TiledSlot};
 use crate::entries::full_each;
 use ordering::order::entry_at;
-use shape::rights::rights_within;
 use tables::read;
 use words::Line;
 use words::Partition;
 use words::Rights;
+use words::Slot;
 
-// both or neither
-fn same_right(a: bool, b: bool) -> bool
-    ensures { λ r. ⌜ r ≡ Bool·beq a b ⌝ }
+fn bit(b: bool, n: u32) -> u32
+    requires { ⌜ n ≤ 4 ⌝ }
+    ensures { λ r. ⌜ (r ≡ cond b n 0) × (r ≤ 4) ⌝ }
 {
-    if a {
-        return b;
-    }
-    !b
+    if b { n } else { 0 }
+}
+
+// rights as a number, a bit each
+fn number(a: Rights) -> u32
+    ensures { λ r. ⌜ r ≡ rightsNumber a ⌝ }
+{
+    bit(a.read, 4) + bit(a.write, 2) + bit(a.execute, 1)
+}
+
+// every right of a is one of b: told at once, since each entry of a child comes by here
+fn none_beyond(a: Rights, b: Rights) -> bool
+    ensures { λ r. ⌜ r ≡ within a b ⌝ }
+{
+    let n = number(a);
+    n & number(b) == n
 }
 
 fn same_rights(a: Rights, b: Rights) -> bool
     ensures { λ r. ⌜ r ≡ sameRights a b ⌝ }
 {
-    if !same_right(a.read, b.read) {
-        return false;
-    }
-    if !same_right(a.write, b.write) {
-        return false;
-    }
-    same_right(a.execute, b.execute)
+    (a.read == b.read) & (a.write == b.write) & (a.execute == b.execute)
 }
 
 // The rights a of the first entry of a range go not beyond those of the range, b; those of a later one are the same as those of the one before it, b.
@@ -45,7 +51,7 @@ fn follows(first: bool, a: Rights, b: Rights) -> bool
     ensures { λ r. ⌜ r ≡ follows first a b ⌝ }
 {
     if first {
-        return rights_within(a, b);
+        return none_beyond(a, b);
     }
     same_rights(a, b)
 }
@@ -97,6 +103,32 @@ fn tile(
     k
 }
 
+// the slot at place a of p
+pub fn slot_at(p: Partition, order: &[u8; 512], a: u32) -> Slot
+    requires { ⌜ (p .0 < 16) × (a < 32) × (placed (now order) (p .0) a < 32) ⌝ }
+    ensures { λ r. ⌜ r .0 ≡ placed (now (order .entry)) (p .0) a ⌝ }
+{
+    let at = (32 * p.0 + a) as usize;
+    Slot(order[at] as u32)
+}
+
+// .. the entry in slot j of q. It is read here, where the compiler needs nothing of it in memory.
+pub fn tile_slot(
+    t: &[u64; 641],
+    p: Partition,
+    order: &[u8; 512],
+    n: u32,
+    i: u32,
+    q: Partition,
+    j: Slot,
+) -> u32
+    requires { ⌜ InOrder (now t) (now order) (p .0) n × (i ≤ n) × Filled (now t) (q .0) (j .0) ⌝ }
+    ensures { λ x. ⌜ TiledSlot (now (t .entry)) (now (order .entry)) (p .0) n i (q .0) (j .0) x ⌝ }
+{
+    let g = read::entry(t, q, j);
+    tile(t, p, order, n, i, g.start, g.end, g.rights, g.opened)
+}
+
 // The n entries of p tile, one after the other, those of the m entries of its parent q that are given to p; and none is left.
 fn tiles_grants(
     t: &[u64; 641],
@@ -112,9 +144,10 @@ fn tiles_grants(
     let mut i = 0u32;
     let mut j = 0u32;
     while j < m {
-        let g = entry_at(t, q, order, j);
+        let s = slot_at(q, order, j);
+        let g = read::entry(t, q, s);
         if g.given.0 == p.0 {
-            i = tile(t, p, order, n, i, g.start, g.end, g.rights, g.opened);
+            i = tile_slot(t, p, order, n, i, q, s);
             if i > n {
                 return false;
             }
@@ -165,6 +198,17 @@ pub fn tiles_whole(t: &[u64; 641], p: Partition, order: &[u8; 512], n: u32) -> b
     tile_lines(t, p, order, n, 0, f.base, f.end) == n
 }
 
+// S7 of the root but for what it says of given and whole entries, and S11; nobody gave it anything
+pub fn covers_whole(t: &[u64; 641], p: Partition, order: &[u8; 512], n: u32) -> bool
+    requires { ⌜ InOrder (now t) (now order) (p .0) n × (p .0 ≡ 0) × Shaped (now t) ⌝ }
+    ensures { λ r. ⌜ r ≡ exactly (view (now (t .entry)) .k) (p .0) && s11 (view (now (t .entry)) .k) (p .0) && grantsOpen (view (now (t .entry))) (p .0) ⌝ }
+{
+    if !full_each(t, p) {
+        return false;
+    }
+    tiles_whole(t, p, order, n)
+}
+
 // S7 at p, which is present, but for what it says of given and whole entries, S11, and the open bits of what p was given: by one walk, since the entries of each
 // partition are in order
 pub fn covers(t: &[u64; 641], p: Partition, order: &[u8; 512], counts: &[u32; 16]) -> bool
@@ -173,10 +217,7 @@ pub fn covers(t: &[u64; 641], p: Partition, order: &[u8; 512], counts: &[u32; 16
 {
     let n = counts[p.0 as usize];
     if p.0 == 0 {
-        if !full_each(t, p) {
-            return false;
-        }
-        return tiles_whole(t, p, order, n);
+        return covers_whole(t, p, order, n);
     }
     let h = read::header(t, p);
     let m = counts[h.parent.0 as usize];

@@ -1,14 +1,9 @@
 -- src/lib.rt, partitions_sound: r ≡ all 16 (localWhere board (view t) mark)
-use Prim.Native.Nat.{_-_}
-use mathlib.Core.Path.{sym, ap, _∙_}
-use mathlib.Core.Bool.{not}
+use mathlib.Core.Path.{refl}
 use native.Mathlib.Omega.{arith}
-use Rattle.loops.specs.Laws.Every.{Passing}
-use Rattle.loops.specs.Laws.Scan.{seek-start, seek-hit, seek-on}
-use Rattle.tables.specs.View.{view}
-use Rattle.decide.specs.Local.{localWhere}
-use Rattle.ordering.specs.Laws.Used.{seek-bound}
-use Rattle.decide.specs.Laws.Decide.{top-local}
+use borrow.Author.Tests.{not-false}
+use Rattle.decide.specs.Laws.Decide.{passed}
+use Rattle.decide.specs.Laws.Walk.{row-of, root-here, walk-first, walk-ended, rest-local, not-walked, not-whole}
 use borrow.Author.Needs.{needs}
 use Rattle.decide.proofs.partitions_sound.Statement.{statement}
 use Rattle.decide.proofs.partitions_sound.Tie as tie
@@ -17,12 +12,17 @@ pub partitions-sound-spec : {M : Type 1} → statement M
 partitions-sound-spec =
     tie.close
     (tie.spec
-    (λ board t top order counts mark p₀ p. Passing (localWhere board (view t) mark) 16 p)
-    (λ board t top order counts mark p₀ p. top - p)
-    (λ c. seek-start)
-    (λ c κs. (omega (arith, c .before .before .pre .0 .within), c .before .before .pre .1))
-    (λ c. seek-hit (c .before .before .before .loop .inv) (omega (arith, c .before .before .before .before .pre .0 .within)) (ap not (sym (c .before .partition-sound .ensures)) ∙ c .if1 .taken))
     (λ c. search needs)
-    (λ c. search needs)
-    (λ c. seek-on (c .before .before .before .loop .inv) (omega (arith, c .before .before .before .before .pre .0 .within)) (ap not (sym (c .before .partition-sound .ensures)) ∙ c .if1 .left))
-    (λ c. seek-bound (c .before .loop .inv) (λ p a b. ap not (top-local (c .before .before .pre .0) _ _ p (omega arith)))))
+    (λ c κs. let h = c .before .pre .1 in (row-of h 0 (omega arith) (root-here h), refl, h .shaped))
+    (λ c. not-whole (c .before .before .before .pre .1) _ (c .before .covers-whole .ensures) (c .if1 .taken))
+    (λ c κs. let h = c .before .before .before .before .pre in (h .0, h .1, walk-first (h .1)))
+    (λ c. not-walked (c .before .before .before .before .before .before .pre .1) _ (c .before .walk .ensures) (c .if2 .taken))
+    (λ c κs.
+    let w = c .before .before in
+    let r = w .before .before .before in
+    let h = r .before .before .pre in
+    (h .0, walk-ended (h .1) (w .walk .ensures .on (not-false _ (c .before .if2 .left))) (passed (r .covers-whole .ensures) (w .before .before .if1 .left))))
+    (λ c.
+    let w = c .before .before .before in
+    let h = w .before .before .before .before .before .pre in
+    rest-local (h .1) (w .walk .ensures .on (not-false _ (c .before .before .if2 .left))) _ (c .rest-sound .ensures)))

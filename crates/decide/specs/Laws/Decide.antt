@@ -26,7 +26,7 @@ use Rattle.shape.specs.AtOnce.{restAt, shapeAt, Shaped}
 use Rattle.shape.specs.Laws.AtOnce.{areasApart, atOnce, Passes, rest-true, rest-says, sound-at-once}
 use Rattle.ordering.specs.Laws.Order.{SameOrders, orders-one}
 use Rattle.decide.specs.Decide.{Decided}
-use Rattle.decide.specs.Local.{localWhere}
+use Rattle.decide.specs.Local.{leftWhere}
 
 -- a test b, whose result a was turned round: it failed, or it passed
 pub failed : {a b : Bool} → a ≡ b → not a ≡ true → b ≡ true → ⊥
@@ -84,9 +84,9 @@ module _ {l : List ℕ} {m : ℕ} (h : Top l m) where
       let n = top-absent h p a in
       sym (absent-shape l p b (rw (ne-eqb p 0 (λ z. omega arith), n) (h .zero p a b)) n)
 
-  pub top-local : (board : Board) (marks : List ℕ) (p : ℕ) → m ≤ p → localWhere board (view l) marks p ≡ true
-  unfolding localWhere
-  top-local board marks p a = rw (top-absent h p a) refl
+  pub top-left : (board : Board) (p : ℕ) → m ≤ p → leftWhere board (view l) p ≡ true
+  unfolding leftWhere
+  top-left board p a = rw (top-absent h p a) refl
 
 -- ── the parts of the decision, in the order of the code ──
 -- two results are equal; where they are true, so are the number and the order of the entries of each partition that is present

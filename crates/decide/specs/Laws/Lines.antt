@@ -21,7 +21,8 @@ use Rattle.decide.specs.Laws.Local.{root-open}
 use Rattle.decide.specs.Laws.Decide.{failed, passed}
 use Rattle.ordering.specs.Order.{placed}
 use Rattle.decide.specs.Tiles.{Tiling, GoesOn, Tiled, stuck, rowOf, unranked, plainRow, InOrder}
-use Rattle.decide.specs.Laws.Tiles.{TwoRows, Lies, Exact, tile-on, exact-start, exact-short, exact-on, exact-stuck, row-seen, row-line, row-ends, whole, root-lies, lies-root}
+use Rattle.decide.specs.Walk.{Exact}
+use Rattle.decide.specs.Laws.Tiles.{TwoRows, Lies, tile-on, exact-start, exact-short, exact-on, exact-stuck, row-seen, row-line, row-ends, whole, root-lies, lies-root}
 
 -- ── rights apart ──
 module _ {E : ℕ → Entry} {n : ℕ} {F : ℕ → Entry} {m p : ℕ} where

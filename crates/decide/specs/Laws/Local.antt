@@ -7,9 +7,9 @@ use Prim.Native.Nat.{ℕ, _+_, _*_, _≤_, _<_}
 use native.Mathlib.Decide.{ℕ-discrete}
 use lib.Dec.{leb, eqb}
 use lib.ListN.{getD}
-use borrow.Author.Tests.{eqb-true, eq-eqb, ne-eqb, leb-true, le-leb}
+use borrow.Author.Tests.{eqb-true, eq-eqb, ne-eqb, leb-true, le-leb, not-true}
 use Rattle.loops.specs.Loops.{all}
-use Rattle.loops.specs.Laws.Every.{bool-ext}
+use Rattle.loops.specs.Laws.Every.{all-at, bool-ext}
 use Rattle.shapes.specs.declared.Board.{Board}
 use Rattle.tables.specs.State.{some, Entry, Table}
 use Rattle.tables.specs.View.{view}
@@ -17,12 +17,11 @@ use Rattle.tables.specs.Laws.View.{slot-bounds}
 use Rattle.tables.specs.Search.{child, present}
 use Rattle.sound.specs.Sound.{Around}
 use Rattle.sound.specs.Clauses.{when, undivided, s10, s11}
-use Rattle.sound.specs.Laws.Tests.{and-says, and-true, then-says, then-true, every-says, every-true, never}
+use Rattle.sound.specs.Laws.Tests.{and-says, and-true, then-says, then-true, every-says, every-true}
 use Rattle.sound.specs.Laws.MeansRegions.{beq-means}
-use Rattle.ordering.specs.Used.{Bound}
 use Rattle.decide.specs.Entries.{exactly}
-use Rattle.decide.specs.Local.{entryRight, openInside, grantsOpen, localAt, localWhere}
-use Rattle.decide.specs.Laws.Decide.{failed, passed, and-is}
+use Rattle.decide.specs.Local.{entryRight, openInside, grantsOpen, localAt, localWhere, leftWhere}
+use Rattle.decide.specs.Laws.Decide.{passed}
 
 -- ── what they say ──
 module _ (l : List ℕ) (p : ℕ) where
@@ -90,26 +89,7 @@ module _ (b : Board) (t : Table) (m : List ℕ) (p : ℕ) where
   unfolding localAt
   local-true h = and-true _ _ (and-true _ _ (h .entries) (and-true _ _ (and-true _ _ (h .exact) (h .s11)) (h .opens))) (h .s10)
 
-  -- ── its exits ──
-  pub no-entries : {r : Bool} → r ≡ all 32 (entryRight t m p) → not r ≡ true → false ≡ localAt b t m p
-  no-entries e n = never (localAt b t m p) (λ q. failed e n (local-says q .entries))
-
-  pub no-cover : {r : Bool} → r ≡ exactly (t .k) p && s11 (t .k) p && grantsOpen t p → not r ≡ true → false ≡ localAt b t m p
-  no-cover e n = never (localAt b t m p) (λ q. let h = local-says q in failed e n (and-true _ _ (and-true _ _ (h .exact) (h .s11)) (h .opens)))
-
-  pub local-last : {a d c : Bool} → a ≡ all 32 (entryRight t m p) → not a ≡ false → d ≡ exactly (t .k) p && s11 (t .k) p && grantsOpen t p → not d ≡ false → c ≡ s10 b t p → c ≡ localAt b t m p
-  unfolding localAt
-  local-last x u y v z = z ∙ and-is _ (s10 b t p) (and-true _ _ (passed x u) (passed y v))
-
-  -- an absent partition has nothing to test
-  pub where-absent : present (t .k) p ≡ false → true ≡ localWhere b t m p
-  unfolding localWhere
-  where-absent n = rw n refl
-
-  pub where-present : {r : Bool} → present (t .k) p ≡ true → r ≡ localAt b t m p → r ≡ localWhere b t m p
-  unfolding localWhere
-  where-present n e = rw n e
-
+  -- ── where p is present ──
   pub where-says : localWhere b t m p ≡ true → present (t .k) p ≡ true → localAt b t m p ≡ true
   unfolding localWhere
   where-says q n = then-says (present (t .k) p) (localAt b t m p) q n
@@ -132,15 +112,18 @@ module _ (t : Table) (m : List ℕ) (p : ℕ) where
     pub free : e .given ≡ 0 → t .opened p i ≡ eqb (getD m (32 * p + i) 0) 0
     pub given : (e .given ≡ 0 → ⊥) → child (t .k) p (e .given) ≡ true
 
-  pub entry-says : all 32 (entryRight t m p) ≡ true → (i : ℕ) (e : Entry) → i < 32 → t .k .slot p i ≡ some e → EntrySays i e
-  unfolding entryRight
-  entry-says q i e b u =
-      let (w, x) = and-says (wholeTest i e) (openTest i e) (every-says 32 (λ i e. wholeTest i e && openTest i e) (t .k .slot p) q i e b u) in
+  pub one-says : (i : ℕ) (e : Entry) → entryRight t m p i ≡ true → t .k .slot p i ≡ some e → EntrySays i e
+  unfolding entryRight when
+  one-says i e q u =
+      let (w, x) = and-says (wholeTest i e) (openTest i e) (rw u at q) in
       record {
         whole = w;
         free = λ g. beq-means _ _ .0 (rw (eq-eqb (e .given) 0 g) at x);
         given = λ n. rw (ne-eqb (e .given) 0 n) at x;
       }
+
+  pub entry-says : all 32 (entryRight t m p) ≡ true → (i : ℕ) (e : Entry) → i < 32 → t .k .slot p i ≡ some e → EntrySays i e
+  entry-says q i e b u = one-says i e (all-at 32 (entryRight t m p) q i b) u
 
   pub entry-true : ((i : ℕ) (e : Entry) → i < 32 → t .k .slot p i ≡ some e → EntrySays i e) → all 32 (entryRight t m p) ≡ true
   unfolding entryRight
@@ -150,7 +133,27 @@ module _ (t : Table) (m : List ℕ) (p : ℕ) where
       go i e h (yes g) = rw (eq-eqb (e .given) 0 g) (beq-means _ _ .1 (h .free g))
       go i e h (no n) = rw (ne-eqb (e .given) 0 n) (h .given n)
 
--- the slots behind the last structure are empty
-pub entry-empty : {l : List ℕ} {p n : ℕ} (m : List ℕ) → Bound l p n → (i : ℕ) → n ≤ i → i < 32 → entryRight (view l) m p i ≡ true
-unfolding entryRight when
-entry-empty m h i a b = rw (h .empty i a b) refl
+-- ── what is left to tell once the entries are right by themselves ──
+module _ (b : Board) (t : Table) (p : ℕ) where
+  abbrev covers : Bool
+  covers = exactly (t .k) p && s11 (t .k) p && grantsOpen t p
+
+  pub left-absent : present (t .k) p ≡ false → true ≡ leftWhere b t p
+  unfolding leftWhere
+  left-absent n = rw n refl
+
+  pub left-short : {r : Bool} → present (t .k) p ≡ true → r ≡ exactly (t .k) p && s11 (t .k) p && grantsOpen t p → not r ≡ true → false ≡ leftWhere b t p
+  unfolding leftWhere
+  left-short {r} n e q = rw (n, ← e, not-true r q) refl
+
+  pub left-last : {r c : Bool} → present (t .k) p ≡ true → r ≡ exactly (t .k) p && s11 (t .k) p && grantsOpen t p → not r ≡ false → c ≡ s10 b t p → c ≡ leftWhere b t p
+  unfolding leftWhere
+  left-last n e q z = rw (n, passed e q) z
+
+  pub left-says : leftWhere b t p ≡ true → present (t .k) p ≡ true → (covers ≡ true) × (s10 b t p ≡ true)
+  unfolding leftWhere
+  left-says q n = and-says covers (s10 b t p) (then-says (present (t .k) p) (covers && s10 b t p) q n)
+
+  pub left-true : (present (t .k) p ≡ true → (covers ≡ true) × (s10 b t p ≡ true)) → leftWhere b t p ≡ true
+  unfolding leftWhere
+  left-true f = then-true (present (t .k) p) (covers && s10 b t p) (λ n. let (x, y) = f n in and-true covers (s10 b t p) x y)

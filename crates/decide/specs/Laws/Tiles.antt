@@ -1,6 +1,6 @@
 -- The walk along a partition's entries and its parent's grants decides S7's cover and S11: where they hold it is nowhere stuck, where it ends they hold.
 use mathlib.Core.Path.{_≡_, refl, ap, sym, subst, _∙_}
-use mathlib.Core.Bool.{Bool, true, false, cond, _&&_, Bool·beq, false≢true}
+use mathlib.Core.Bool.{Bool, true, false, cond, not, _&&_, _||_, Bool·beq, false≢true}
 use mathlib.Core.List.{List}
 use mathlib.Core.Logic.{_↔_}
 use Prim.Native.Nat.{ℕ, _+_, _-_, _≤_, _<_}
@@ -8,6 +8,7 @@ use native.Mathlib.Decide.{ℕ-discrete, decLt}
 use native.Mathlib.Omega.{arith}
 use lib.ListN.{getD}
 use lib.Dec.{eqb}
+use lib.Bits.{bitAnd}
 use borrow.Author.Tests.{eq-eqb, ne-eqb}
 use Rattle.loops.specs.Loops.{all}
 use Rattle.loops.specs.Laws.Every.{bool-ext}
@@ -25,7 +26,7 @@ use Rattle.sound.specs.Sound.{Around}
 use Rattle.sound.specs.Clauses.{s7Root, s7Inside, s7Cover, within, s11}
 use Rattle.sound.specs.Laws.Tests.{and-says, and-true, never}
 use Rattle.sound.specs.Laws.MeansEntries.{present-means, slots32, root-means, inside-means, cover-means}
-use Rattle.sound.specs.Laws.MeansRegions.{within-means, same-rights-means, s11-means}
+use Rattle.sound.specs.Laws.MeansRegions.{beq-means, within-means, same-rights-means, s11-means}
 use Rattle.sound.specs.Laws.MeansWords.{s2-means}
 use Rattle.decide.specs.Entries.{exactly}
 use Rattle.decide.specs.Local.{grantsOpen}
@@ -35,7 +36,8 @@ use Rattle.shape.specs.Laws.AtOnce.{shaped-s2, shaped-record}
 use Rattle.ordering.specs.Laws.Present.{solid}
 use Rattle.ordering.specs.Order.{linesOf, placed, Orders}
 use Rattle.ordering.specs.Laws.Order.{held-of, lines-of}
-use Rattle.decide.specs.Tiles.{TilePiece, Tiling, GoesOn, follows, Tiled, fitted, stuck, AllSet, TiledAs, alike, unlike, entryOr, rowOf, openedBit, plainRow, InOrder, ChildOf}
+use Rattle.decide.specs.Tiles.{TilePiece, Tiling, GoesOn, rightsNumber, follows, Tiled, fitted, stuck, AllSet, TiledAs, alike, unlike, entryOr, entryAt, rowOf, openedBit, Filled, TiledSlot, plainRow, InOrder, ChildOf}
+use Rattle.decide.specs.Walk.{Exact, Bits, Walked}
 
 -- ── two rows: n entries E, and m entries F, some of them given to p ──
 -- each of E has a line; in both, each ends by the start of those after it
@@ -48,17 +50,6 @@ pub record TwoRows (E : ℕ → Entry) (n : ℕ) (F : ℕ → Entry) (m : ℕ) :
 pub record Lies (E : ℕ → Entry) (n : ℕ) (F : ℕ → Entry) (m p : ℕ) : Type 0 where
   pub inside : (a : ℕ) → a < n → (b : ℕ) × (b < m) × (F b .given ≡ p) × Around (E a) (F b)
   pub cover : (b : ℕ) → b < m → F b .given ≡ p → (l : ℕ) → In l (F b) → (a : ℕ) × (a < n) × In l (E a)
-
--- .. with no right that it lacks, and with the rights of all that lie inside it
-pub record Exact (E : ℕ → Entry) (n : ℕ) (F : ℕ → Entry) (m p : ℕ) : Type 0 where
-  pub inside : (a : ℕ) → a < n → (b : ℕ) × (b < m) × (F b .given ≡ p) × Around (E a) (F b)
-  pub cover : (b : ℕ) → b < m → F b .given ≡ p → (l : ℕ) → In l (F b) → (a : ℕ) × (a < n) × In l (E a)
-  pub rights : (a b : ℕ) → a < n → b < m → F b .given ≡ p → Around (E a) (F b) → within (E a .rights) (F b .rights) ≡ true
-  pub equal : (a c b : ℕ) → a < n → c < n → b < m → F b .given ≡ p → Around (E a) (F b) → Around (E c) (F b) → E a .rights ≡ E c .rights
-
--- and each of F that is given to p is open (P) exactly if all of E inside it are (O)
-pub record Bits (E : ℕ → Entry) (O : ℕ → Bool) (n : ℕ) (F : ℕ → Entry) (P : ℕ → Bool) (m p : ℕ) : Type 0 where
-  pub says : (b : ℕ) → b < m → F b .given ≡ p → (P b ≡ true) ↔ ((a : ℕ) → a < n → Around (E a) (F b) → O a ≡ true)
 
 -- ── one range lo to hi with rights r ──
 -- two results are equal, in a row where each has a line and ends by the start of those after it
@@ -127,9 +118,34 @@ compare-start = record { before = λ _. refl; after = λ h. absurd (omega arith)
 pub not-first : {E : ℕ → Entry} {i k lo hi at : ℕ} {r : Rights} → Tiling E i k lo hi at r → false ≡ eqb (k + 1) i
 not-first {i = i} {k} t = sym (ne-eqb (k + 1) i (λ z. omega (arith, t .up)))
 
-pub both-true : (b : Bool) → b ≡ Bool·beq true b
-both-true true = refl
-both-true false = refl
+-- ── rights as numbers: a bit of a that b lacks is not in both ──
+either : (Bool → Bool) → Bool
+either f = f true && f false
+
+either-says : (f : Bool → Bool) → either f ≡ true → (x : Bool) → f x ≡ true
+unfolding either
+either-says f q true = and-says (f true) (f false) q .0
+either-says f q false = and-says (f true) (f false) q .1
+
+numbered : Bool → Bool → Bool → ℕ
+numbered r w x = cond r 4 0 + cond w 2 0 + cond x 1 0
+
+agrees : Bool → Bool → Bool → Bool → Bool → Bool → Bool
+agrees r w x s v y = Bool·beq (eqb (bitAnd (numbered r w x) (numbered s v y)) (numbered r w x)) ((not r || s) && (not w || v) && (not x || y))
+
+agree : (r w x s v y : Bool) → agrees r w x s v y ≡ true
+unfolding either agrees numbered
+agree r w x s v y =
+    let a = either-says (λ r. either (λ w. either (λ x. either (λ s. either (λ v. either (λ y. agrees r w x s v y)))))) refl r in
+    let b = either-says (λ w. either (λ x. either (λ s. either (λ v. either (λ y. agrees r w x s v y))))) a w in
+    let c = either-says (λ x. either (λ s. either (λ v. either (λ y. agrees r w x s v y)))) b x in
+    let d = either-says (λ s. either (λ v. either (λ y. agrees r w x s v y))) c s in
+    let e = either-says (λ v. either (λ y. agrees r w x s v y)) d v in
+    either-says (λ y. agrees r w x s v y) e y
+
+pub number-within : (a b : Rights) → eqb (bitAnd (rightsNumber a) (rightsNumber b)) (rightsNumber a) ≡ within a b
+unfolding rightsNumber within agrees numbered
+number-within a b = beq-means _ _ .0 (agree (a .read) (a .write) (a .execute) (b .read) (b .write) (b .execute))
 
 module _ (k i : ℕ) (a b : Rights) where
   first-follows : within a b ≡ true → k ≡ i → follows (eqb k i) a b ≡ true
@@ -389,30 +405,44 @@ module _ {E F : ℕ → Entry} {O P : ℕ → Bool} {p : ℕ} where
         )
 
 -- ── the entries of a partition by place ──
--- the first i entries of p lie inside those of the first j of q that are given to p, and cover them
-pub record Walked (l o : List ℕ) (p q n m i j : ℕ) : Type 0 where
-  pub few : i ≤ n
-  pub far : j ≤ m
-  pub exact : Exact (rowOf l o p) i (rowOf l o q) j p
-  pub bits : Bits (rowOf l o p) (openedBit l o p) i (rowOf l o q) (openedBit l o q) j p
+-- an entry and what was read of it; it is there
+seen-at : {l : List ℕ} {p j : ℕ} {e : Entry} {f : SlotFields} → view l .k .slot p j ≡ some e → Seen l p j f → Same e (entryOf f)
+unfolding entryIn
+seen-at {e = e} {f} u v = go (f .present) (sym u ∙ v .slot)
+  where
+    go : (x : Bool) → some e ≡ cond x (some (entryOf f)) none → Same e (entryOf f)
+    go true u = same (some-inj u)
+    go false u = not-none none refl (sym u)
+
+pub seen-present : {l : List ℕ} {p j : ℕ} {e : Entry} {f : SlotFields} → view l .k .slot p j ≡ some e → Seen l p j f → f .present ≡ true
+unfolding entryIn
+seen-present {e = e} {f} u v = go (f .present) (sym u ∙ v .slot)
+  where
+    go : (x : Bool) → some e ≡ cond x (some (entryOf f)) none → x ≡ true
+    go true u = refl
+    go false u = not-none none refl (sym u)
+
+-- the entry in a slot, for what was read of it
+pub slot-tiled : {l : List ℕ} {E : ℕ → Entry} {O : ℕ → Bool} {n i q j x : ℕ} {f : SlotFields} → Filled l q j → Seen l q j f
+    → TiledAs E O n i (f .start .0) (f .end .0) (f .rights) (f .opened) x → TiledAs E O n i (entryAt l q j .start) (entryAt l q j .stop) (entryAt l q j .rights) (view l .opened q j) x
+unfolding entryOr
+slot-tiled (e, u) v t = let h = seen-at u v in rw (u, h .start, h .stop, h .rights, v .opened) t
 
 module _ {l o : List ℕ} {p n : ℕ} (h : InOrder l o p n) where
   -- what stands at place a
-  row-at : (a : ℕ) → a < n → view l .k .slot p (placed o p a) ≡ some (rowOf l o p a)
+  pub row-at : (a : ℕ) → a < n → view l .k .slot p (placed o p a) ≡ some (rowOf l o p a)
   unfolding entryOr
   row-at a b =
       let (x, u) = h .rows .ordered .full a b in
       let (e, v, _, _) = held-of (view l .k) p (placed o p a) x u in
       rw v refl
 
+  pub row-filled : {a i : ℕ} → a < n → i ≡ placed o p a → Filled l p i
+  row-filled {a} b at = (rowOf l o p a, rw at (row-at a b))
+
   -- .. and what was read there
   pub row-seen : {a : ℕ} {f : SlotFields} → a < n → Seen l p (placed o p a) f → Same (rowOf l o p a) (entryOf f)
-  unfolding entryIn
-  row-seen {a} {f} b v = go (f .present) (sym (row-at a b) ∙ v .slot)
-    where
-      go : (x : Bool) → some (rowOf l o p a) ≡ cond x (some (entryOf f)) none → Same (rowOf l o p a) (entryOf f)
-      go true u = same (some-inj u)
-      go false u = not-none none refl (sym u)
+  row-seen b v = seen-at (row-at _ b) v
 
   -- each entry of p stands somewhere
   row-every : (j : ℕ) (e : Entry) → view l .k .slot p j ≡ some e → (a : ℕ) × (a < n) × (rowOf l o p a ≡ e)
@@ -422,7 +452,7 @@ module _ {l o : List ℕ} {p n : ℕ} (h : InOrder l o p n) where
       (a, b, ap (λ (j : ℕ). entryOr (view l .k .slot p j)) z ∙ ap entryOr u)
 
   -- .. at a slot
-  row-every-at : (j : ℕ) (e : Entry) → view l .k .slot p j ≡ some e → (a : ℕ) × (a < n) × ((rowOf l o p a ≡ e) × (placed o p a ≡ j))
+  pub row-every-at : (j : ℕ) (e : Entry) → view l .k .slot p j ≡ some e → (a : ℕ) × (a < n) × ((rowOf l o p a ≡ e) × (placed o p a ≡ j))
   unfolding entryOr
   row-every-at j e u =
       let (a, b, z) = h .rows .ordered .every j _ (slot-bounds l p j e u .1) (lines-of (view l .k) p j e u) in
@@ -623,10 +653,7 @@ module _ {l o : List ℕ} {p q n m : ℕ} (h : ChildOf l o p q n m) where
         bits = bits-skip (inv .bits) (λ g. no-grant (sym (read .given) ∙ g));
       }
 
-      module _ {x : ℕ} (given : f .given .0 ≡ p) (t : TiledAs (rowOf l o p) (openedBit l o p) n i (f .start .0) (f .end .0) (f .rights) (f .opened) x) where
-        tiled : TiledAs (rowOf l o p) (openedBit l o p) n i (rowOf l o q j .start) (rowOf l o q j .stop) (rowOf l o q j .rights) (openedBit l o q j) x
-        tiled = rw (read .start, read .stop, read .rights, v .opened) t
-
+      module _ {x : ℕ} (given : f .given .0 ≡ p) (tiled : TiledSlot l o p n i q (placed o q j) x) where
         pub walk-on : x ≤ n → Walked l o p q n m x (j + 1)
         walk-on few = go tiled
           where

@@ -212,7 +212,7 @@ module _ {k : K} where
       there p j a u n = let (b, c) = range p j a u in record { few = c; below = omega arith; area = u; other = n }
 
 -- no slot is marked
-zeros : (n x : ℕ) → _≡_ {A = ℕ} (getD (replicate n 0) x 0) 0
+pub zeros : (n x : ℕ) → _≡_ {A = ℕ} (getD (replicate n 0) x 0) 0
 zeros zero x = refl
 zeros (suc n) zero = refl
 zeros (suc n) (suc x) = zeros n x

@@ -16,8 +16,7 @@ use Rattle.loops.specs.Laws.Carry.{done-keeps}
 use Rattle.loops.specs.Laws.Rewrite.{length-tab, tab-at, tab-is, fill-start, fill-put, fill-tab}
 use Rattle.tables.specs.State.{Table}
 use Rattle.memory.specs.Bytes.{wordFrom, wordAt, byteOf, putWord}
-use Rattle.memory.specs.Laws.ByteTrips.{byte-place}
-use Rattle.memory.specs.Laws.ByteTrips.{bytes-there}
+use Rattle.memory.specs.Laws.ByteTrips.{byte-place, bytes-there}
 use Rattle.sound.specs.Laws.Tests.{and-says, and-true}
 use Rattle.sheet.specs.Sheet.{masksWord, linesWord, sheetWord, sheetOf, matches}
 use Rattle.sheet.specs.Bytes.{handedSheet, sheetBytes, pairMatches, pairPut}

@@ -15,7 +15,8 @@ use Rattle.decide.specs.Entries.{exactly}
 use Rattle.sound.specs.Laws.Tests.{never}
 use Rattle.ordering.specs.Order.{placed}
 use Rattle.decide.specs.Tiles.{Tiled, rowOf, plainRow, ChildOf}
-use Rattle.decide.specs.Laws.Tiles.{TwoRows, Exact, exact-start, exact-skip, exact-short, exact-on, exact-stuck, row-seen, row-line, row-ends, child-lies, lies-child}
+use Rattle.decide.specs.Walk.{Exact}
+use Rattle.decide.specs.Laws.Tiles.{TwoRows, exact-start, exact-skip, exact-short, exact-on, exact-stuck, row-seen, row-line, row-ends, child-lies, lies-child}
 use Rattle.decide.specs.Laws.Lines.{exact-lies, lies-exact}
 
 -- ── a child's entries and its parent's ──

@@ -14,8 +14,7 @@ use Rattle.words.specs.declared.regions_word.Region.{Region}
 use Rattle.words.specs.declared.regions_word.RegionsFields.{RegionsFields}
 use Rattle.words.specs.declared.slot_word.SlotFields.{SlotFields}
 use Rattle.tables.specs.State.{none, some, Entry, K, Table}
-use Rattle.tables.specs.View.{entryIn, nthRegion, view}
-use Rattle.tables.specs.View.{named as slotNamed}
+use Rattle.tables.specs.View.{entryIn, nthRegion, view, named as slotNamed}
 use Rattle.tables.specs.Seen.{SeenRegions}
 use Rattle.tables.specs.Search.{lookFor}
 use Rattle.sound.specs.Clauses.{has}

@@ -1,6 +1,5 @@
 -- src/tiles.rt, covers: r ≡ exactly (view t .k) (p .0) && s11 (view t .k) (p .0) && grantsOpen (view t) (p .0)
 use Rattle.decide.specs.Laws.Tiles.{in-order, child-of}
-use Rattle.decide.specs.Laws.Lines.{root-lacks, root-end}
 use borrow.Author.Needs.{needs}
 use Rattle.decide.proofs.tiles.covers.Statement.{statement}
 use Rattle.decide.proofs.tiles.covers.Tie as tie
@@ -12,10 +11,8 @@ covers-spec =
     (λ c. search needs)
     (λ c. search needs)
     (λ c. search needs)
-    (λ c κs. let h = c .before .before .before .before .pre in (h .0, h .2))
-    (λ c. root-lacks _ (c .before .before .if1 .taken) (c .before .full-each .ensures) (c .if2 .taken))
-    (λ c κs. let h = c .before .before .before .before .before .before .pre in (in-order (h .2) (h .3) (h .0) (h .1), c .before .before .if1 .taken))
-    (λ c. root-end _ (c .before .before .before .if1 .taken) (c .before .before .full-each .ensures) (c .before .if2 .left) (c .tiles-whole .ensures))
+    (λ c κs. let h = c .before .before .before .before .pre in (in-order (h .2) (h .3) (h .0) (h .1), c .if1 .taken, h .2))
+    (λ c. c .covers-whole .ensures)
     (λ c κs. search needs)
     (λ c. search needs)
     (λ c. search needs)

@@ -10,6 +10,6 @@ follows-spec =
     tie.close
     (tie.spec
     (λ c κs. search needs)
-    (λ c. rw (c .before .if1 .taken) (c .rights-within .ensures))
+    (λ c. rw (c .before .if1 .taken) (c .none-beyond .ensures))
     (λ c κs. search needs)
     (λ c. rw (c .before .if1 .left) (c .same-rights .ensures)))
