@@ -23,9 +23,13 @@ unfoldable pub sheetBytesAfter : List ℕ → Result → List ℕ
 sheetBytesAfter b (done v w t) = sheetBytes (sheetOf t)
 sheetBytesAfter b (refused n) = b
 
--- the words of p are those of the sheet
-unfoldable pub pairMatches : List ℕ → Table → ℕ → Bool
-pairMatches b t p = eqb (wordAt b (2 * p)) (masksWord t p) && eqb (wordAt b (2 * p + 1)) (linesWord t p)
+-- x and y are the words of p in the bytes b
+unfoldable pub pairIs : List ℕ → ℕ → ℕ → ℕ → Bool
+pairIs b p x y = eqb (wordAt b (2 * p)) x && eqb (wordAt b (2 * p + 1)) y
+
+-- .. those of the table are
+abbrev pub pairMatches : List ℕ → Table → ℕ → Bool
+pairMatches b t p = pairIs b p (masksWord t p) (linesWord t p)
 
 -- the bytes b with two words put from byte 16 p on
 abbrev pub pairPut : List ℕ → ℕ → ℕ → ℕ → List ℕ

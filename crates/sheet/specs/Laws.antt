@@ -7,4 +7,6 @@ pub mod Words
 pub mod Bytes
 pub mod Reading
 pub mod Kept
+pub mod Those
+pub mod Outside
 pub mod Touched

@@ -1,5 +1,5 @@
 ghost use mathlib.Core.Path.{_≡_};
-ghost use mathlib.Core.Bool.{cond};
+ghost use mathlib.Core.Bool.{true, cond};
 ghost use Prim.Native.Nat.{_-_, _+_, _*_, _≤_, _<_};
 ghost use Rattle.tables.specs.View.{view, entryIn};
 ghost use Rattle.sound.specs.Whole.{Right};
@@ -17,21 +17,17 @@ pub struct Sums {
     pub opened: u32,
 }
 
-// the lines of an entry
+// the lines of an entry, which ends behind its start
 fn lines(f: SlotFields) -> u32
+    requires { ⌜ (f .present ≡ true) × (f .start .0 < f .end .0) ⌝ }
     ensures { λ r. ⌜ r ≡ numberOfLines (entryIn f) ⌝ }
 {
-    if !f.present {
-        return 0;
-    }
-    if f.start.0 >= f.end.0 {
-        return 0;
-    }
     f.end.0 - f.start.0
 }
 
 // .. of an open one
 fn open_lines(f: SlotFields) -> u32
+    requires { ⌜ (f .present ≡ true) × (f .start .0 < f .end .0) ⌝ }
     ensures { λ r. ⌜ r ≡ cond (f .opened) (numberOfLines (entryIn f)) 0 ⌝ }
 {
     if !f.opened {
@@ -42,7 +38,7 @@ fn open_lines(f: SlotFields) -> u32
 
 // Slots from i on are in; slot i - 1 joins them. Most slots have no entry, which one test tells.
 fn add_slot(t: &[u64; 641], p: Partition, i: u32, x: Sums) -> Sums
-    requires { ⌜ (p .0 < 16) × (0 < i) × Adding (view (now t)) (p .0) i x ⌝ }
+    requires { ⌜ (p .0 < 16) × (0 < i) × Adding (view (now t)) (p .0) i x × Right (view (now t)) ⌝ }
     ensures { λ r. ⌜ Adding (view (now (t .entry))) (p .0) (i - 1) r ⌝ }
 {
     let f = read::entry(t, p, Slot(i - 1));

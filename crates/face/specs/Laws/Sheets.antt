@@ -34,7 +34,7 @@ use Rattle.sheet.specs.Touched.{touched, Named, sheetKept}
 use Rattle.sheet.specs.declared.Whose.{Whose}
 use Rattle.sheet.specs.Bytes.{handedSheet, sheetBytes, sheetBytesAfter}
 use Rattle.sheet.specs.Laws.Rules.{call-1, call-20, call-else, boot-1, boot-20, boot-else}
-use Rattle.sheet.specs.Laws.Touched.{call-touched}
+use Rattle.sheet.specs.Laws.Touched.{call-put}
 use Rattle.sheet.specs.Laws.Bytes.{matches-means, sheet-bytes, short-handed, handed-length, matches-length}
 use Rattle.face.specs.Face.{handed, resultPacked, resultOf, secondAfter, bytesAfter, Lent, CallLent}
 use Rattle.face.specs.Laws.Face.{lent-one, handed-is, handed-unsound, handed-none, boot-lent, call-lent, call-stands, call-kept}
@@ -202,7 +202,7 @@ module _ (board : Board) (b s : List ℕ) (w : ℕ) where
 
               kept : sheetKept (touched (view a .k) w) (view m) (sheetBytes (sheetOf (view a))) ≡ sheetBytes (sheetOf (view m))
               kept = done-has (λ t. sheetKept (touched (view a .k) w) t (sheetBytes (sheetOf (view a))) ≡ sheetBytes (sheetOf t)) (h .ran) q (λ v y t e.
-                  (call-right board a w (loaded-words board b load small) e, call-touched board a w (loaded-words board b load small) (subst Named r named) e))
+                  (call-right board a w (loaded-words board b load small) e, call-put board a w (loaded-words board b load small) (subst Named r named) e))
 
               go : (k : Bool) → x .stands ≡ k → cond k s (sheetKept whose (view m) s) ≡ sheetBytes (sheetOf (view m))
               go true k = was ∙ ap (λ (l : List ℕ). sheetBytes (sheetOf (view l))) (sym (answers-stand (loaded-words board b load small) h k))

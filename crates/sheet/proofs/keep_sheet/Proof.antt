@@ -1,5 +1,5 @@
 -- src/lib.rt, keep_sheet: now (sheet .exit) ≡ sheetKept x (view t) sheet
-use Rattle.sheet.specs.Laws.Touched.{kept-nobody, kept-one, kept-all}
+use Rattle.sheet.specs.Laws.Touched.{kept-nobody, kept-one, kept-up, kept-gone}
 use borrow.Author.Needs.{needs}
 use Rattle.sheet.proofs.keep_sheet.Statement.{statement}
 use Rattle.sheet.proofs.keep_sheet.Tie as tie
@@ -10,11 +10,15 @@ keep-sheet-spec =
     (tie.spec
     (λ c. search needs)
     (λ c. search needs)
-    (λ c κs. (c .before .before .before .before .before .pre .2 .one _ (c .before .before .x .given .1), c .before .before .before .before .before .pre .0, c .before .before .before .before .before .pre .1))
+    (λ c κs. let asked = c .before .before .before .before .before .pre in (asked .2 .one _ (c .before .before .x .given .1), asked .0, asked .1))
     (λ c. search needs)
-    (λ c κs. (c .before .before .before .before .pre .0, c .before .before .before .before .pre .1))
+    (λ c κs. let asked = c .before .before .before .before .before .pre in (asked .2 .up _ (c .before .before .x2 .given .1), asked .0, asked .1))
+    (λ c. search needs)
+    (λ c κs. let asked = c .before .before .before .before .pre in (asked .0, asked .1))
     (λ c. kept-nobody _ _ (c .enum-told .given .1))
     (λ c. search needs)
     (λ c. kept-one _ _ (c .before .before .before .before .before .x .given .1) (c .before .before .put-again .ensures))
     (λ c. search needs)
-    (λ c. kept-all _ _ (c .before .before .before .before .enum-told2 .given .1) (c .before .before .write-sheet .ensures)))
+    (λ c. kept-up _ _ (c .before .before .before .before .before .x2 .given .1) (c .before .before .put-up .ensures))
+    (λ c. search needs)
+    (λ c. kept-gone _ _ (c .before .before .before .before .enum-told2 .given .1) (c .before .before .put-gone .ensures)))

@@ -19,7 +19,7 @@ use Rattle.memory.specs.Bytes.{wordFrom, wordAt, byteOf, putWord}
 use Rattle.memory.specs.Laws.ByteTrips.{byte-place, bytes-there}
 use Rattle.sound.specs.Laws.Tests.{and-says, and-true}
 use Rattle.sheet.specs.Sheet.{masksWord, linesWord, sheetWord, sheetOf, matches}
-use Rattle.sheet.specs.Bytes.{handedSheet, sheetBytes, pairMatches, pairPut}
+use Rattle.sheet.specs.Bytes.{handedSheet, sheetBytes, pairIs, pairMatches, pairPut}
 
 -- ── the two words of a partition ──
 module _ (t : Table) (p : ℕ) where
@@ -93,7 +93,7 @@ module _ (b : List ℕ) (t : Table) (size : length b ≡ 256) where
   odd-same p h {n} z = rw (tab-at 32 (wordAt b) n (omega arith), word-odd t p z, z) refl
 
   pub sheet-pairs : all 16 (pairMatches b t) ≡ matches (handedSheet b) t
-  unfolding handedSheet matches pairMatches
+  unfolding handedSheet matches pairIs
   sheet-pairs = rw (eq-eqb (length b) 256 size, length-tab 32 (wordAt b)) (bool-ext _ _ to back)
     where
       to : all 16 (pairMatches b t) ≡ true → all 32 same ≡ true
@@ -108,30 +108,36 @@ module _ (b : List ℕ) (t : Table) (size : length b ≡ 256) where
           and-true _ _ (sym (even-same p h refl) ∙ all-at 32 same q (2 * p) (omega arith)) (sym (odd-same p h refl) ∙ all-at 32 same q (2 * p + 1) (omega arith)))
 
 -- the exits: the first word differs; it does not
-module _ (b : List ℕ) (t : Table) (p : ℕ) {i x m : ℕ} (e : i ≡ 16 * p) (q : x ≡ wordFrom b i) (r : m ≡ masksWord t p) where
-  first-word : x ≡ wordAt b (2 * p)
-  unfolding wordAt
-  first-word = let z : i ≡ 8 * (2 * p) = omega arith in q ∙ ap (wordFrom b) z
+first-word : (b : List ℕ) (p : ℕ) {i x : ℕ} → i ≡ 16 * p → x ≡ wordFrom b i → x ≡ wordAt b (2 * p)
+unfolding wordAt
+first-word b p {i} e q = let z : i ≡ 8 * (2 * p) = omega arith in q ∙ ap (wordFrom b) z
 
-  pub pair-differs : (x ≡ m → ⊥) → false ≡ pairMatches b t p
-  unfolding pairMatches
-  pair-differs n = rw (ne-eqb (wordAt b (2 * p)) (masksWord t p) (λ z. n (first-word ∙ z ∙ sym r))) refl
+module _ (b : List ℕ) (p m l : ℕ) {i x : ℕ} (e : i ≡ 16 * p) (q : x ≡ wordFrom b i) where
+  pub pair-differs : (x ≡ m → ⊥) → false ≡ pairIs b p m l
+  unfolding pairIs
+  pair-differs n = rw (ne-eqb (wordAt b (2 * p)) m (λ z. n (first-word b p e q ∙ z))) refl
 
-  pub pair-second : {j y l : ℕ} → j ≡ 16 * p + 8 → x ≡ m → y ≡ wordFrom b j → l ≡ linesWord t p → eqb y l ≡ pairMatches b t p
-  unfolding pairMatches wordAt
-  pair-second {j} {y} {l} d n k h =
+  pub pair-second : {j y : ℕ} → j ≡ 16 * p + 8 → x ≡ m → y ≡ wordFrom b j → eqb y l ≡ pairIs b p m l
+  unfolding pairIs wordAt
+  pair-second {j} {y} d n k =
       let z : j ≡ 8 * (2 * p + 1) = omega arith in
-      rw (eq-eqb (wordAt b (2 * p)) (masksWord t p) (sym first-word ∙ n ∙ r), k ∙ ap (wordFrom b) z, h) refl
+      rw (eq-eqb (wordAt b (2 * p)) m (sym (first-word b p e q) ∙ n), k ∙ ap (wordFrom b) z) refl
+
+-- two words are those of p in the bytes where its own are
+pub pair-same : (b : List ℕ) (t : Table) (p : ℕ) {r : Bool} {x y : ℕ} → r ≡ pairIs b p x y → x ≡ masksWord t p → y ≡ linesWord t p → r ≡ pairMatches b t p
+pair-same b t p q e d = q ∙ rw (e, d) refl
 
 -- ── written pair by pair ──
 pub put-length : (b : List ℕ) (i w : ℕ) → length (putWord b i w) ≡ length b
 put-length b i w = done-keeps _ b (λ j s. length s ≡ length b) 8 refl (λ j s h q. length-set s (i + j) _ ∙ q)
 
-fill-word : (sheet : List ℕ) {b s u : List ℕ} (n : ℕ) {i : ℕ} → Filling (λ k x. byteOf sheet k) b 256 i s → n < 32 → i ≡ 8 * n → u ≡ putWord s i (getD sheet n 0) → Filling (λ k x. byteOf sheet k) b 256 (i + 8) u
-fill-word sheet {b} {s} n {i} inv h e z =
+-- a word of the sheet is put, where g says the sheet's bytes
+fill-word : (sheet : List ℕ) (g : ℕ → ℕ → ℕ) {b s u : List ℕ} (n : ℕ) {i : ℕ} → Filling g b 256 i s → n < 32 → i ≡ 8 * n → ((j x : ℕ) → j < 8 → g (i + j) x ≡ byteOf sheet (i + j)) → u ≡ putWord s i (getD sheet n 0)
+    → Filling g b 256 (i + 8) u
+fill-word sheet g {b} {s} n {i} inv h e at z =
     rw z
-    (done-keeps _ s (λ j u. Filling (λ k x. byteOf sheet k) b 256 (i + j) u) 8 (rw add-zero inv)
-    (λ j u c f. rw (← add-assoc) (fill-put f (omega arith) (sym (ap (λ (n : ℕ). byteOf sheet (n + j)) e ∙ byte-place sheet n j c)))))
+    (done-keeps _ s (λ j u. Filling g b 256 (i + j) u) 8 (rw add-zero inv)
+    (λ j u c f. rw (← add-assoc) (fill-put f (omega arith) (sym (ap (λ (n : ℕ). byteOf sheet (n + j)) e ∙ byte-place sheet n j c) ∙ sym (at j _ c)))))
 
 -- the two words of p are put
 pub pair-put : (p : ℕ) (b : List ℕ) {m n x y i j : ℕ} {s u : List ℕ} → m ≡ x → n ≡ y → i ≡ 16 * p → j ≡ 16 * p + 8 → s ≡ putWord b i m → u ≡ putWord s j n → u ≡ pairPut b p x y
@@ -141,15 +147,20 @@ pair-put p b q r d e z w = w ∙ rw (z, r, q, d, e) refl
 pub pair-sheet : (t : Table) (p : ℕ) → p < 16 → (b : List ℕ) {x y : ℕ} {u : List ℕ} → x ≡ masksWord t p → y ≡ linesWord t p → u ≡ pairPut b p x y → u ≡ pairPut b p (getD (sheetOf t) (2 * p) 0) (getD (sheetOf t) (2 * p + 1) 0)
 pair-sheet t p h b q r z = z ∙ rw (q, r, ← sheet-even t p h, ← sheet-odd t p h) refl
 
+-- the pair of p is put, where g says the sheet's bytes
+pub pair-on : (sheet : List ℕ) (g : ℕ → ℕ → ℕ) {b : List ℕ} (p : ℕ) {s u : List ℕ} → Filling g b 256 (16 * p) s → p < 16 → ((k x : ℕ) → k / 16 ≡ p → g k x ≡ byteOf sheet k)
+    → u ≡ pairPut s p (getD sheet (2 * p) 0) (getD sheet (2 * p + 1) 0) → Filling g b 256 (16 * (p + 1)) u
+pair-on sheet g {b} p {s} {u} inv h at put =
+    subst (λ (n : ℕ). Filling g b 256 n u) (omega arith)
+    (fill-word sheet g (2 * p + 1) {i = 16 * p + 8} (fill-word sheet g (2 * p) {i = 16 * p} inv (omega arith) (omega arith) (λ j x c. at (16 * p + j) x (omega arith)) refl) (omega arith) (omega arith) (λ j x c. at (16 * p + 8 + j) x (omega arith)) put)
+
 module _ (sheet : List ℕ) {b : List ℕ} where
   pub sheet-start : length b ≡ 256 → Filling (λ k x. byteOf sheet k) b 256 (16 * 0) b
   sheet-start h = fill-start h
 
   pub sheet-on : (p : ℕ) {s u : List ℕ} → Filling (λ k x. byteOf sheet k) b 256 (16 * p) s → p < 16 → u ≡ pairPut s p (getD sheet (2 * p) 0) (getD sheet (2 * p + 1) 0)
       → Filling (λ k x. byteOf sheet k) b 256 (16 * (p + 1)) u
-  sheet-on p {s} {u} inv h put =
-      subst (λ (n : ℕ). Filling (λ k x. byteOf sheet k) b 256 n u) (omega arith)
-      (fill-word sheet (2 * p + 1) {i = 16 * p + 8} (fill-word sheet (2 * p) {i = 16 * p} inv (omega arith) (omega arith) refl) (omega arith) (omega arith) put)
+  sheet-on p inv h put = pair-on sheet (λ k x. byteOf sheet k) p inv h (λ k x e. refl) put
 
   pub sheet-end : {s : List ℕ} {i : ℕ} → Filling (λ k x. byteOf sheet k) b 256 i s → 256 ≤ i → s ≡ sheetBytes sheet
   unfolding sheetBytes

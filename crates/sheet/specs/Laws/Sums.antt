@@ -100,6 +100,11 @@ with-nothing {a = a} {b} {c} z =
     let f : c + 0 ≡ c = omega arith in
     rw (d, e, f) at z
 
+-- an entry ends behind its start
+pub entry-range : {l : List ℕ} {p i : ℕ} {f : SlotFields} → Right (view l) → Seen l p i f → f .present ≡ true → (f .present ≡ true) × (f .start .0 < f .end .0)
+unfolding entryIn
+entry-range {p = p} {i} {f} h seen q = (q, h .core .s5-range p i (entryOf f) (seen .slot ∙ rw q refl))
+
 -- slot i - 1 joins
 module _ {l : List ℕ} {p i : ℕ} {x : Sums} {f : SlotFields} (seen : Seen l p (i - 1) f) (inv : Adding (view l) p i x) (h : 0 < i) where
   add-slot : {a b c : ℕ} → a ≡ bitOf (isSome (entryIn f)) → b ≡ numberOfLines (entryIn f) → c ≡ cond (f .opened) (numberOfLines (entryIn f)) 0

@@ -30,7 +30,7 @@ add-structure-spec =
     (λ c. search needs)
     (λ c. (omega arith, c .before .before .before .pre .3))
     (λ c. search needs)
-    (λ c κs. (c .before .before .before .before .before .pre .0, omega arith, c .before .loop .inv .1))
+    (λ c κs. let asked = c .before .before .before .before .before .pre in (asked .0, omega arith, c .before .loop .inv .1, asked .2))
     (λ c. search needs)
     (λ c. search needs)
     (λ c. (omega arith, c .add-slot .ensures))

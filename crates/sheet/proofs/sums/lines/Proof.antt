@@ -1,6 +1,5 @@
 -- src/sums.rt, lines: r ≡ numberOfLines (entryIn f)
 use mathlib.Core.Path.{refl}
-use borrow.Author.Tests.{not-true, not-false}
 use Rattle.tables.specs.View.{entryIn}
 use Rattle.sheet.specs.Sheet.{numberOfLines}
 use native.Mathlib.Omega.{arith}
@@ -13,7 +12,5 @@ unfolding numberOfLines entryIn
 lines-spec =
     tie.close
     (tie.spec
-    (λ c. rw (not-true (c .before .before .args .f .present) (c .if1 .taken)) refl)
-    (λ c. rw (not-false (c .before .before .before .before .args .f .present) (c .before .before .if1 .left)) (omega arith))
     (λ c. search needs)
-    (λ c. rw (not-false (c .before .before .before .before .before .args .f .present) (c .before .before .before .if1 .left)) refl))
+    (λ c. rw (c .before .pre .0) refl))

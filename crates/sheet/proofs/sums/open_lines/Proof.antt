@@ -11,5 +11,5 @@ open-lines-spec =
     tie.close
     (tie.spec
     (λ c. rw (not-true (c .before .before .args .f .opened) (c .if1 .taken)) refl)
-    (λ c κs. search needs)
+    (λ c κs. c .before .before .pre)
     (λ c. c .lines .ensures ∙ open-is _ _ (not-false (c .before .before .before .args .f .opened) (c .before .if1 .left))))
