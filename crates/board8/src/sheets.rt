@@ -1,5 +1,5 @@
 ghost use Rattle.shapes.specs.declared.Board.the-variants.{V8};
-ghost use Rattle.face.specs.Sheets.{BootSheetLent, CallSheetLent};
+ghost use Rattle.facesheet.specs.Sheets.{BootSheetLent, CallSheetLent};
 use shapes::Board;
 
 // Boot and call with a sheet beside the table: `uint8_t *sheet, uint64_t sheet_len`.
@@ -13,7 +13,7 @@ pub extern "C" fn ulavrepit_boot_sheet(
 ) -> u64
     ensures { λ r. ⌜ BootSheetLent (now (table .entry)) (now (sheet .entry)) base end r (now (table .exit)) (now (sheet .exit)) ⌝ }
 {
-    face::sheets::boot_sheet_bytes(table, sheet, base, end)
+    facesheet::boot_sheet_bytes(table, sheet, base, end)
 }
 
 #[no_mangle]
@@ -25,5 +25,5 @@ pub extern "C" fn ulavrepit_call_sheet(
 ) -> u64
     ensures { λ r. ⌜ CallSheetLent V8 (now (table .entry)) (now (sheet .entry)) word (now (second .entry)) r (now (table .exit)) (now (sheet .exit)) (now (second .exit)) ⌝ }
 {
-    face::sheets::call_sheet_bytes(Board::V8, table, sheet, word, second)
+    facesheet::call_sheet_bytes(Board::V8, table, sheet, word, second)
 }

@@ -1,5 +1,5 @@
 -- A SHEET BESIDE THE TABLE (02, request 108), over the two C functions that keep it. Statements only; Laws/SheetProof.antt has the proofs.
--- BootSheetLent and CallSheetLent (face/specs/Sheets) are the promises of ulavrepit_boot_sheet and ulavrepit_call_sheet; masksOf, linesFor and sheetOf
+-- BootSheetLent and CallSheetLent (facesheet/specs/Sheets) are the promises of ulavrepit_boot_sheet and ulavrepit_call_sheet; masksOf, linesFor and sheetOf
 -- (sheet/specs/Sheet) say what the sheet of a table is.
 use mathlib.Core.Path.{_≡_}
 use mathlib.Core.List.{List, [], _∷_}
@@ -18,7 +18,7 @@ use Rattle.sound.specs.Sound.{Present, Sound}
 use Rattle.sheet.specs.Sheet.{masksOf, linesFor, sheetOf}
 use Rattle.sheet.specs.Bytes.{sheetBytes}
 use Rattle.face.specs.Face.{handed, CallLent}
-use Rattle.face.specs.Sheets.{BootSheetLent, CallSheetLent}
+use Rattle.facesheet.specs.Sheets.{BootSheetLent, CallSheetLent}
 use Rattle.demands.specs.Demands.{Bytes, BootLent, refusalIn, Accepted}
 
 -- the bytes s are the sheet of the table's bytes b, worked out afresh

@@ -6,14 +6,13 @@ ghost use Rattle.face.specs.Face.{handed, resultPacked, Lent, CallLent, 
 // What a board's firmware calls, which is C, for every board: the crate of a board has these under the names that include/ulavrepit.h declares.
 pub mod check;
 pub mod lists;
-pub mod sheets;
 
 use shapes::Board;
 use tables::Outcome;
 use words::Partition;
 
 // What C gets: bits 16 to 31 are zero.
-fn packed(refusal: u64, caller: Partition, first: u64) -> u64
+pub fn packed(refusal: u64, caller: Partition, first: u64) -> u64
     requires { ⌜ (refusal < 2 ^ 8) × (caller .0 < 16) × (first < 2 ^ 32) ⌝ }
     ensures { λ r. ⌜ r ≡ resultPacked refusal (caller .0) first ⌝ }
 {

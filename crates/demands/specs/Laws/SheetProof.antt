@@ -52,7 +52,7 @@ use Rattle.sheet.specs.Laws.Reading.{sheet-words, masks-read, lines-read, bytes
 use Rattle.sheet.specs.Laws.Kept.{call-kept}
 use Rattle.face.specs.Face.{handed, resultPacked, resultOf, secondAfter, bytesAfter, Lent, CallLent}
 use Rattle.face.specs.Laws.Face.{handed-is, handed-unsound, handed-none}
-use Rattle.face.specs.Sheets.{BothLent, BootSheetLent, CallSheetLent}
+use Rattle.facesheet.specs.Sheets.{BothLent, BootSheetLent, CallSheetLent}
 use Rattle.demands.specs.Demands.{Bytes, BootLent, refusalIn, firstIn, Accepted, Applies, fails, later, missing, of-entry, no-lowest, of-lowest}
 use Rattle.demands.specs.Theorem.{boot-answered, booted, start}
 use Rattle.demands.specs.Laws.Calls.{handed-small, handed-of, call-answered, call-done, one-unsound, next}

@@ -1,14 +1,14 @@
--- src/sheets.rt, boot_sheet_bytes: BootSheetLent table sheet base end r table′ sheet′
+-- src/lib.rt, boot_sheet_bytes: BootSheetLent table sheet base end r table′ sheet′
 use mathlib.Core.Path.{sym, _∙_}
 use lib.ListN.{length-replicate}
 use Prim.Native.Nat.{ℕ}
 use Rattle.rules.specs.Laws.Brief.{boot-brief, brief-first, number-small}
 use Rattle.face.specs.Laws.Face.{boot-root}
-use Rattle.face.specs.Laws.Sheets.{booted-right, boot-short, boot-no-sheet, boot-both, boot-neither}
+use Rattle.facesheet.specs.Laws.Sheets.{booted-right, boot-short, boot-no-sheet, boot-both, boot-neither}
 use native.Mathlib.Omega.{arith}
 use borrow.Author.Needs.{needs}
-use Rattle.face.proofs.sheets.boot_sheet_bytes.Statement.{statement}
-use Rattle.face.proofs.sheets.boot_sheet_bytes.Tie as tie
+use Rattle.facesheet.proofs.boot_sheet_bytes.Statement.{statement}
+use Rattle.facesheet.proofs.boot_sheet_bytes.Tie as tie
 
 pub boot-sheet-bytes-spec : {M : Type 1} → statement M
 boot-sheet-bytes-spec =

@@ -1,8 +1,8 @@
--- src/sheets.rt, store_both: (now (table .exit) ≡ cond stands table (bytesOf t)) × (now (sheet .exit) ≡ cond stands sheet (sheetKept x (view t) sheet))
+-- src/lib.rt, store_both: (now (table .exit) ≡ cond stands table (bytesOf t)) × (now (sheet .exit) ≡ cond stands sheet (sheetKept x (view t) sheet))
 use mathlib.Core.Path.{refl}
 use borrow.Author.Needs.{needs}
-use Rattle.face.proofs.sheets.store_both.Statement.{statement}
-use Rattle.face.proofs.sheets.store_both.Tie as tie
+use Rattle.facesheet.proofs.store_both.Statement.{statement}
+use Rattle.facesheet.proofs.store_both.Tie as tie
 
 pub store-both-spec : {M : Type 1} → statement M
 store-both-spec =

@@ -36,9 +36,9 @@ use Rattle.sheet.specs.Bytes.{handedSheet, sheetBytes, sheetBytesAfter}
 use Rattle.sheet.specs.Laws.Rules.{call-1, call-20, call-else, boot-1, boot-20, boot-else}
 use Rattle.sheet.specs.Laws.Touched.{call-put}
 use Rattle.sheet.specs.Laws.Bytes.{matches-means, sheet-bytes, short-handed, handed-length, matches-length}
 use Rattle.face.specs.Face.{handed, resultPacked, resultOf, secondAfter, bytesAfter, Lent, CallLent}
 use Rattle.face.specs.Laws.Face.{lent-one, handed-is, handed-unsound, handed-none, boot-lent, call-lent, call-stands, call-kept}
-use Rattle.face.specs.Sheets.{BothLent, BootSheetLent, CallSheetLent}
+use Rattle.facesheet.specs.Sheets.{BothLent, BootSheetLent, CallSheetLent}
 
 -- two results are equal: the result, every byte of both, the second value
 pub both-lent-one : {n : ℕ} {res : Result} {b s : List ℕ} {r r′ : ℕ} {c d u u′ : List ℕ} → BothLent n res b s r c u → BothLent n res b s r′ d u′ → (r ≡ r′) × (c ≡ d) × (u ≡ u′)

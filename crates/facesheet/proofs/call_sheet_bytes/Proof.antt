@@ -1,15 +1,15 @@
--- src/sheets.rt, call_sheet_bytes: CallSheetLent board table sheet word second r table′ sheet′ second′
+-- src/lib.rt, call_sheet_bytes: CallSheetLent board table sheet word second r table′ sheet′ second′
 use mathlib.Core.Path.{refl, sym, _∙_}
 use borrow.Author.Tests.{not-true, not-false}
 use Rattle.tables.specs.Laws.Top.{top-at}
 use Rattle.rules.specs.Laws.Brief.{call-brief, brief-first, number-small}
 use Rattle.sheet.specs.Laws.Bytes.{matches-length}
 use Rattle.face.specs.Laws.Face.{call-tells, call-told, call-caller}
-use Rattle.face.specs.Laws.Sheets.{loaded-right, called-right, call-short, call-unsound, call-mismatch, call-neither, call-both}
+use Rattle.facesheet.specs.Laws.Sheets.{loaded-right, called-right, call-short, call-unsound, call-mismatch, call-neither, call-both}
 use native.Mathlib.Omega.{arith}
 use borrow.Author.Needs.{needs}
-use Rattle.face.proofs.sheets.call_sheet_bytes.Statement.{statement}
-use Rattle.face.proofs.sheets.call_sheet_bytes.Tie as tie
+use Rattle.facesheet.proofs.call_sheet_bytes.Statement.{statement}
+use Rattle.facesheet.proofs.call_sheet_bytes.Tie as tie
 
 pub call-sheet-bytes-spec : {M : Type 1} → statement M
 call-sheet-bytes-spec =
