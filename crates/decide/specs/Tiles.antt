@@ -3,7 +3,8 @@ use mathlib.Core.Path.{_≡_}
 use mathlib.Core.Bool.{Bool, true, false, cond}
 use mathlib.Core.List.{List}
 use mathlib.Core.Logic.{_↔_}
-use Prim.Native.Nat.{ℕ, _+_, _≤_, _<_}
+use Prim.Native.Nat.{ℕ, _+_, _*_, _≤_, _<_}
+use Rattle.loops.specs.Loops.{bitOf}
 use Rattle.words.specs.declared.Rights.{Rights}
 use Rattle.tables.specs.State.{Opt, none, some, Entry, entry, allRights}
 use Rattle.tables.specs.View.{view}
@@ -37,7 +38,7 @@ pub record GoesOn (E : ℕ → Entry) (n i k hi at : ℕ) (r : Rights) : Type 0 
 
 -- rights as a number, a bit each
 unfoldable pub rightsNumber : Rights → ℕ
-rightsNumber a = cond (a .read) 4 0 + cond (a .write) 2 0 + cond (a .execute) 1 0
+rightsNumber a = 4 * bitOf (a .read) + 2 * bitOf (a .write) + bitOf (a .execute)
 
 -- The first of a range has no right beyond those of the range; a later one has those of the one before it.
 unfoldable pub follows : Bool → Rights → Rights → Bool

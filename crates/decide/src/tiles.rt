@@ -1,5 +1,6 @@
 ghost use mathlib.Core.Path.{_≡_};
-ghost use mathlib.Core.Bool.{true, cond, _&&_};
+ghost use mathlib.Core.Bool.{true, _&&_};
+ghost use Rattle.loops.specs.Loops.{bitOf};
 ghost use Prim.Native.Nat.{_≤_, _<_};
 ghost use Rattle.tables.specs.State.{allRights};
 ghost use Rattle.tables.specs.View.{view};
@@ -18,18 +19,17 @@ use words::Partition;
 use words::Rights;
 use words::Slot;
 
-fn bit(b: bool, n: u32) -> u32
-    requires { ⌜ n ≤ 4 ⌝ }
-    ensures { λ r. ⌜ (r ≡ cond b n 0) × (r ≤ 4) ⌝ }
+fn bit(b: bool) -> u32
+    ensures { λ r. ⌜ (r ≡ bitOf b) × (r ≤ 1) ⌝ }
 {
-    if b { n } else { 0 }
+    if b { 1 } else { 0 }
 }
 
 // rights as a number, a bit each
 fn number(a: Rights) -> u32
     ensures { λ r. ⌜ r ≡ rightsNumber a ⌝ }
 {
-    bit(a.read, 4) + bit(a.write, 2) + bit(a.execute, 1)
+    4 * bit(a.read) + 2 * bit(a.write) + bit(a.execute)
 }
 
 // every right of a is one of b: told at once, since each entry of a child comes by here

@@ -3,14 +3,14 @@ use mathlib.Core.Path.{_≡_, refl, ap, sym, subst, _∙_}
 use mathlib.Core.Bool.{Bool, true, false, cond, not, _&&_, _||_, Bool·beq, false≢true}
 use mathlib.Core.List.{List}
 use mathlib.Core.Logic.{_↔_}
-use Prim.Native.Nat.{ℕ, _+_, _-_, _≤_, _<_}
+use Prim.Native.Nat.{ℕ, _+_, _-_, _*_, _≤_, _<_}
 use native.Mathlib.Decide.{ℕ-discrete, decLt}
 use native.Mathlib.Omega.{arith}
 use lib.ListN.{getD}
 use lib.Dec.{eqb}
 use lib.Bits.{bitAnd}
 use borrow.Author.Tests.{eq-eqb, ne-eqb}
-use Rattle.loops.specs.Loops.{all}
+use Rattle.loops.specs.Loops.{all, bitOf}
 use Rattle.loops.specs.Laws.Every.{bool-ext}
 use Rattle.words.specs.declared.Rights.{Rights}
 use Rattle.words.specs.declared.slot_word.SlotFields.{SlotFields}
@@ -128,7 +128,7 @@ either-says f q true = and-says (f true) (f false) q .0
 either-says f q false = and-says (f true) (f false) q .1
 
 numbered : Bool → Bool → Bool → ℕ
-numbered r w x = cond r 4 0 + cond w 2 0 + cond x 1 0
+numbered r w x = 4 * bitOf r + 2 * bitOf w + bitOf x
 
 agrees : Bool → Bool → Bool → Bool → Bool → Bool → Bool
 agrees r w x s v y = Bool·beq (eqb (bitAnd (numbered r w x) (numbered s v y)) (numbered r w x)) ((not r || s) && (not w || v) && (not x || y))
