@@ -19,20 +19,41 @@ is-ordered-spec =
     (λ c. not-sound _ _ (λ h. failed (c .before .shapes-sound .ensures) (c .if2 .taken) (h .shapes)))
     (λ c κs. let h = c .before .before .before .before .before .before .before .pre in (h .0, shaped (passed (c .before .before .before .shapes-sound .ensures) (c .before .before .if2 .left)), h .1, h .2))
     (λ c. not-sound _ _ (λ h. failed (c .before .arrange .ensures .says) (c .if3 .taken) (h .s6)))
-    (λ c κs. (c .before .before .before .before .before .before .before .before .before .before .pre .0, shaped (passed (c .before .before .before .before .before .before .shapes-sound .ensures) (c .before .before .before .before .before .if2 .left)), no-marks))
+    (λ c κs.
+    let shapes-passed = c .before .before .before .before .before in
+    let shapes-told = shapes-passed .before in
+    let begun = shapes-told .before .before .before .before in
+    (begun .pre .0, shaped (passed (shapes-told .shapes-sound .ensures) (shapes-passed .if2 .left)), no-marks))
     (λ c. not-marked _ (c .before .mark-all .ensures) (c .if4 .taken))
-    (λ c κs. (
-      c .before .before .before .before .before .before .before .before .before .before .before .before .before .before .before .pre .0,
+    (λ c κs.
+    let backed = c .before .before .before in
+    let marked-all = backed .before in
+    let apart = marked-all .before .before in
+    let arranged = apart .before in
+    let shapes-passed = arranged .before .before .before in
+    let shapes-told = shapes-passed .before in
+    let begun = shapes-told .before .before .before .before in (
+      begun .pre .0,
       record {
-        shaped = shaped (passed (c .before .before .before .before .before .before .before .before .before .before .before .shapes-sound .ensures) (c .before .before .before .before .before .before .before .before .before .before .if2 .left));
-        s6 = passed (c .before .before .before .before .before .before .before .arrange .ensures .says) (c .before .before .before .before .before .before .if3 .left);
-        orders = c .before .before .before .before .before .before .before .arrange .ensures .orders (not-false _ (c .before .before .before .before .before .before .if3 .left));
-        marked = c .before .before .before .before .mark-all .ensures .on (not-false _ (c .before .before .before .if4 .left));
+        shaped = shaped (passed (shapes-told .shapes-sound .ensures) (shapes-passed .if2 .left));
+        s6 = passed (arranged .arrange .ensures .says) (apart .if3 .left);
+        orders = arranged .arrange .ensures .orders (not-false _ (apart .if3 .left));
+        marked = marked-all .mark-all .ensures .on (not-false _ (backed .if4 .left));
       },
     ))
-    (λ c. decided _ (c .before .before .before .before .before .before .before .before .before .before .before .before .before .before .before .sized .ensures) (passed (c .before .before .before .before .before .before .before .before .before .before .before .before .before .before .first-sound .ensures) (c .before .before .before .before .before .before .before .before .before .before .before .before .before .if1 .left)) (record {
-      shaped = shaped (passed (c .before .before .before .before .before .before .before .before .before .before .before .before .shapes-sound .ensures) (c .before .before .before .before .before .before .before .before .before .before .before .if2 .left));
-      s6 = passed (c .before .before .before .before .before .before .before .before .arrange .ensures .says) (c .before .before .before .before .before .before .before .if3 .left);
-      orders = c .before .before .before .before .before .before .before .before .arrange .ensures .orders (not-false _ (c .before .before .before .before .before .before .before .if3 .left));
-      marked = c .before .before .before .before .before .mark-all .ensures .on (not-false _ (c .before .before .before .before .if4 .left));
+    (λ c.
+    let backed = c .before .before .before .before in
+    let marked-all = backed .before in
+    let apart = marked-all .before .before in
+    let arranged = apart .before in
+    let shapes-passed = arranged .before .before .before in
+    let shapes-told = shapes-passed .before in
+    let first-passed = shapes-told .before in
+    let first-told = first-passed .before in
+    let measured = first-told .before in
+    decided _ (measured .sized .ensures) (passed (first-told .first-sound .ensures) (first-passed .if1 .left)) (record {
+      shaped = shaped (passed (shapes-told .shapes-sound .ensures) (shapes-passed .if2 .left));
+      s6 = passed (arranged .arrange .ensures .says) (apart .if3 .left);
+      orders = arranged .arrange .ensures .orders (not-false _ (apart .if3 .left));
+      marked = marked-all .mark-all .ensures .on (not-false _ (backed .if4 .left));
     }) (c .partitions-sound .ensures)))

@@ -21,11 +21,26 @@ boot-sheet-bytes-spec =
     (λ c κs. search needs)
     (λ c. search needs)
     (λ c κs. (c .before .before .before .before .before .before .before .before .if1 .left, boot-root _ _ (c .before .before .before .before .before .boot-table .ensures) (c .before .before .before .outcome .given .1)))
-    (λ c κs. (c .before .before .before .before .before .before .before .before .before .before .before .before .if2 .left, booted-right _ _ (c .before .before .before .before .before .before .before .before .before .before .boot-table .ensures) (c .before .before .before .before .before .before .before .before .outcome .given .1)))
-    (λ c κs. (omega arith, omega arith, omega (arith, brief-first (boot-brief _ _ _) (sym (c .before .before .before .before .before .before .before .before .before .before .before .before .before .boot-table .ensures .outcome) ∙ c .before .before .before .before .before .before .before .before .before .before .before .outcome .given .1))))
+    (λ c κs.
+    let told = c .before .before .before .before .before .before .before .before in
+    let booted = told .before .before in
+    let room = booted .before .before in
+    (room .if2 .left, booted-right _ _ (booted .boot-table .ensures) (told .outcome .given .1)))
+    (λ c κs.
+    let stored = c .before .before .before .before .before .before .before in
+    let told = stored .before .before .before .before in
+    let booted = told .before .before in
+    (omega arith, omega arith, omega (arith, brief-first (boot-brief _ _ _) (sym (booted .boot-table .ensures .outcome) ∙ told .outcome .given .1))))
     (λ c. search needs)
     (λ c κs. (omega (arith, number-small (boot-brief _ _ _) (sym (c .before .before .before .boot-table .ensures .outcome) ∙ c .before .outcome2 .given .1)), omega arith, omega arith))
     (λ c. search needs)
     (λ c. search needs)
-    (λ c. boot-both _ _ _ _ (c .before .before .before .before .before .before .before .before .before .before .before .before .before .before .before .before .before .if1 .left) (c .before .before .before .before .before .before .before .before .before .before .before .before .before .before .before .before .if2 .left) (length-replicate {A = ℕ} 641 0) (c .before .before .before .before .before .before .before .before .before .before .before .before .before .before .boot-table .ensures) (c .before .before .before .before .before .before .before .before .before .before .before .before .outcome .given .1) (c .packed3 .ensures) (c .before .before .before .before .before .before .before .before .store-root .ensures) (c .before .before .before .write-sheet .ensures))
+    (λ c.
+    let written = c .before .before .before in
+    let stored = written .before .before .before .before .before in
+    let told = stored .before .before .before .before in
+    let booted = told .before .before in
+    let room = booted .before .before in
+    let long = room .before in
+    boot-both _ _ _ _ (long .if1 .left) (room .if2 .left) (length-replicate {A = ℕ} 641 0) (booted .boot-table .ensures) (told .outcome .given .1) (c .packed3 .ensures) (stored .store-root .ensures) (written .write-sheet .ensures))
     (λ c. boot-neither _ _ _ _ (c .before .before .before .before .before .before .before .if1 .left) (c .before .before .before .before .before .before .if2 .left) (length-replicate {A = ℕ} 641 0) (c .before .before .before .before .boot-table .ensures) (c .before .before .outcome2 .given .1) (c .packed4 .ensures)))

@@ -23,37 +23,85 @@ call-sheet-bytes-spec =
     (λ c. search needs)
     (λ c. call-unsound _ _ _ _ (c .before .before .before .before .before .before .before .if1 .left) (c .before .before .before .before .load .ensures .0) (sym (c .before .before .is-sound .ensures) ∙ not-true _ (c .before .if2 .taken)) (c .packed2 .ensures))
     (λ c κs.
-    let small = c .before .before .before .before .before .before .before .before .before .before .slice-known .given in
-    loaded-right _ _ (c .before .before .before .before .before .load .ensures .0) (λ i. small i .fits) (sym (c .before .before .before .is-sound .ensures) ∙ not-false _ (c .before .before .if2 .left)))
+    let judged = c .before .before .before in
+    let loaded = judged .before .before in
+    let begun = loaded .before .before .before .before .before in
+    let small = begun .slice-known .given in
+    loaded-right _ _ (loaded .load .ensures .0) (λ i. small i .fits) (sym (judged .is-sound .ensures) ∙ not-false _ (c .before .before .if2 .left)))
     (λ c κs. search needs)
     (λ c κs. (omega arith, omega (arith, c .first .ensures .current-small), omega arith))
     (λ c. search needs)
     (λ c. search needs)
-    (λ c. call-mismatch _ _ _ _ (c .before .before .before .before .before .before .before .before .before .before .before .before .before .if1 .left) (c .before .before .before .before .before .before .before .before .before .before .load .ensures .0) (sym (c .before .before .before .before .before .before .before .before .is-sound .ensures) ∙ not-false _ (c .before .before .before .before .before .before .before .if2 .left)) (sym (c .before .before .before .before .is-sheet .ensures) ∙ not-true _ (c .before .before .before .if3 .taken)) (c .before .first .ensures .current) (c .packed3 .ensures))
+    (λ c.
+    let alike = c .before .before .before in
+    let compared = alike .before in
+    let accepted = compared .before .before .before in
+    let judged = accepted .before in
+    let loaded = judged .before .before in
+    let long = loaded .before .before .before in
+    call-mismatch _ _ _ _ (long .if1 .left) (loaded .load .ensures .0) (sym (judged .is-sound .ensures) ∙ not-false _ (accepted .if2 .left)) (sym (compared .is-sheet .ensures) ∙ not-true _ (alike .if3 .taken)) (c .before .first .ensures .current) (c .packed3 .ensures))
     (λ c κs. search needs)
     (λ c κs. sym (c .before .before .before .before .before .before .before .before .is-sound .ensures) ∙ not-false _ (c .before .before .before .before .before .before .before .if2 .left))
     (λ c. search needs)
     (λ c κs.
-    let size = c .before .before .before .before .before .before .before .before .before .before .before .before .before .before .before .before .before .before .before .before .before .if1 .left in
-    let load = c .before .before .before .before .before .before .before .before .before .before .before .before .before .before .before .before .before .before .load .ensures .0 in
-    let small = c .before .before .before .before .before .before .before .before .before .before .before .before .before .before .before .before .before .before .before .before .before .before .before .slice-known .given in
-    let answer = c .before .before .before .before .before .before .before .serve-word .ensures in
-    let done = c .before .before .before .before .outcome .given .1 in
-    (size, matches-length _ _ (sym (c .before .before .before .before .before .before .before .before .before .before .before .before .is-sheet .ensures) ∙ not-false _ (c .before .before .before .before .before .before .before .before .before .before .before .if3 .left)), call-tells _ size load answer (λ i. small i .fits) done, call-told _ size load answer (λ i. small i .fits) done, called-right _ _ load (λ i. small i .fits) answer done, c .before .before .before .before .before .before .before .before .before .touched .ensures .1))
-    (λ c κs. (omega arith, omega (arith, call-caller _ (c .before .before .before .before .before .before .before .before .before .before .before .before .before .before .before .before .before .before .before .before .before .before .before .before .before .before .if1 .left) (c .before .before .before .before .before .before .before .before .before .before .before .before .before .before .before .before .before .before .before .before .before .before .before .load .ensures .0) (c .before .before .before .before .before .before .before .before .before .before .before .before .serve-word .ensures)), omega (arith, brief-first (call-brief _ _ _) (sym (c .before .before .before .before .before .before .before .before .before .before .before .before .serve-word .ensures .ran .outcome) ∙ c .before .before .before .before .before .before .before .before .before .outcome .given .1))))
+    let told = c .before .before .before .before in
+    let served = told .before .before .before in
+    let asked = served .before .before in
+    let alike = asked .before .before in
+    let compared = alike .before in
+    let loaded = compared .before .before .before .before .before .before in
+    let long = loaded .before .before .before in
+    let begun = long .before .before in
+    let size = long .if1 .left in
+    let load = loaded .load .ensures .0 in
+    let small = begun .slice-known .given in
+    let answer = served .serve-word .ensures in
+    let done = told .outcome .given .1 in
+    (size, matches-length _ _ (sym (compared .is-sheet .ensures) ∙ not-false _ (alike .if3 .left)), call-tells _ size load answer (λ i. small i .fits) done, call-told _ size load answer (λ i. small i .fits) done, called-right _ _ load (λ i. small i .fits) answer done, asked .touched .ensures .1))
+    (λ c κs.
+    let told = c .before .before .before .before .before .before .before .before .before in
+    let served = told .before .before .before in
+    let compared = served .before .before .before .before .before in
+    let loaded = compared .before .before .before .before .before .before in
+    let long = loaded .before .before .before in
+    (omega arith, omega (arith, call-caller _ (long .if1 .left) (loaded .load .ensures .0) (served .serve-word .ensures)), omega (arith, brief-first (call-brief _ _ _) (sym (served .serve-word .ensures .ran .outcome) ∙ told .outcome .given .1))))
     (λ c. search needs)
-    (λ c κs. (omega (arith, number-small (call-brief _ _ _) (sym (c .before .before .before .before .serve-word .ensures .ran .outcome) ∙ c .before .outcome2 .given .1)), omega (arith, call-caller _ (c .before .before .before .before .before .before .before .before .before .before .before .before .before .before .before .before .before .before .if1 .left) (c .before .before .before .before .before .before .before .before .before .before .before .before .before .before .before .load .ensures .0) (c .before .before .before .before .serve-word .ensures)), omega arith))
+    (λ c κs.
+    let served = c .before .before .before .before in
+    let compared = served .before .before .before .before .before in
+    let loaded = compared .before .before .before .before .before .before in
+    let long = loaded .before .before .before in
+    (omega (arith, number-small (call-brief _ _ _) (sym (served .serve-word .ensures .ran .outcome) ∙ c .before .outcome2 .given .1)), omega (arith, call-caller _ (long .if1 .left) (loaded .load .ensures .0) (served .serve-word .ensures)), omega arith))
     (λ c. search needs)
     (λ c. search needs)
     (λ c.
-    let small = c .before .before .before .before .before .before .before .before .before .before .before .before .before .before .before .before .before .before .before .before .before .before .before .before .before .before .before .before .before .slice-known .given in
-    let bytes = c .before .before .before .before .before .before .before .before .before .before .before .before .before .before .before .before .before .before .before .before .before .before .before .before .before .before .before .before .slice-known2 .given in
-    let right = sym (c .before .before .before .before .before .before .before .before .before .before .before .before .before .before .before .before .before .before .before .before .before .before .is-sound .ensures) ∙ not-false _ (c .before .before .before .before .before .before .before .before .before .before .before .before .before .before .before .before .before .before .before .before .before .if2 .left) in
-    let same = sym (c .before .before .before .before .before .before .before .before .before .before .before .before .before .before .before .before .before .before .is-sheet .ensures) ∙ not-false _ (c .before .before .before .before .before .before .before .before .before .before .before .before .before .before .before .before .before .if3 .left) in
-    call-both _ _ _ _ (c .before .before .before .before .before .before .before .before .before .before .before .before .before .before .before .before .before .before .before .before .before .before .before .before .before .before .before .if1 .left) (c .before .before .before .before .before .before .before .before .before .before .before .before .before .before .before .before .before .before .before .before .before .before .before .before .load .ensures .0) right same (c .before .before .before .before .before .before .before .before .before .before .before .before .before .serve-word .ensures) (λ i. small i .fits) (c .before .before .before .before .before .before .before .before .before .before .outcome .given .1) (λ i. bytes i .fits) (c .packed4 .ensures) (c .before .before .before .before .before .store-both .ensures .0) (c .before .before .before .before .before .before .before .before .before .before .before .before .before .before .before .touched .ensures) (c .before .before .before .before .before .store-both .ensures .1) refl)
+    let stored = c .before .before .before .before .before in
+    let told = stored .before .before .before .before .before in
+    let served = told .before .before .before in
+    let asked = served .before .before in
+    let alike = asked .before .before in
+    let compared = alike .before in
+    let accepted = compared .before .before .before in
+    let judged = accepted .before in
+    let loaded = judged .before .before in
+    let long = loaded .before .before .before in
+    let lent = long .before in
+    let begun = lent .before in
+    let small = begun .slice-known .given in
+    let bytes = lent .slice-known2 .given in
+    let right = sym (judged .is-sound .ensures) ∙ not-false _ (accepted .if2 .left) in
+    let same = sym (compared .is-sheet .ensures) ∙ not-false _ (alike .if3 .left) in
+    call-both _ _ _ _ (long .if1 .left) (loaded .load .ensures .0) right same (served .serve-word .ensures) (λ i. small i .fits) (told .outcome .given .1) (λ i. bytes i .fits) (c .packed4 .ensures) (stored .store-both .ensures .0) (asked .touched .ensures) (stored .store-both .ensures .1) refl)
     (λ c. search needs)
     (λ c. search needs)
     (λ c.
-    let right = sym (c .before .before .before .before .before .before .before .before .before .before .before .before .before .before .is-sound .ensures) ∙ not-false _ (c .before .before .before .before .before .before .before .before .before .before .before .before .before .if2 .left) in
-    let same = sym (c .before .before .before .before .before .before .before .before .before .before .is-sheet .ensures) ∙ not-false _ (c .before .before .before .before .before .before .before .before .before .if3 .left) in
-    call-neither _ _ _ _ (c .before .before .before .before .before .before .before .before .before .before .before .before .before .before .before .before .before .before .before .if1 .left) (c .before .before .before .before .before .before .before .before .before .before .before .before .before .before .before .before .load .ensures .0) right same (c .before .before .before .before .before .serve-word .ensures) (c .before .before .outcome2 .given .1) (c .packed5 .ensures)))
+    let served = c .before .before .before .before .before in
+    let alike = served .before .before .before .before in
+    let compared = alike .before in
+    let accepted = compared .before .before .before in
+    let judged = accepted .before in
+    let loaded = judged .before .before in
+    let long = loaded .before .before .before in
+    let right = sym (judged .is-sound .ensures) ∙ not-false _ (accepted .if2 .left) in
+    let same = sym (compared .is-sheet .ensures) ∙ not-false _ (alike .if3 .left) in
+    call-neither _ _ _ _ (long .if1 .left) (loaded .load .ensures .0) right same (served .serve-word .ensures) (c .before .before .outcome2 .given .1) (c .packed5 .ensures)))

@@ -14,6 +14,4 @@ take-back-spec =
     (tie.spec
     (λ c κs. search needs)
     (λ c κs. record { canon = is-canon (c .before .before .put-entry .ensures); inP = c .before .before .before .before .pre .0 .given-small; inI = c .before .before .before .before .pre .1 })
-    (λ c.
-    let put = c .before .before .before in
-    is-then (λ (t : Table). putSlot t (put .before .before .args .e .given .0) (put .before .before .args .i .0) none false) (put .put-entry .ensures) (c .clear-entry .ensures)))
+    (λ c. is-then (λ (t : Table). putSlot t (c .before .before .before .before .before .args .e .given .0) (c .before .before .before .before .before .args .i .0) none false) (c .before .before .before .put-entry .ensures) (c .clear-entry .ensures)))

@@ -22,8 +22,9 @@ take-entry-spec =
     let begun = found .before .before .before .before in
     (can-take (begun .pre), lowest-some 32 _ _ (found-is _ (sym (found .found .given .1) ∙ found .before .before .returned-slot .ensures)) .below))
     (λ c κs.
+    let canon = is-canon (c .before .take-back .ensures) in
     let begun = c .before .before .before .before .before .before .before .before in
-    (is-canon (c .before .take-back .ensures), omega (arith, begun .pre .caller, begun .pre .seen .given-small)))
+    (canon, omega (arith, begun .pre .caller, begun .pre .seen .given-small)))
     (λ c.
     let regained = c .before .before in
     let found = regained .before .before .before in

@@ -27,15 +27,16 @@ tile-spec =
     (λ c. let e = c .before .before .before .before .before .before in let d = e .before .before .before .before .before in stuck-as (few (d .before .pre .0)) (tile-over (d .before .pre .0) (d .loop .inv .1) (omega arith) (omega arith) (e .entry-at .ensures) (c .if4 .taken)))
     (λ c κs. search needs)
     (λ c. let e = c .before .before .before .before .before .before .before .before in let d = e .before .before .before .before .before in stuck-as (few (d .before .pre .0)) (tile-unlike (d .before .pre .0) (d .loop .inv .1) (omega arith) (omega arith) (e .entry-at .ensures) (d .loop .inv .2) (rw (← d .loop .inv .3, ← c .before .follows .ensures) (not-true (c .before .follows .result) (c .if5 .taken)))))
-    (λ c. let h = c .before .before .before .before .before .before .before .before .before .before .before .before .before .before .before .before .before .pre .0 .rows .ordered .few in let d = c .before .before .before .before .before .before .before .before .before .before .before .before in search needs)
-    (λ c. let d = c .before .before .before .before .before .before .before .before .before .before .before .before in omega arith)
+    (λ c. let tested = c .before .before .before .before .before .before in let d = tested .before .before .before .before .before .before in let h = d .before .before .before .before .before .pre .0 .rows .ordered .few in search needs)
+    (λ c. let tested = c .before .before .before .before .before .before in let d = tested .before .before .before .before .before .before in omega arith)
     (λ c.
-    let e = c .before .before .before .before .before .before .before .before .before .before .before in
+    let followed = c .before .before .before .before in
+    let e = followed .before .before .before .before .before .before .before in
     let d = e .before .before .before .before .before in
-    let u = c .before .before .before .before .before .before .before .before .if3 .left in (
+    let u = followed .before .before .before .before .if3 .left in (
       omega arith,
-      tile-next (d .before .pre .0) (d .loop .inv .1) (omega arith) (omega arith) (e .entry-at .ensures) (d .loop .inv .2) u (omega arith) (rw (← d .loop .inv .3, ← c .before .before .before .before .follows .ensures) (not-false (c .before .before .before .before .follows .result) (c .before .before .before .if5 .left))),
-      compare-next (d .before .pre .0) (d .loop .inv .1) (omega arith) (omega arith) (e .entry-at .ensures) (d .loop .inv .2) u (omega arith) (rw (← d .loop .inv .3, ← c .before .before .before .before .follows .ensures) (not-false (c .before .before .before .before .follows .result) (c .before .before .before .if5 .left))),
+      tile-next (d .before .pre .0) (d .loop .inv .1) (omega arith) (omega arith) (e .entry-at .ensures) (d .loop .inv .2) u (omega arith) (rw (← d .loop .inv .3, ← followed .follows .ensures) (not-false (followed .follows .result) (c .before .before .before .if5 .left))),
+      compare-next (d .before .pre .0) (d .loop .inv .1) (omega arith) (omega arith) (e .entry-at .ensures) (d .loop .inv .2) u (omega arith) (rw (← d .loop .inv .3, ← followed .follows .ensures) (not-false (followed .follows .result) (c .before .before .before .if5 .left))),
       not-first (d .loop .inv .1),
       set-on (d .loop .inv .1 .up) (d .loop .inv .4) (sym (e .entry-at .ensures .opened)),
     ))

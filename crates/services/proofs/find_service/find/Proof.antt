@@ -26,7 +26,4 @@ find-spec =
     let begun = c .before .before .before .before .before .before in
     record { canon = begun .pre .0; inP = begun .pre .1; inI = lowest-some 32 _ _ (looked-slot _ (c .before .before .before .holding-slot .ensures) (c .before .found .given .1)) .below })
     (λ c. search needs)
-    (λ c.
-    let found = c .before .before .before in
-    let allowed = found .before .before .before in
-    ran-done (pass 3 (sym (allowed .before .own-or-child .ensures) ∙ not-false _ (allowed .if1 .left)) (there 7 _ _ (looked-slot _ (found .before .before .holding-slot .ensures) (found .found .given .1)) (second-is (sym (c .before .entry-word .ensures))))) (settled-words (canon-is (allowed .before .before .pre .0)) (right-settled (allowed .before .before .pre .2)))))
+    (λ c. ran-done (pass 3 (sym (c .before .before .before .before .before .before .before .own-or-child .ensures) ∙ not-false _ (c .before .before .before .before .before .before .if1 .left)) (there 7 _ _ (looked-slot _ (c .before .before .before .before .before .holding-slot .ensures) (c .before .before .before .found .given .1)) (second-is (sym (c .before .entry-word .ensures))))) (settled-words (canon-is (c .before .before .before .before .before .before .before .before .pre .0)) (right-settled (c .before .before .before .before .before .before .before .before .pre .2)))))

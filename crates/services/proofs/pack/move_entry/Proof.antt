@@ -19,7 +19,6 @@ move-entry-spec =
     let begun = c .before .before .before .before .before in
     (is-canon (c .before .clear-entry .ensures), begun .pre .0 .inP, begun .pre .0 .inI))
     (λ c.
-    let cleared = c .before .before in
-    let put = cleared .before .before in
-    let begun = put .before .before in
-    is-then (λ (t : Table). renamed t (begun .args .p .0) (begun .args .i .0) (begun .args .j .0)) (is-then (λ (t : Table). putSlot t (begun .args .p .0) (begun .args .i .0) none false) (put .put-entry .ensures) (cleared .clear-entry .ensures)) (c .rename-regions .ensures)))
+    let cleared = is-then (λ (t : Table). putSlot t (c .before .before .before .before .before .before .args .p .0) (c .before .before .before .before .before .before .args .i .0) none false) (c .before .before .before .before .put-entry .ensures) (c .before .before .clear-entry .ensures) in
+    let begun = c .before .before .before .before .before .before in
+    is-then (λ (t : Table). renamed t (begun .args .p .0) (begun .args .i .0) (begun .args .j .0)) cleared (c .rename-regions .ensures)))
