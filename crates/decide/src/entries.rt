@@ -10,6 +10,7 @@ ghost use Rattle.shape.specs.AtOnce.{Shaped};
 ghost use Rattle.decide.specs.Entries.{fullSlot};
 ghost use Rattle.decide.specs.Local.{entryRight};
 use ordering::used::used_slots;
+use tables::masks::has_slot;
 use tables::read;
 use words::Partition;
 use words::Slot;
@@ -78,8 +79,8 @@ pub fn whole_right(t: &[u64; 641], p: Partition, f: SlotFields) -> bool
 }
 
 // f, which stands in slot i of p, is given to a child of p; or to nobody, and then it is open exactly if no area marked it; a whole one is undivided
-pub fn entry_right(t: &[u64; 641], p: Partition, i: Slot, f: SlotFields, mark: &[u8; 512]) -> bool
-    requires { ⌜ (p .0 < 16) × (i .0 < 32) × Shaped (now t) × (length (now mark) ≡ 512) × Seen (now t) (p .0) (i .0) f × (f .present ≡ true) ⌝ }
+pub fn entry_right(t: &[u64; 641], p: Partition, i: Slot, f: SlotFields, mark: &[u32; 16]) -> bool
+    requires { ⌜ (p .0 < 16) × (i .0 < 32) × Shaped (now t) × (length (now mark) ≡ 16) × Seen (now t) (p .0) (i .0) f × (f .present ≡ true) ⌝ }
     ensures { λ r. ⌜ r ≡ entryRight (view (now (t .entry))) (now (mark .entry)) (p .0) (i .0) ⌝ }
 {
     if f.given.0 != 0 {
@@ -91,8 +92,8 @@ pub fn entry_right(t: &[u64; 641], p: Partition, i: Slot, f: SlotFields, mark: &
     if !whole_right(t, p, f) {
         return false;
     }
-    let k = (32 * p.0 + i.0) as usize;
-    f.opened == (mark[k] == 0)
+    let taken = has_slot(mark[p.0 as usize], i);
+    f.opened == !taken
 }
 
 // slot i of p has all rights, or no entry

@@ -101,7 +101,7 @@ fn partitions_sound(
     top: u32,
     order: &[u8; 512],
     counts: &[u32; 16],
-    mark: &[u8; 512],
+    mark: &[u32; 16],
 ) -> bool
     requires { ⌜ Top (now t) top × CanDecide (now t) (now order) (now counts) (now mark) ⌝ }
     ensures { λ r. ⌜ r ≡ all 16 (localWhere board (view (now (t .entry))) (now (mark .entry))) ⌝ }
@@ -137,7 +137,7 @@ pub fn is_ordered(
     if !ordering::arrange::arrange(t, top, order, counts) {
         return false;
     }
-    let mut mark = [0u8; 512];
+    let mut mark = [0u32; 16];
     if !marking::mark_all(t, top, &mut mark) {
         return false;
     }

@@ -21,7 +21,7 @@ fn walk_entry(
     j: u32,
     order: &[u8; 512],
     counts: &[u32; 16],
-    mark: &[u8; 512],
+    mark: &[u32; 16],
     next: &mut [u32; 16],
 ) -> bool
     requires { ⌜ CanStep (now t) (now order) (now counts) (now mark) (q .0) j (now next) ⌝ }
@@ -51,7 +51,7 @@ fn walk_entries(
     q: Partition,
     order: &[u8; 512],
     counts: &[u32; 16],
-    mark: &[u8; 512],
+    mark: &[u32; 16],
     next: &mut [u32; 16],
 ) -> bool
     requires { ⌜ CanDecide (now t) (now order) (now counts) (now mark) × WalkedTo (now t) (now order) (now counts) (now mark) (q .0) 0 (now next) × (q .0 < 16) × (present (view (now t) .k) (q .0) ≡ true) ⌝ }
@@ -74,7 +74,7 @@ fn walk_partition(
     q: Partition,
     order: &[u8; 512],
     counts: &[u32; 16],
-    mark: &[u8; 512],
+    mark: &[u32; 16],
     next: &mut [u32; 16],
 ) -> bool
     requires { ⌜ CanDecide (now t) (now order) (now counts) (now mark) × WalkedTo (now t) (now order) (now counts) (now mark) (q .0) 0 (now next) × (q .0 < 16) ⌝ }
@@ -92,7 +92,7 @@ pub fn walk(
     top: u32,
     order: &[u8; 512],
     counts: &[u32; 16],
-    mark: &[u8; 512],
+    mark: &[u32; 16],
     next: &mut [u32; 16],
 ) -> bool
     requires { ⌜ Top (now t) top × CanDecide (now t) (now order) (now counts) (now mark) × WalkedTo (now t) (now order) (now counts) (now mark) 0 0 (now next) ⌝ }

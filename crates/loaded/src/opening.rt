@@ -2,10 +2,10 @@ ghost use mathlib.Core.Path.{_≡_};
 ghost use Prim.Native.Nat.{_≤_, _<_};
 ghost use Rattle.tables.specs.View.{view};
 ghost use Rattle.sound.specs.Clauses.{s10};
-ghost use Rattle.loops.specs.Loops.{names};
 ghost use Rattle.loaded.specs.Opening.{someLoaded, isOpen, slotNoted, weight};
 use crate::limit::entry_pieces;
 use shapes::Board;
+use tables::masks;
 use tables::read;
 use tables::regions;
 use words::Partition;
@@ -39,14 +39,6 @@ fn is_open(t: &[u64; 641], p: Partition, i: Slot) -> bool
     false
 }
 
-// slot i is in the mask
-fn is_marked(mask: u32, i: Slot) -> bool
-    requires { ⌜ i .0 < 32 ⌝ }
-    ensures { λ r. ⌜ r ≡ names mask (i .0) ⌝ }
-{
-    (mask >> i.0) % 2 == 1
-}
-
 // the mask with the slot that a region names
 fn noted(mask: u32, x: Region) -> u32
     requires { ⌜ x .slot .0 < 32 ⌝ }
@@ -55,7 +47,7 @@ fn noted(mask: u32, x: Region) -> u32
     if !x.loaded {
         return mask;
     }
-    mask | (1u32 << x.slot.0)
+    masks::with_slot(mask, x.slot)
 }
 
 // The pieces of what a region names. 9, more than a partition may have, where that is not open, or one of the mask: a region before it names the same.
@@ -69,7 +61,7 @@ fn region_weight(board: Board, t: &[u64; 641], p: Partition, mask: u32, x: Regio
     if !is_open(t, p, x.slot) {
         return 9;
     }
-    if is_marked(mask, x.slot) {
+    if masks::has_slot(mask, x.slot) {
         return 9;
     }
     entry_pieces(board, t, p, x.slot)

@@ -11,29 +11,31 @@ pub mod backing;
 
 use crate::backing::equal_slot;
 use shape::is_rooted;
+use tables::masks;
 use tables::read;
 use words::Line;
 use words::Partition;
+use words::Slot;
 
 // The not-given entry of q that equals lo to hi is marked: 0 where it has none, 2 where it was marked before.
-fn mark_equal(t: &[u64; 641], q: Partition, lo: Line, hi: Line, mark: &mut [u8; 512]) -> u32
-    requires { ⌜ (q .0 < 16) × Shaped (now t) × (length (now mark) ≡ 512) ⌝ }
+fn mark_equal(t: &[u64; 641], q: Partition, lo: Line, hi: Line, mark: &mut [u32; 16]) -> u32
+    requires { ⌜ (q .0 < 16) × Shaped (now t) × (length (now mark) ≡ 16) ⌝ }
     ensures { λ r. ⌜ Marks (view (now (t .entry)) .k) (q .0) (areaBetween (lo .0) (hi .0)) (now (mark .entry)) r (now (mark .exit)) ⌝ }
 {
     let i = equal_slot(t, q, lo, hi);
     if i >= 32 {
         return 0;
     }
-    let k = (32 * q.0 + i) as usize;
-    if mark[k] != 0 {
+    let k = q.0 as usize;
+    if masks::has_slot(mark[k], Slot(i)) {
         return 2;
     }
-    mark[k] = 1;
+    mark[k] = masks::with_slot(mark[k], Slot(i));
     1
 }
 
 // the header's area of p marks an entry of its parent
-fn mark_header(t: &[u64; 641], p: Partition, mark: &mut [u8; 512]) -> bool
+fn mark_header(t: &[u64; 641], p: Partition, mark: &mut [u32; 16]) -> bool
     requires { ⌜ CanMark (now t) (p .0) 0 (now mark) ⌝ }
     ensures { λ r. ⌜ MarkSays (view (now (t .entry)) .k) (5 * p .0 + 1) r (now (mark .exit)) ⌝ }
 {
@@ -48,7 +50,7 @@ fn mark_header(t: &[u64; 641], p: Partition, mark: &mut [u8; 512]) -> bool
 }
 
 // area j of p, a structure's, marks an entry of p or of its parent
-fn mark_structure(t: &[u64; 641], p: Partition, j: u32, mark: &mut [u8; 512]) -> bool
+fn mark_structure(t: &[u64; 641], p: Partition, j: u32, mark: &mut [u32; 16]) -> bool
     requires { ⌜ (0 < j) × (j < 5) × CanMark (now t) (p .0) j (now mark) ⌝ }
     ensures { λ r. ⌜ MarkSays (view (now (t .entry)) .k) (5 * p .0 + (j + 1)) r (now (mark .exit)) ⌝ }
 {
@@ -68,7 +70,7 @@ fn mark_structure(t: &[u64; 641], p: Partition, j: u32, mark: &mut [u8; 512]) ->
 }
 
 // the five areas of p; an absent partition costs only the test that it is
-fn mark_areas(t: &[u64; 641], p: Partition, mark: &mut [u8; 512]) -> bool
+fn mark_areas(t: &[u64; 641], p: Partition, mark: &mut [u32; 16]) -> bool
     requires { ⌜ CanMark (now t) (p .0) 0 (now mark) ⌝ }
     ensures { λ r. ⌜ MarkSays (view (now (t .entry)) .k) (5 * (p .0 + 1)) r (now (mark .exit)) ⌝ }
 {
@@ -89,7 +91,7 @@ fn mark_areas(t: &[u64; 641], p: Partition, mark: &mut [u8; 512]) -> bool
 }
 
 // Each area marks the not-given entry that it equals, none twice.
-pub fn mark_all(t: &[u64; 641], top: u32, mark: &mut [u8; 512]) -> bool
+pub fn mark_all(t: &[u64; 641], top: u32, mark: &mut [u32; 16]) -> bool
     requires { ⌜ Top (now t) top × Shaped (now t) × MarkedTo (view (now t) .k) 0 (now mark) ⌝ }
     ensures { λ r. ⌜ MarkSays (view (now (t .entry)) .k) 80 r (now (mark .exit)) ⌝ }
 {

@@ -6,6 +6,7 @@ ghost use Rattle.tables.specs.Store.{stored};
 
 // What the 641 words of a table mean. Here, in `writing`, `settling` and `memory`, and nowhere else, it is known which word holds what.
 pub mod copies;
+pub mod masks;
 pub mod read;
 pub mod regions;
 pub mod zeros;

@@ -4,8 +4,8 @@ use mathlib.Core.Bool.{Bool, true, false, not, _&&_, _||_}
 use mathlib.Core.List.{List}
 use Prim.Native.Nat.{ℕ, _<_}
 use lib.Dec.{eqb}
-use lib.ListN.{length, getD}
-use borrow.Author.Tests.{eq-eqb, not-true, not-false}
+use lib.ListN.{length}
+use borrow.Author.Tests.{eq-eqb, not-true}
 use Rattle.loops.specs.Loops.{all}
 use Rattle.loops.specs.Laws.Every.{all-at, all-of, bool-ext}
 use Rattle.shapes.specs.declared.Board.{Board}
@@ -28,7 +28,7 @@ use Rattle.shape.specs.AtOnce.{restAt, Shaped}
 use Rattle.shape.specs.Laws.AtOnce.{areasApart, atOnce, Passes, rest-true, rest-says, sound-at-once, shaped-s2, shaped-record}
 use Rattle.decide.specs.Entries.{exactly}
 use Rattle.decide.specs.Laws.Entries.{s7-parts}
-use Rattle.marking.specs.Marking.{MarkedTo, MarkSays}
+use Rattle.marking.specs.Marking.{markOf, MarkedTo, MarkSays}
 use Rattle.marking.specs.Laws.Marking.{all-marked}
 use Rattle.decide.specs.Local.{localWhere}
 use Rattle.decide.specs.Laws.Granted.{five, owns, roots, here, SevenSays, given, grants, grants-open}
@@ -44,7 +44,7 @@ module _ (board : Board) {l m : List ℕ} (size : length l ≡ 641) (first : s1 
   slot-few : (p i : ℕ) (e : Entry) → k .slot p i ≡ some e → i < 32
   slot-few p i e u = slot-bounds l p i e u .1
 
-  marks : MarkedOnce k (λ x. not (eqb (getD m x 0) 0))
+  marks : MarkedOnce k (markOf m)
   marks = all-marked (area-bounds l) marked
 
   -- ── they pass: the table is sound ──
@@ -67,11 +67,11 @@ module _ (board : Board) {l m : List ℕ} (size : length l ≡ 641) (first : s1 
     seven : (p : ℕ) → Present k p → SevenSays k p
     seven p a = record { children = given-each p; exact = local p a .exact }
 
-    opens : (p : ℕ) → LocalOpen (view l) (λ x. not (eqb (getD m x 0) 0)) p
+    opens : (p : ℕ) → LocalOpen (view l) (markOf m) p
     opens p = record {
       free = λ i e u g.
           let w = right-at p i e u .free g in
-          (λ q. rw (sym w ∙ q) refl, λ q. w ∙ not-false _ q);
+          (λ q. not-true _ (sym w ∙ q), λ q. w ∙ rw q refl);
       given = λ i e u g.
           let (a, w) = given shaped apart seven p i e u g in
           let (to, back) = grants-open-means l (e .given) g .0 (local (e .given) a .opens) i e (rw w u) refl in
@@ -129,7 +129,7 @@ module _ (board : Board) {l m : List ℕ} (size : length l ≡ 641) (first : s1 
     nine : (p : ℕ) → S9 (view l) p
     nine p i e u = s9-of is p (slot-bounds l p i e u .0) i e u
 
-    told : (p : ℕ) → LocalOpen (view l) (λ x. not (eqb (getD m x 0) 0)) p
+    told : (p : ℕ) → LocalOpen (view l) (markOf m) p
     told = s9-local (core-grants (sound-core l is)) (roots shaped) slot-few marks nine
 
     entry-passes : (p i : ℕ) (e : Entry) → p < 16 → s7Whole (view l) p ≡ true → k .slot p i ≡ some e → EntrySays (view l) m p i e
@@ -138,7 +138,7 @@ module _ (board : Board) {l m : List ℕ} (size : length l ≡ 641) (first : s1 
       whole = every-says 32 (λ i e. not (e .whole) || undivided k p (view l .opened p i) e) (k .slot p) w i e (slot-few p i e u) u;
       free = λ g.
           let (to, back) = told p .free i e u g in
-          bool-ext _ _ (λ z. not-false _ (to z)) (λ z. back (rw z refl));
+          bool-ext _ _ (λ z. rw (to z) refl) (λ z. back (not-true _ z));
       given = λ g.
           let (a, z) = s7-of is p b .given i e u g in
           child-means k p (e .given) .1 (a, g, z);

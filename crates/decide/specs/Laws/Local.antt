@@ -6,7 +6,6 @@ use mathlib.Core.Logic.{_↔_}
 use Prim.Native.Nat.{ℕ, _+_, _*_, _≤_, _<_}
 use native.Mathlib.Decide.{ℕ-discrete}
 use lib.Dec.{leb, eqb}
-use lib.ListN.{getD}
 use borrow.Author.Tests.{eqb-true, eq-eqb, ne-eqb, leb-true, le-leb, not-true}
 use Rattle.loops.specs.Loops.{all}
 use Rattle.loops.specs.Laws.Every.{all-at, bool-ext}
@@ -20,6 +19,7 @@ use Rattle.sound.specs.Clauses.{when, undivided, s10, s11}
 use Rattle.sound.specs.Laws.Tests.{and-says, and-true, then-says, then-true, every-says, every-true}
 use Rattle.sound.specs.Laws.MeansRegions.{beq-means}
 use Rattle.decide.specs.Entries.{exactly}
+use Rattle.marking.specs.Marking.{markOf}
 use Rattle.decide.specs.Local.{entryRight, openInside, grantsOpen, localAt, localWhere, leftWhere}
 use Rattle.decide.specs.Laws.Decide.{passed}
 
@@ -102,14 +102,14 @@ module _ (b : Board) (t : Table) (m : List ℕ) (p : ℕ) where
 module _ (t : Table) (m : List ℕ) (p : ℕ) where
   -- who is given it, and its open bit; a whole one is undivided
   abbrev openTest : ℕ → Entry → Bool
-  openTest i e = cond (eqb (e .given) 0) (Bool·beq (t .opened p i) (eqb (getD m (32 * p + i) 0) 0)) (child (t .k) p (e .given))
+  openTest i e = cond (eqb (e .given) 0) (Bool·beq (t .opened p i) (not (markOf m (32 * p + i)))) (child (t .k) p (e .given))
 
   abbrev wholeTest : ℕ → Entry → Bool
   wholeTest i e = not (e .whole) || undivided (t .k) p (t .opened p i) e
 
   pub record EntrySays (i : ℕ) (e : Entry) : Type 0 where
     pub whole : not (e .whole) || undivided (t .k) p (t .opened p i) e ≡ true
-    pub free : e .given ≡ 0 → t .opened p i ≡ eqb (getD m (32 * p + i) 0) 0
+    pub free : e .given ≡ 0 → t .opened p i ≡ not (markOf m (32 * p + i))
     pub given : (e .given ≡ 0 → ⊥) → child (t .k) p (e .given) ≡ true
 
   pub one-says : (i : ℕ) (e : Entry) → entryRight t m p i ≡ true → t .k .slot p i ≡ some e → EntrySays i e

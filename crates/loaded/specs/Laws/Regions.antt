@@ -41,11 +41,9 @@ module _ (m : ℕ) (x : Region) where
   unfolding slotNoted
   noted-none q = rw q refl
 
-  pub noted-loaded : x .loaded ≡ true → x .slot .0 < 32 → bitOr m (1 * 2 ^ x .slot .0 % 2 ^ 32) ≡ slotNoted m x
+  pub noted-loaded : {r : ℕ} → x .loaded ≡ true → r ≡ bitOr m (2 ^ x .slot .0) → r ≡ slotNoted m x
   unfolding slotNoted
-  noted-loaded q h =
-      let e : 1 * 2 ^ x .slot .0 ≡ 2 ^ x .slot .0 = omega arith in
-      rw q (ap (bitOr m) (shl-exact 1 (x .slot .0) 32 (omega arith) (omega arith) ∙ e))
+  noted-loaded q e = rw q e
 
 names-noted : (m : ℕ) (x : Region) (i : ℕ) → names (slotNoted m x) i ≡ names m i || not (other i x)
 unfolding slotNoted other when named

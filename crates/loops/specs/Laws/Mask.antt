@@ -7,7 +7,7 @@ use native.Mathlib.Nat.{pow-suc}
 use native.Mathlib.Omega.{arith}
 use lib.Dec.{eqb}
 use lib.Bits.{bitAnd, bitOr, bitXor, or-shr, or-mod, and-shr, and-mod, xor-shr, xor-mod}
-use lib.Pow.{pow-add, pow-lt, pow-pos, high, shl-shr}
+use lib.Pow.{pow-add, pow-lt, pow-pos, high, shl-exact, shl-shr}
 use borrow.Author.Tests.{eq-eqb, ne-eqb}
 use Rattle.loops.specs.Loops.{bitOf, bit, names}
 use Rattle.loops.specs.Laws.Bit.{flag-bit, bit-flag}
@@ -81,3 +81,7 @@ names-one c p = said (2 ^ c) p (go (ℕ-discrete p c) (decLt p c))
         let none : (0 * 2 ^ p + 2 ^ c) / 2 ^ p ≡ 0 = high 0 p small in
         let e : 0 * 2 ^ p + 2 ^ c ≡ 2 ^ c = omega arith in
         rw (ne-eqb p c n) (ap (λ (x : ℕ). x % 2 ^ 1) (rw e at none))
+
+-- the mask with bit i, as 32 bits have it
+pub with-bit : (m i : ℕ) → i < 32 → bitOr m (1 * 2 ^ i % 2 ^ 32) ≡ bitOr m (2 ^ i)
+with-bit m i h = let e : 1 * 2 ^ i ≡ 2 ^ i = omega arith in ap (bitOr m) (shl-exact 1 i 32 (omega arith) (omega arith) ∙ e)

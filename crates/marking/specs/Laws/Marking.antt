@@ -1,11 +1,12 @@
 -- An area that finds no equal entry, or one that is marked, fails S8; the others mark one slot each.
 use mathlib.Core.Path.{_≡_, refl, ap, sym, subst, _∙_}
-use mathlib.Core.Bool.{Bool, true, false, not, _&&_, false≢true}
+use mathlib.Core.Bool.{Bool, true, false, not, _&&_, or-true, or-false, false≢true}
 use mathlib.Core.List.{List}
 use mathlib.Core.Logic.{_⊎_, inl, inr, ⊎-elim}
-use Prim.Native.Nat.{ℕ, zero, suc, _+_, _-_, _*_, _≤_, _<_}
+use Prim.Native.Nat.{ℕ, zero, suc, _+_, _-_, _*_, _/_, _%_, _^_, _≤_, _<_}
 use native.Mathlib.Decide.{ℕ-discrete, decLt}
 use native.Mathlib.Omega.{arith}
+use lib.Bits.{bitOr}
 use lib.Dec.{eqb}
 use lib.ListN.{length, getD, set, replicate, length-set, length-replicate}
 use lib.Seq.{getD-set-same, getD-set-other}
@@ -34,7 +35,9 @@ use Rattle.shape.specs.AtOnce.{Shaped}
 use Rattle.shape.specs.Laws.AtOnce.{shaped-s2, shaped-record}
 use Rattle.ordering.specs.Laws.Present.{absent-zero, solid}
 use Rattle.marking.specs.Backing.{areaBetween, backs}
-use Rattle.marking.specs.Marking.{There, MarkedTo, equalSlot, Marks, nobody, marked, before, CanMark, EachS8, MarkSays}
+use Rattle.loops.specs.Loops.{names}
+use Rattle.loops.specs.Laws.Mask.{names-none, names-or, names-one}
+use Rattle.marking.specs.Marking.{markOf, There, MarkedTo, equalSlot, Marks, nobody, marked, before, CanMark, EachS8, MarkSays}
 
 -- what passes backs
 backs-says : (k : K) (q i : ℕ) (a : Area) → backs a (k .slot q i) ≡ true → (e : Entry) × (k .slot q i ≡ some e) × (e .given ≡ 0) × (e .start ≡ a .lo) × (e .stop ≡ a .hi)
@@ -62,13 +65,13 @@ apart-both l s p j q i a b n u v x y = go (decLt q p)
     go (no z) = s p (area-bounds l p j a u .0) .apart j q i a b n (omega arith) u v x y
 
 module _ {k : K} where
-  mark-start : {m : List ℕ} → length m ≡ 512 → ((x : ℕ) → getD m x 0 ≡ 0) → MarkedTo k 0 m
+  mark-start : {m : List ℕ} → length m ≡ 16 → ((x : ℕ) → markOf m x ≡ false) → MarkedTo k 0 m
   mark-start size zeros = record {
     size = size;
     at = λ n. 0;
     equal = λ p j a h. absurd (omega (arith, h .below));
     hit = λ p j a h. absurd (omega (arith, h .below));
-    back = λ x n. absurd (n (zeros x));
+    back = λ x n. absurd (false≢true (sym (zeros x) ∙ n));
     once = λ p j q i a b h. absurd (omega (arith, h .below));
   }
 
@@ -105,9 +108,9 @@ module _ {k : K} where
   -- area n is there, and equals the entry in slot x
   module _ {n p j : ℕ} {a : Area} {m : List ℕ} (inv : MarkedTo k n m) (is : 5 * p + j ≡ n) (h : There k (n + 1) p j a) {x : ℕ} (e : EqualAt k p j a x) where
     -- .. which nobody has marked
-    pub mark-on : getD m x 0 ≡ 0 → x < 512 → MarkedTo k (n + 1) (set m x 1)
-    mark-on unmarked room = record {
-      size = length-set m x 1 ∙ inv .size;
+    pub mark-on : {m′ : List ℕ} → markOf m x ≡ false → length m′ ≡ 16 → markOf m′ x ≡ true → ((y : ℕ) → (y ≡ x → ⊥) → markOf m′ y ≡ markOf m y) → MarkedTo k (n + 1) m′
+    mark-on {m′} unmarked size put kept = record {
+      size = size;
       at = at;
       equal = λ q i b g. equal q i b g (ℕ-discrete (5 * q + i) n);
       hit = λ q i b g. hit q i b g (ℕ-discrete (5 * q + i) n);
@@ -139,12 +142,6 @@ module _ {k : K} where
         down : {q i : ℕ} {b : Area} → There k (n + 1) q i b → (5 * q + i ≡ n → ⊥) → There k n q i b
         down g c = record { few = g .few; below = omega (arith, g .below); area = g .area; other = g .other }
 
-        kept : (y : ℕ) → (y ≡ x → ⊥) → getD (set m x 1) y 0 ≡ getD m y 0
-        kept y c = getD-set-other m x y 1 0 c
-
-        put : getD (set m x 1) x 0 ≡ 1
-        put = getD-set-same m x 1 0 (omega (arith, inv .size))
-
         equal : (q i : ℕ) (b : Area) → There k (n + 1) q i b → Dec (5 * q + i ≡ n) → EqualAt k q i b (at (5 * q + i))
         equal q i b g (yes z) =
             let (s, t) = number-one (g .few) (h .few) (z ∙ sym is) in
@@ -152,26 +149,23 @@ module _ {k : K} where
             rw (at-here (5 * q + i) z, s, t, ← v) e
         equal q i b g (no z) = rw (at-other (5 * q + i) z) (inv .equal q i b (down g z))
 
-        hit : (q i : ℕ) (b : Area) → There k (n + 1) q i b → Dec (5 * q + i ≡ n) → getD (set m x 1) (at (5 * q + i)) 0 ≡ 0 → ⊥
-        hit q i b g (yes z) w = omega (arith, put, sym (ap (λ (y : ℕ). getD (set m x 1) y 0) (at-here (5 * q + i) z)) ∙ w)
-        hit q i b g (no z) w = go (ℕ-discrete (inv .at (5 * q + i)) x)
+        hit : (q i : ℕ) (b : Area) → There k (n + 1) q i b → Dec (5 * q + i ≡ n) → markOf m′ (at (5 * q + i)) ≡ true
+        hit q i b g (yes z) = ap (markOf m′) (at-here (5 * q + i) z) ∙ put
+        hit q i b g (no z) = ap (markOf m′) (at-other (5 * q + i) z) ∙ go (ℕ-discrete (inv .at (5 * q + i)) x)
           where
-            v : getD (set m x 1) (inv .at (5 * q + i)) 0 ≡ 0
-            v = rw (at-other (5 * q + i) z) at w
+            go : Dec (inv .at (5 * q + i) ≡ x) → markOf m′ (inv .at (5 * q + i)) ≡ true
+            go (yes c) = ap (markOf m′) c ∙ put
+            go (no c) = kept _ c ∙ inv .hit q i b (down g z)
 
-            go : Dec (inv .at (5 * q + i) ≡ x) → ⊥
-            go (yes c) = omega (arith, put, sym (ap (λ (y : ℕ). getD (set m x 1) y 0) c) ∙ v)
-            go (no c) = inv .hit q i b (down g z) (sym (kept _ c) ∙ v)
-
-        back : (y : ℕ) → (getD (set m x 1) y 0 ≡ 0 → ⊥) → Dec (y ≡ x) → (q i : ℕ) × (b : Area) × There k (n + 1) q i b × (at (5 * q + i) ≡ y)
+        back : (y : ℕ) → markOf m′ y ≡ true → Dec (y ≡ x) → (q i : ℕ) × (b : Area) × There k (n + 1) q i b × (at (5 * q + i) ≡ y)
         back y c (yes z) = (p, j, a, h, at-here (5 * p + j) is ∙ sym z)
         back y c (no z) =
-            let (q, i, b, g, w) = inv .back y (λ v. c (kept y z ∙ v)) in
+            let (q, i, b, g, w) = inv .back y (sym (kept y z) ∙ c) in
             (q, i, b, record { few = g .few; below = omega (arith, g .below); area = g .area; other = g .other }, at-other (5 * q + i) (λ v. omega (arith, g .below)) ∙ w)
 
         -- nobody before had slot x
         fresh : (q i : ℕ) (b : Area) → There k n q i b → inv .at (5 * q + i) ≡ x → ⊥
-        fresh q i b g z = inv .hit q i b g (rw z unmarked)
+        fresh q i b g z = false≢true (sym unmarked ∙ ap (markOf m) (sym z) ∙ inv .hit q i b g)
 
         once : (q i r o : ℕ) (b c : Area) → There k (n + 1) q i b → There k (n + 1) r o c → Dec (5 * q + i ≡ n) → Dec (5 * r + o ≡ n) → at (5 * q + i) ≡ at (5 * r + o) → 5 * q + i ≡ 5 * r + o
         once q i r o b c g f (yes z) (yes y) w = z ∙ sym y
@@ -180,7 +174,7 @@ module _ {k : K} where
         once q i r o b c g f (no z) (no y) w = inv .once q i r o b c (down g z) (down f y) (sym (at-other _ z) ∙ w ∙ at-other _ y)
 
     -- .. which another has marked: both have the entry's first line
-    pub mark-twice : ((q i : ℕ) (f : Entry) → k .slot q i ≡ some f → f .start < f .stop) → (getD m x 0 ≡ 0 → ⊥)
+    pub mark-twice : ((q i : ℕ) (f : Entry) → k .slot q i ≡ some f → f .start < f .stop) → markOf m x ≡ true
         → (s8 : (q i r o : ℕ) (b c : Area) (l : ℕ) → k .area q i ≡ some b → k .area r o ≡ some c → InA l b → InA l c → (q ≡ r) × (i ≡ o)) → ⊥
     mark-twice lines taken apart =
         let (q, i, b, g, z) = inv .back x taken in
@@ -194,14 +188,12 @@ module _ {k : K} where
         omega (arith, g .below)
 
   -- ── all have marked ──
-  pub all-marked : {m : List ℕ} → ((p j : ℕ) (a : Area) → k .area p j ≡ some a → (p < 16) × (j < 5)) → MarkedTo k 80 m → MarkedOnce k (λ x. not (eqb (getD m x 0) 0))
+  pub all-marked : {m : List ℕ} → ((p j : ℕ) (a : Area) → k .area p j ≡ some a → (p < 16) × (j < 5)) → MarkedTo k 80 m → MarkedOnce k (markOf m)
   all-marked {m} range inv = record {
     at = λ p j. inv .at (5 * p + j);
     equal = λ p j a u n. inv .equal p j a (there p j a u n);
-    hit = λ p j a u n. rw (ne-eqb _ 0 (inv .hit p j a (there p j a u n))) refl;
-    back = λ x w.
-        let (p, j, a, h, z) = inv .back x (λ q. false≢true (sym (rw (eq-eqb _ 0 q) refl) ∙ w)) in
-        (p, j, a, h .area, h .other, z);
+    hit = λ p j a u n. inv .hit p j a (there p j a u n);
+    back = λ x w. let (p, j, a, h, z) = inv .back x w in (p, j, a, h .area, h .other, z);
     once = λ p j q i a b u n v o z.
         let h = there p j a u n in
         let g = there q i b v o in
@@ -217,8 +209,36 @@ zeros zero x = refl
 zeros (suc n) zero = refl
 zeros (suc n) (suc x) = zeros n x
 
-pub no-marks : {k : K} → MarkedTo k 0 (replicate 512 0)
-no-marks = mark-start (length-replicate {A = ℕ} 512 0) (zeros 512)
+pub no-marks : {k : K} → MarkedTo k 0 (replicate 16 0)
+unfolding markOf
+no-marks = mark-start (length-replicate {A = ℕ} 16 0) (λ x. rw (zeros 16 (x / 32)) (names-none (x % 32)))
+
+-- ── the mask of q with slot i ──
+mark-at : (m : List ℕ) (q i : ℕ) → i < 32 → markOf m (32 * q + i) ≡ names (getD m q 0) i
+unfolding markOf
+mark-at m q i c =
+    let a : (32 * q + i) / 32 ≡ q = omega arith in
+    let b : (32 * q + i) % 32 ≡ i = omega arith in
+    rw (a, b) refl
+
+-- .. as the code tells it
+pub mark-tells : (m : List ℕ) (q i : ℕ) {r x : Bool} → i < 32 → r ≡ names (getD m q 0) i → r ≡ x → markOf m (32 * q + i) ≡ x
+mark-tells m q i c e z = mark-at m q i c ∙ sym e ∙ z
+
+module _ (m : List ℕ) (q i : ℕ) (few : i < 32) where
+  abbrev with-mark : List ℕ
+  with-mark = set m q (bitOr (getD m q 0) (2 ^ i))
+
+  mark-put : q < length m → markOf with-mark (32 * q + i) ≡ true
+  mark-put b = mark-at with-mark q i few ∙ rw (getD-set-same m q (bitOr (getD m q 0) (2 ^ i)) 0 b) (names-or (getD m q 0) (2 ^ i) i ∙ rw (names-one i i, eq-eqb i i refl) (or-true (names (getD m q 0) i)))
+
+  mark-kept : q < length m → (y : ℕ) → (y ≡ 32 * q + i → ⊥) → markOf with-mark y ≡ markOf m y
+  unfolding markOf
+  mark-kept b y n = go (ℕ-discrete (y / 32) q)
+    where
+      go : Dec (y / 32 ≡ q) → markOf with-mark y ≡ markOf m y
+      go (yes z) = rw (z, getD-set-same m q (bitOr (getD m q 0) (2 ^ i)) 0 b) (names-or (getD m q 0) (2 ^ i) (y % 32) ∙ rw (names-one i (y % 32), ne-eqb (y % 32) i (λ w. n (omega arith))) (or-false (names (getD m q 0) (y % 32))))
+      go (no z) = rw (getD-set-other m q (y / 32) (bitOr (getD m q 0) (2 ^ i)) 0 z) refl
 
 -- ── what a step says ──
 pub all-on : {k : K} {n : ℕ} {m : List ℕ} → MarkedTo k n m → MarkSays k n true m
@@ -275,8 +295,9 @@ module _ (l : List ℕ) (shaped : Shaped l) where
 
       pub says-found : {q r : ℕ} {m′ : List ℕ} → q < 16 → (q ≡ k .parent p) ⊎ ((q ≡ p) × (0 < j)) → Marks k q a m r m′ → (r ≡ 0 → ⊥) → MarkSays k (5 * p + (j + 1)) (eqb r 1) m′
       says-found b who (nobody z _ _) found = absurd (found z)
-      says-found b who (marked i c w z free e) found =
-          rw (z, e) (all-on (next (mark-on inv refl there (equal-at c w who) free (omega arith))))
+      says-found {q} b who (marked i c w z free e) found =
+          let room : q < length m = omega (arith, inv .size) in
+          rw (z, e) (all-on (next (mark-on inv refl there (equal-at c w who) free (length-set m q (bitOr (getD m q 0) (2 ^ i)) ∙ inv .size) (mark-put m q i c room) (mark-kept m q i c room))))
       says-found b who (before i c w z taken e) found = rw z (record {
         on = λ q. absurd (false≢true q);
         off = λ _ s8. mark-twice inv refl there (equal-at c w who) lines taken (apart-both l s8);

@@ -10,5 +10,5 @@ noted-spec =
     tie.close
     (tie.spec
     (λ c. noted-none _ _ (not-true _ (c .if1 .taken)))
-    (λ c. search needs)
-    (λ c. noted-loaded _ _ (not-false _ (c .before .if1 .left)) (c .before .before .before .pre)))
+    (λ c κs. c .before .before .pre)
+    (λ c. noted-loaded _ _ (not-false _ (c .before .if1 .left)) (c .with-slot .ensures)))

@@ -15,6 +15,6 @@ region-weight-spec =
     (λ c κs. search needs)
     (λ c. (weight-closed _ _ _ _ _ (not-false _ (c .before .before .if1 .left)) (sym (c .before .is-open .ensures) ∙ not-true _ (c .if2 .taken)), omega arith))
     (λ c κs. search needs)
-    (λ c. (weight-again _ _ _ _ _ (not-false _ (c .before .before .before .before .if1 .left)) (sym (c .before .before .before .is-open .ensures) ∙ not-false _ (c .before .before .if2 .left)) (sym (c .before .is-marked .ensures) ∙ c .if3 .taken), omega arith))
+    (λ c. (weight-again _ _ _ _ _ (not-false _ (c .before .before .before .before .if1 .left)) (sym (c .before .before .before .is-open .ensures) ∙ not-false _ (c .before .before .if2 .left)) (sym (c .before .has-slot .ensures) ∙ c .if3 .taken), omega arith))
     (λ c κs. search needs)
-    (λ c. (weight-pieces _ _ _ _ _ (not-false _ (c .before .before .before .before .before .if1 .left)) (sym (c .before .before .before .before .is-open .ensures) ∙ not-false _ (c .before .before .before .if2 .left)) (sym (c .before .before .is-marked .ensures) ∙ c .before .if3 .left) (c .entry-pieces .ensures .0), c .entry-pieces .ensures .1)))
+    (λ c. (weight-pieces _ _ _ _ _ (not-false _ (c .before .before .before .before .before .if1 .left)) (sym (c .before .before .before .before .is-open .ensures) ∙ not-false _ (c .before .before .before .if2 .left)) (sym (c .before .before .has-slot .ensures) ∙ c .before .if3 .left) (c .entry-pieces .ensures .0), c .entry-pieces .ensures .1)))
