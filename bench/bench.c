@@ -313,6 +313,7 @@ static void sheet_rows(void)
     undone_row("switch to a child and back, typical", ulavrepit_switch(1), ulavrepit_switch(0));
     undone_row("cut and merge, typical", ulavrepit_cut(10, 8000), ulavrepit_merge(10, 11));
     undone_row("give and take, typical", ulavrepit_give(1, 10, ULAVREPIT_READ), ulavrepit_take(10));
+    undone_row("create and delete, typical", ulavrepit_create(10), ulavrepit_delete(6));
 
     must(make_densest(one, table), "the densest table");
     job deep = {"find, densest", {ulavrepit_find(15, 65535), ulavrepit_find(15, 65535)}, 0, ULAVREPIT_DONE};

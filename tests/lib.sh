@@ -98,13 +98,19 @@ kit_bin() { printf '%s\n' "$(kit_home)/on/$(uname -m)/toolchain/bin"; }
 
 run_x86() {
     case $(uname -m) in
-    x86_64) "$@" ;;
+    x86_64)
+        case ${AS_IF_EMULATED:-1} in
+        1) "$@" ;;
+        *) "$AS_IF_EMULATED" "$@" ;;
+        esac
+        ;;
     aarch64) "$(kit_bin)/qemu-x86_64" "$@" ;;
     *) echo "no x86-64 emulator is known for $(uname -m)" >&2; return 1 ;;
     esac
 }
 
-# AS_IF_EMULATED=1 says so on x86-64 too, to try there what is done then.
+# AS_IF_EMULATED=1 says so on x86-64 too, to try there what is done then; the name of an emulator in place of 1: and such programs run
+# in it, so that it takes about as long.
 is_emulated() { [ "$(uname -m)" != x86_64 ] || [ -n "${AS_IF_EMULATED:-}" ]; }
 
 compiler=target_cc library=build/libulavrepit.a runner=run_x86

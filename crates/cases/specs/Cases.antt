@@ -115,8 +115,8 @@ unfoldable pub session : List ℕ × List ℕ
 session = run B calls
 
 -- ── X: that table, part by part ──
-abbrev pub piece : ℕ → ℕ → ℕ → Opt Entry
-piece start stop given = some (entry start stop given allRights false)
+abbrev pub blockOf : ℕ → ℕ → ℕ → Opt Entry
+blockOf start stop given = some (entry start stop given allRights false)
 
 abbrev pub area : ℕ → ℕ → Opt Area
 area lo hi = some (record { lo = lo; hi = hi })
@@ -137,7 +137,7 @@ X = encode (settle (record {
   parent = λ p. 0;
   area = rows (area 0 0 ∷ area 0 0 ∷ []) (area 256 272 ∷ area 272 288 ∷ []) [] [];
   slot =
-      rows (piece 256 272 0 ∷ piece 512 1024 0 ∷ piece 272 288 0 ∷ piece 288 512 1 ∷ [])
+      rows (blockOf 256 272 0 ∷ blockOf 512 1024 0 ∷ blockOf 272 288 0 ∷ blockOf 288 512 1 ∷ [])
       (some (entry 288 512 0 (record { read = true; write = true; execute = false }) false) ∷ []) [] [];
 }) (rows [] [] [] []))
 

@@ -9,12 +9,12 @@ use Rattle.tables.specs.State.{Entry, Table}
 use Rattle.tables.specs.Search.{present, child}
 use Rattle.sound.specs.Clauses.{when, undivided, s10, s11}
 use Rattle.decide.specs.Entries.{exactly}
-use Rattle.marking.specs.Marking.{markOf}
+use Rattle.marking.specs.Marking.{slotMarked}
 
 -- slot i of p is given to a child of p; or to nobody, and then it is open exactly if no area marked it; a whole one is undivided
 unfoldable pub entryRight : Table → List ℕ → ℕ → ℕ → Bool
 entryRight t m p i =
-    when (λ e. (not (e .whole) || undivided (t .k) p (t .opened p i) e) && cond (eqb (e .given) 0) (Bool·beq (t .opened p i) (not (markOf m (32 * p + i)))) (child (t .k) p (e .given)))
+    when (λ e. (not (e .whole) || undivided (t .k) p (t .opened p i) e) && cond (eqb (e .given) 0) (Bool·beq (t .opened p i) (not (slotMarked m (32 * p + i)))) (child (t .k) p (e .given)))
     (t .k .slot p i)
 
 -- the entries of p that lie inside f are open

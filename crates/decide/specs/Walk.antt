@@ -40,14 +40,14 @@ pub record Walked (l o : List ℕ) (p q n m i j : ℕ) : Type 0 where
 
 -- ── the walk, at place j of q ──
 -- how many places of r are behind it; c has how many there are
-unfoldable pub behind : List ℕ → ℕ → ℕ → ℕ → ℕ
-behind c q j r = cond (ltb r q) (getD c r 0) (cond (eqb r q) j 0)
+unfoldable pub placesBehind : List ℕ → ℕ → ℕ → ℕ → ℕ
+placesBehind c q j r = cond (ltb r q) (getD c r 0) (cond (eqb r q) j 0)
 
 -- the entries behind it are right by themselves; x has the place of each child
 pub record WalkedTo (l o c m : List ℕ) (q j : ℕ) (x : List ℕ) : Type 0 where
   pub size : length x ≡ 16
-  pub right : (r : ℕ) → r < 16 → present (view l .k) r ≡ true → (a : ℕ) → a < behind c q j r → entryRight (view l) m r (placed o r a) ≡ true
-  pub tiled : (p r : ℕ) → p < 16 → present (view l .k) p ≡ true → (p ≡ 0 → ⊥) → view l .k .parent p ≡ r → Walked l o p r (getD c p 0) (getD c r 0) (getD x p 0) (behind c q j r)
+  pub right : (r : ℕ) → r < 16 → present (view l .k) r ≡ true → (a : ℕ) → a < placesBehind c q j r → entryRight (view l) m r (placed o r a) ≡ true
+  pub tiled : (p r : ℕ) → p < 16 → present (view l .k) p ≡ true → (p ≡ 0 → ⊥) → view l .k .parent p ≡ r → Walked l o p r (getD c p 0) (getD c r 0) (getD x p 0) (placesBehind c q j r)
 
 -- place j of q is the next that it looks at
 pub record CanStep (l o c m : List ℕ) (q j : ℕ) (x : List ℕ) : Type 0 where

@@ -47,7 +47,7 @@ fn shapes_sound(t: &[u64; 641], top: u32) -> bool
     true
 }
 
-// S7 at p, which is present, but for what it says of given and whole entries, S11, and the open bits of what p was given: the walk has left none of its entries over
+// The walk has left no entry of p over; the root was given nothing.
 fn none_left(p: Partition, counts: &[u32; 16], next: &[u32; 16]) -> bool
     requires { ⌜ (p .0 < 16) × (length (now counts) ≡ 16) × (length (now next) ≡ 16) ⌝ }
     ensures { λ r. ⌜ r ≡ noneLeft (now (counts .entry)) (now (next .entry)) (p .0) ⌝ }
@@ -59,7 +59,7 @@ fn none_left(p: Partition, counts: &[u32; 16], next: &[u32; 16]) -> bool
     next[k] == counts[k]
 }
 
-// what is told of p once the walk has ended: that, and S10
+// what the walk leaves to tell of p: that, and S10
 fn partition_sound(
     board: Board,
     t: &[u64; 641],

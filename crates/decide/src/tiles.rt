@@ -8,17 +8,19 @@ ghost use Rattle.tables.specs.Search.{present};
 ghost use Rattle.sound.specs.Clauses.{within, sameRights, s11};
 ghost use Rattle.shape.specs.AtOnce.{Shaped};
 ghost use Rattle.decide.specs.Entries.{exactly};
-ghost use Rattle.ordering.specs.Order.{placed, Orders};
+ghost use Rattle.ordering.specs.Order.{Orders};
 ghost use Rattle.decide.specs.Local.{grantsOpen};
 ghost use Rattle.decide.specs.Tiles.{rightsNumber, follows, rowOf, openedBit, plainRow, InOrder, ChildOf, Filled, Tiled, TiledAs, TiledSlot};
 use crate::entries::full_each;
 use ordering::order::entry_at;
+use ordering::order::slot_at;
 use tables::read;
 use words::Line;
 use words::Partition;
 use words::Rights;
 use words::Slot;
 
+// a flag as a bit
 fn bit(b: bool) -> u32
     ensures { λ r. ⌜ (r ≡ bitOf b) × (r ≤ 1) ⌝ }
 {
@@ -101,15 +103,6 @@ fn tile(
         return 33;
     }
     k
-}
-
-// the slot at place a of p
-pub fn slot_at(p: Partition, order: &[u8; 512], a: u32) -> Slot
-    requires { ⌜ (p .0 < 16) × (a < 32) × (placed (now order) (p .0) a < 32) ⌝ }
-    ensures { λ r. ⌜ r .0 ≡ placed (now (order .entry)) (p .0) a ⌝ }
-{
-    let at = (32 * p.0 + a) as usize;
-    Slot(order[at] as u32)
 }
 
 // .. the entry in slot j of q. It is read here, where the compiler needs nothing of it in memory.

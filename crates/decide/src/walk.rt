@@ -7,8 +7,8 @@ ghost use Rattle.tables.specs.Top.{Top};
 ghost use Rattle.decide.specs.Decide.{CanDecide};
 ghost use Rattle.decide.specs.Walk.{WalkedTo, CanStep, WalkSays};
 use crate::entries::entry_right;
-use crate::tiles::slot_at;
 use crate::tiles::tile_slot;
+use ordering::order::slot_at;
 use tables::read;
 use words::Partition;
 

@@ -1,5 +1,5 @@
 ghost use mathlib.Core.Path.{_≡_};
-ghost use lib.ListN.{length, replicate};
+ghost use lib.ListN.{replicate};
 ghost use Rattle.face.specs.Face.{resultOf};
 ghost use Rattle.face.specs.Lists.{Small, readyOf, leftOf, PiecesLent};
 use shapes::Board;

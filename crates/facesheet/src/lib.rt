@@ -9,7 +9,7 @@ ghost use Rattle.sheet.specs.Touched.{Named, sheetKept};
 ghost use Rattle.facesheet.specs.Sheets.{BootSheetLent, CallSheetLent};
 use face::packed;
 use shapes::Board;
-use sheet::Whose;
+use sheet::calls::Whose;
 use tables::Outcome;
 use words::Partition;
 
@@ -46,7 +46,7 @@ fn store_both(t: &[u64; 641], stands: bool, x: Whose, table: &mut [u8], sheet: &
         return;
     }
     memory::store(t, table);
-    sheet::keep_sheet(t, x, sheet);
+    sheet::kept::keep_sheet(t, x, sheet);
 }
 
 // A call: 1 first, then 20 where the sheet is not the table's, then as `call_bytes`.
@@ -71,7 +71,7 @@ pub fn call_sheet_bytes(
         let first = tables::read::first(&a);
         return packed(20, first.current, 0);
     }
-    let touched = sheet::touched(&a, word);
+    let touched = sheet::calls::touched(&a, word);
     let answer = calls::serve_word(board, &mut a, word);
     let caller = answer.caller;
     let stands = answer.stands;

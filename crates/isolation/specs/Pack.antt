@@ -3,12 +3,8 @@ use mathlib.Core.Path.{_≡_}
 use mathlib.Core.List.{List, [], _∷_, _++_}
 use Prim.Native.Nat.{ℕ, zero, suc, _≤_, _<_}
 use Rattle.tables.specs.State.{Opt, none, some, Entry, Table}
-use Rattle.tables.specs.Settle.{settle}
 use Rattle.sound.specs.Holders.{holdersOf, looksOf}
-use Rattle.rules.specs.Pack.{packed}
-use Rattle.rules.specs.Rules.{packK, packRegion}
-use Rattle.isolation.specs.Ladder.{Ladder, finish, must}
-use Rattle.isolation.specs.Ladders.{OwnOrChild, FreeSlot}
+use Rattle.isolation.specs.Ladders.{FreeSlot}
 
 -- ── what pack leaves ──
 -- the entry of a slot, if it has one

@@ -12,7 +12,7 @@ use Rattle.tables.specs.State.{Opt, none, some, Entry, entry, allRights}
 use Rattle.tables.specs.View.{slotWordAt}
 use Rattle.tables.specs.Encode.{encode}
 use Rattle.tables.specs.Settle.{settle}
-use Rattle.cases.specs.Cases.{Case, computed, expected, word, gives, refuses, run, B, X, piece, area, rows, equal, right, right-says, computes}
+use Rattle.cases.specs.Cases.{Case, computed, expected, word, gives, refuses, run, B, X, blockOf, area, rows, equal, right, right-says, computes}
 
 -- the word of service 9 with these fields: P, S, T, R as a number
 abbrev pub word9 : ℕ → ℕ → ℕ → ℕ → ℕ
@@ -27,8 +27,8 @@ D = encode (settle (record {
   parent = λ p. getD (0 ∷ 0 ∷ 1 ∷ 2 ∷ []) p 0;
   area = rows (area 0 0 ∷ area 0 0 ∷ []) (area 256 272 ∷ area 272 288 ∷ []) (area 288 304 ∷ area 304 320 ∷ []) (area 320 336 ∷ []);
   slot =
-      rows (piece 256 272 0 ∷ piece 512 1024 0 ∷ piece 272 288 0 ∷ piece 288 512 1 ∷ []) (piece 288 304 0 ∷ piece 304 320 0 ∷ piece 320 512 2 ∷ [])
-      (piece 320 336 0 ∷ piece 336 512 0 ∷ []) [];
+      rows (blockOf 256 272 0 ∷ blockOf 512 1024 0 ∷ blockOf 272 288 0 ∷ blockOf 288 512 1 ∷ []) (blockOf 288 304 0 ∷ blockOf 304 320 0 ∷ blockOf 320 512 2 ∷ [])
+      (blockOf 320 336 0 ∷ blockOf 336 512 0 ∷ []) [];
 }) (rows [] [] (some 1 ∷ []) []))
 
 -- ── A: the root alone, with the session's cuts ──
@@ -51,7 +51,7 @@ story slots regions = encode (settle (record {
   current = 0;
   parent = λ p. 0;
   area = rows (area 0 0 ∷ area 0 0 ∷ []) (area 256 272 ∷ area 272 288 ∷ area 288 304 ∷ area 304 320 ∷ area 320 336 ∷ []) [] [];
-  slot = λ p. cond (eqb p 1) slots (rows (piece 256 272 0 ∷ piece 272 288 0 ∷ piece 288 304 0 ∷ piece 304 320 0 ∷ piece 320 336 0 ∷ piece 336 512 1 ∷ piece 512 1024 0 ∷ []) [] [] [] p);
+  slot = λ p. cond (eqb p 1) slots (rows (blockOf 256 272 0 ∷ blockOf 272 288 0 ∷ blockOf 288 304 0 ∷ blockOf 304 320 0 ∷ blockOf 320 336 0 ∷ blockOf 336 512 1 ∷ blockOf 512 1024 0 ∷ []) [] [] [] p);
 }) (λ p. cond (eqb p 1) regions (λ r. none)))
 
 -- in slots 3, 12, 17 and 30; regions 0 and 2 name the last two

@@ -16,8 +16,8 @@ use Rattle.memory.specs.Bytes.{wordAt, byteOf}
 use Rattle.rules.specs.Rules.{branch}
 use Rattle.sheet.specs.Sheet.{occupied, structured, linesWord, sheetOf}
 use Rattle.sheet.specs.Bytes.{pairPut}
-use Rattle.sheet.specs.declared.Whose.{Whose}
-use Rattle.sheet.specs.declared.Whose.the-variants.{Nobody, One, Up, Gone}
+use Rattle.sheet.specs.declared.calls.Whose.{Whose}
+use Rattle.sheet.specs.declared.calls.Whose.the-variants.{Nobody, One, Up, Gone}
 
 -- ── whose ──
 -- the partition that what a slot holds is given to
@@ -59,11 +59,11 @@ pub record Named (x : Whose) : Type 0 where
 unfoldable pub above : K → ℕ → ℕ → Bool
 above k p q = eqb q 0 || branch (k .parent) q p
 
-unfoldable pub among : Whose → K → ℕ → Bool
-among Nobody k q = false
-among (One p) k q = eqb q (p .0)
-among (Up p) k q = above k (p .0) q
-among Gone k q = absent k q || above k (k .current) q
+unfoldable pub touches : Whose → K → ℕ → Bool
+touches Nobody k q = false
+touches (One p) k q = eqb q (p .0)
+touches (Up p) k q = above k (p .0) q
+touches Gone k q = absent k q || above k (k .current) q
 
 -- ── how ──
 -- the first word of p with c for the mask of its children
@@ -82,5 +82,5 @@ putThose m t s = tab 256 (λ n. cond (m (n / 16)) (byteOf (sheetOf t) n) (getD s
 unfoldable pub sheetKept : Whose → Table → List ℕ → List ℕ
 sheetKept Nobody t s = s
 sheetKept (One p) t s = keptPair t (p .0) s
-sheetKept (Up p) t s = putThose (among (Up p) (t .k)) t s
-sheetKept Gone t s = putThose (among Gone (t .k)) t s
+sheetKept (Up p) t s = putThose (touches (Up p) (t .k)) t s
+sheetKept Gone t s = putThose (touches Gone (t .k)) t s

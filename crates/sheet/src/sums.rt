@@ -1,6 +1,6 @@
 ghost use mathlib.Core.Path.{_≡_};
 ghost use mathlib.Core.Bool.{true, cond};
-ghost use Prim.Native.Nat.{_-_, _+_, _*_, _≤_, _<_};
+ghost use Prim.Native.Nat.{_-_, _+_, _*_, _<_};
 ghost use Rattle.tables.specs.View.{view, entryIn};
 ghost use Rattle.sound.specs.Whole.{Right};
 ghost use Rattle.sheet.specs.Sheet.{numberOfLines};

@@ -4,8 +4,7 @@ use mathlib.Core.Path.{_≡_, refl, sym, _∙_}
 use mathlib.Core.Bool.{cond}
 use mathlib.Core.Logic.{_⊎_, inl, inr, _↔_}
 use mathlib.Core.List.{List}
-use Prim.Native.Nat.{ℕ, _+_, _*_, _/_, _%_}
-use native.Mathlib.Omega.{arith}
+use Prim.Native.Nat.{ℕ, _+_, _/_, _%_}
 use native.Mathlib.Decide.{ℕ-discrete}
 use lib.Dec.{eqb}
 use lib.ListN.{length}
@@ -20,7 +19,6 @@ use Rattle.memory.specs.Laws.ByteTrips.{length-wordsOf}
 use Rattle.sound.specs.Sound.{Sound}
 use Rattle.rules.specs.Rules.{done, bootOn}
 use Rattle.isolation.specs.Whole.{afterAll, after-sound, from-boot-sound}
-use Rattle.verdict.specs.declared.Verdict.{Verdict}
 use Rattle.verdict.specs.declared.Verdict.the-variants.{Accepted, Fails, Length}
 use Rattle.verdict.specs.Verdict.{failsAt, failing, verdict, imageVerdict, Names, ClauseNamed}
 use Rattle.verdict.specs.Laws.Names.{accepted-not, length-not, length-names, fails-same, verdict-names, accepted-lower, lower-accepted}

@@ -2,7 +2,6 @@
 use mathlib.Core.Path.{sym, _∙_}
 use borrow.Author.Tests.{not-true, not-false}
 use Rattle.rules.specs.Laws.Calls.{answers-unsound}
-use borrow.Author.Needs.{needs}
 use Rattle.calls.proofs.call_table.Statement.{statement}
 use Rattle.calls.proofs.call_table.Tie as tie
 

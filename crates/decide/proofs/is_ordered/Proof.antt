@@ -1,5 +1,4 @@
 -- src/lib.rt, is_ordered: Decided board t r order′ counts′
-use mathlib.Core.Path.{refl}
 use borrow.Author.Tests.{not-false}
 use Rattle.decide.specs.Laws.Decide.{failed, passed, top-first, shaped, not-sound}
 use Rattle.decide.specs.Laws.Decided.{not-marked, decided}

@@ -1,6 +1,5 @@
 -- src/lib.rt, is_sound: r ≡ sound board t
 use mathlib.Core.Path.{refl}
-use borrow.Author.Needs.{needs}
 use Rattle.decide.proofs.is_sound.Statement.{statement}
 use Rattle.decide.proofs.is_sound.Tie as tie
 

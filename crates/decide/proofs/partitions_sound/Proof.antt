@@ -3,7 +3,7 @@ use mathlib.Core.Path.{refl}
 use native.Mathlib.Omega.{arith}
 use borrow.Author.Tests.{not-false}
 use Rattle.decide.specs.Laws.Decide.{passed}
-use Rattle.decide.specs.Laws.Walk.{row-of, root-here, walk-first, walk-ended, rest-local, not-walked, not-whole}
+use Rattle.decide.specs.Laws.Walk.{row-of, root-here, walk-first, walk-ended, rest-local, not-walked, root-uncovered}
 use borrow.Author.Needs.{needs}
 use Rattle.decide.proofs.partitions_sound.Statement.{statement}
 use Rattle.decide.proofs.partitions_sound.Tie as tie
@@ -14,7 +14,7 @@ partitions-sound-spec =
     (tie.spec
     (λ c. search needs)
     (λ c κs. let h = c .before .pre .1 in (row-of h 0 (omega arith) (root-here h), refl, h .shaped))
-    (λ c. not-whole (c .before .before .before .pre .1) _ (c .before .covers-whole .ensures) (c .if1 .taken))
+    (λ c. root-uncovered (c .before .before .before .pre .1) _ (c .before .covers-whole .ensures) (c .if1 .taken))
     (λ c κs. let h = c .before .before .before .before .pre in (h .0, h .1, walk-first (h .1)))
     (λ c. not-walked (c .before .before .before .before .before .before .pre .1) _ (c .before .walk .ensures) (c .if2 .taken))
     (λ c κs.

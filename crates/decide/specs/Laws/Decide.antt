@@ -3,7 +3,7 @@ use mathlib.Core.Path.{_≡_, refl, sym, _∙_}
 use mathlib.Core.Bool.{Bool, true, false, not, _&&_, false≢true}
 use mathlib.Core.List.{List}
 use Prim.Native.Nat.{ℕ, _≤_, _<_}
-use native.Mathlib.Decide.{ℕ-discrete, decLt}
+use native.Mathlib.Decide.{decLt}
 use native.Mathlib.Omega.{arith}
 use lib.ListN.{length}
 use lib.Dec.{ltb, eqb}
@@ -13,13 +13,10 @@ use Rattle.loops.specs.Laws.Every.{all-at, all-of}
 use Rattle.shapes.specs.declared.Board.{Board}
 use Rattle.tables.specs.View.{view}
 use Rattle.tables.specs.Search.{present}
-use Rattle.tables.specs.ZeroRecord.{zeroRecord}
 use Rattle.tables.specs.Top.{Top}
 use Rattle.tables.specs.Laws.Top.{top-absent}
 use Rattle.sound.specs.Clauses.{s1, s2, s3First, s3, s4, s5, s6, s7, s9, s10, s11, sound}
 use Rattle.sound.specs.Laws.Tests.{and-says, and-true, not-says, never}
-use Rattle.sound.specs.Laws.MeansEntries.{present-means}
-use Rattle.sound.specs.Laws.MeansWords.{s2-means, s5-means}
 use Rattle.ordering.specs.Laws.Present.{absent-zero}
 use Rattle.shape.specs.Laws.Absent.{absent-s3, absent-s4, absent-s5, absent-s6, absent-s7, absent-s8, absent-s9, absent-s10, absent-s11}
 use Rattle.shape.specs.AtOnce.{restAt, shapeAt, Shaped}

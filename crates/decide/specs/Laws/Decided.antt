@@ -28,7 +28,7 @@ use Rattle.shape.specs.AtOnce.{restAt, Shaped}
 use Rattle.shape.specs.Laws.AtOnce.{areasApart, atOnce, Passes, rest-true, rest-says, sound-at-once, shaped-s2, shaped-record}
 use Rattle.decide.specs.Entries.{exactly}
 use Rattle.decide.specs.Laws.Entries.{s7-parts}
-use Rattle.marking.specs.Marking.{markOf, MarkedTo, MarkSays}
+use Rattle.marking.specs.Marking.{slotMarked, MarkedTo, MarkSays}
 use Rattle.marking.specs.Laws.Marking.{all-marked}
 use Rattle.decide.specs.Local.{localWhere}
 use Rattle.decide.specs.Laws.Granted.{five, owns, roots, here, SevenSays, given, grants, grants-open}
@@ -44,7 +44,7 @@ module _ (board : Board) {l m : List ℕ} (size : length l ≡ 641) (first : s1 
   slot-few : (p i : ℕ) (e : Entry) → k .slot p i ≡ some e → i < 32
   slot-few p i e u = slot-bounds l p i e u .1
 
-  marks : MarkedOnce k (markOf m)
+  marks : MarkedOnce k (slotMarked m)
   marks = all-marked (area-bounds l) marked
 
   -- ── they pass: the table is sound ──
@@ -67,7 +67,7 @@ module _ (board : Board) {l m : List ℕ} (size : length l ≡ 641) (first : s1 
     seven : (p : ℕ) → Present k p → SevenSays k p
     seven p a = record { children = given-each p; exact = local p a .exact }
 
-    opens : (p : ℕ) → LocalOpen (view l) (markOf m) p
+    opens : (p : ℕ) → LocalOpen (view l) (slotMarked m) p
     opens p = record {
       free = λ i e u g.
           let w = right-at p i e u .free g in
@@ -129,7 +129,7 @@ module _ (board : Board) {l m : List ℕ} (size : length l ≡ 641) (first : s1 
     nine : (p : ℕ) → S9 (view l) p
     nine p i e u = s9-of is p (slot-bounds l p i e u .0) i e u
 
-    told : (p : ℕ) → LocalOpen (view l) (markOf m) p
+    told : (p : ℕ) → LocalOpen (view l) (slotMarked m) p
     told = s9-local (core-grants (sound-core l is)) (roots shaped) slot-few marks nine
 
     entry-passes : (p i : ℕ) (e : Entry) → p < 16 → s7Whole (view l) p ≡ true → k .slot p i ≡ some e → EntrySays (view l) m p i e

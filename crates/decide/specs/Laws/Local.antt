@@ -3,7 +3,7 @@ use mathlib.Core.Path.{_≡_, refl, sym, _∙_}
 use mathlib.Core.Bool.{Bool, true, false, cond, not, _&&_, _||_, Bool·beq}
 use mathlib.Core.List.{List}
 use mathlib.Core.Logic.{_↔_}
-use Prim.Native.Nat.{ℕ, _+_, _*_, _≤_, _<_}
+use Prim.Native.Nat.{ℕ, _+_, _*_, _<_}
 use native.Mathlib.Decide.{ℕ-discrete}
 use lib.Dec.{leb, eqb}
 use borrow.Author.Tests.{eqb-true, eq-eqb, ne-eqb, leb-true, le-leb, not-true}
@@ -19,7 +19,7 @@ use Rattle.sound.specs.Clauses.{when, undivided, s10, s11}
 use Rattle.sound.specs.Laws.Tests.{and-says, and-true, then-says, then-true, every-says, every-true}
 use Rattle.sound.specs.Laws.MeansRegions.{beq-means}
 use Rattle.decide.specs.Entries.{exactly}
-use Rattle.marking.specs.Marking.{markOf}
+use Rattle.marking.specs.Marking.{slotMarked}
 use Rattle.decide.specs.Local.{entryRight, openInside, grantsOpen, localAt, localWhere, leftWhere}
 use Rattle.decide.specs.Laws.Decide.{passed}
 
@@ -102,14 +102,14 @@ module _ (b : Board) (t : Table) (m : List ℕ) (p : ℕ) where
 module _ (t : Table) (m : List ℕ) (p : ℕ) where
   -- who is given it, and its open bit; a whole one is undivided
   abbrev openTest : ℕ → Entry → Bool
-  openTest i e = cond (eqb (e .given) 0) (Bool·beq (t .opened p i) (not (markOf m (32 * p + i)))) (child (t .k) p (e .given))
+  openTest i e = cond (eqb (e .given) 0) (Bool·beq (t .opened p i) (not (slotMarked m (32 * p + i)))) (child (t .k) p (e .given))
 
   abbrev wholeTest : ℕ → Entry → Bool
   wholeTest i e = not (e .whole) || undivided (t .k) p (t .opened p i) e
 
   pub record EntrySays (i : ℕ) (e : Entry) : Type 0 where
     pub whole : not (e .whole) || undivided (t .k) p (t .opened p i) e ≡ true
-    pub free : e .given ≡ 0 → t .opened p i ≡ not (markOf m (32 * p + i))
+    pub free : e .given ≡ 0 → t .opened p i ≡ not (slotMarked m (32 * p + i))
     pub given : (e .given ≡ 0 → ⊥) → child (t .k) p (e .given) ≡ true
 
   pub one-says : (i : ℕ) (e : Entry) → entryRight t m p i ≡ true → t .k .slot p i ≡ some e → EntrySays i e

@@ -5,14 +5,14 @@ use mathlib.Core.List.{List}
 use Prim.Native.Nat.{ℕ, _+_, _≤_, _<_}
 use native.Mathlib.Decide.{ℕ-discrete, decLt}
 use native.Mathlib.Omega.{arith}
-use lib.ListN.{length, getD, set, replicate, length-set, length-replicate}
+use lib.ListN.{getD, set, replicate, length-set, length-replicate}
 use lib.Seq.{getD-set-same, getD-set-other}
 use borrow.Author.Tests.{eq-eqb, ne-eqb, lt-ltb, le-ltb, not-true}
 use Rattle.loops.specs.Loops.{all}
 use Rattle.loops.specs.Laws.Every.{all-at, all-of, bool-ext}
 use Rattle.words.specs.declared.slot_word.SlotFields.{SlotFields}
 use Rattle.shapes.specs.declared.Board.{Board}
-use Rattle.tables.specs.State.{some, Entry, K}
+use Rattle.tables.specs.State.{some, K}
 use Rattle.tables.specs.View.{view}
 use Rattle.tables.specs.Top.{Top}
 use Rattle.tables.specs.Laws.Top.{top-absent}
@@ -28,7 +28,7 @@ use Rattle.ordering.specs.Order.{placed}
 use Rattle.decide.specs.Local.{entryRight, grantsOpen, localWhere, leftWhere}
 use Rattle.decide.specs.Tiles.{rowOf, TiledSlot, InOrder, ChildOf}
 use Rattle.decide.specs.Decide.{CanDecide}
-use Rattle.decide.specs.Walk.{Walked, behind, WalkedTo, CanStep, EachRight, WalkSays, noneLeft, Ended}
+use Rattle.decide.specs.Walk.{Walked, placesBehind, WalkedTo, CanStep, EachRight, WalkSays, noneLeft, Ended}
 use Rattle.decide.specs.Laws.Decide.{failed}
 use Rattle.decide.specs.Laws.Granted.{here, roots}
 use Rattle.decide.specs.Laws.Local.{local-says, local-true, where-says, where-true, left-says, left-true, one-says, entry-true}
@@ -37,36 +37,36 @@ use Rattle.decide.specs.Laws.Tiles.{row-at, row-seen, row-every-at, walk
 
 -- ── how much is behind it ──
 module _ (c : List ℕ) (q j r : ℕ) where
-  behind-before : r < q → behind c q j r ≡ getD c r 0
-  unfolding behind
+  behind-before : r < q → placesBehind c q j r ≡ getD c r 0
+  unfolding placesBehind
   behind-before h = rw (lt-ltb r q h) refl
 
-  behind-here : r ≡ q → behind c q j r ≡ j
-  unfolding behind
+  behind-here : r ≡ q → placesBehind c q j r ≡ j
+  unfolding placesBehind
   behind-here z = rw (le-ltb r q (omega arith), eq-eqb r q z) refl
 
-  behind-after : q < r → behind c q j r ≡ 0
-  unfolding behind
+  behind-after : q < r → placesBehind c q j r ≡ 0
+  unfolding placesBehind
   behind-after h = rw (le-ltb r q (omega arith), ne-eqb r q (λ z. omega arith)) refl
 
 module _ (c : List ℕ) (q j r : ℕ) where
   -- .. elsewhere it stays
-  behind-other : (r ≡ q → ⊥) → behind c q (j + 1) r ≡ behind c q j r
+  behind-other : (r ≡ q → ⊥) → placesBehind c q (j + 1) r ≡ placesBehind c q j r
   behind-other n = go (decLt r q)
     where
-      go : Dec (r < q) → behind c q (j + 1) r ≡ behind c q j r
+      go : Dec (r < q) → placesBehind c q (j + 1) r ≡ placesBehind c q j r
       go (yes h) = behind-before c q (j + 1) r h ∙ sym (behind-before c q j r h)
       go (no h) = behind-after c q (j + 1) r (omega arith) ∙ sym (behind-after c q j r (omega arith))
 
   -- the row of q is done, or q has none
-  behind-next : (r ≡ q → j ≡ getD c q 0) → behind c (q + 1) 0 r ≡ behind c q j r
+  behind-next : (r ≡ q → j ≡ getD c q 0) → placesBehind c (q + 1) 0 r ≡ placesBehind c q j r
   behind-next e = go (decLt r q) (ℕ-discrete r q)
     where
-      after : q < r → Dec (r ≡ q + 1) → behind c (q + 1) 0 r ≡ 0
+      after : q < r → Dec (r ≡ q + 1) → placesBehind c (q + 1) 0 r ≡ 0
       after h (yes z) = behind-here c (q + 1) 0 r z
       after h (no z) = behind-after c (q + 1) 0 r (omega arith)
 
-      go : Dec (r < q) → Dec (r ≡ q) → behind c (q + 1) 0 r ≡ behind c q j r
+      go : Dec (r < q) → Dec (r ≡ q) → placesBehind c (q + 1) 0 r ≡ placesBehind c q j r
       go (yes h) _ = behind-before c (q + 1) 0 r (omega arith) ∙ sym (behind-before c q j r h)
       go (no h) (yes z) = behind-before c (q + 1) 0 r (omega arith) ∙ ap (λ (r : ℕ). getD c r 0) z ∙ sym (e z) ∙ sym (behind-here c q j r z)
       go (no h) (no z) = after (omega arith) (ℕ-discrete r (q + 1)) ∙ sym (behind-after c q j r (omega arith))
@@ -88,7 +88,7 @@ module _ {l o c m : List ℕ} (can : CanDecide l o c m) where
   row-of q b there = in-order (can .shaped) (can .orders) b there
 
   -- ── it goes on ──
-  moved : {q j q′ j′ : ℕ} {x : List ℕ} → ((r : ℕ) → r < 16 → present k r ≡ true → behind c q′ j′ r ≡ behind c q j r) → WalkedTo l o c m q j x → WalkedTo l o c m q′ j′ x
+  moved : {q j q′ j′ : ℕ} {x : List ℕ} → ((r : ℕ) → r < 16 → present k r ≡ true → placesBehind c q′ j′ r ≡ placesBehind c q j r) → WalkedTo l o c m q j x → WalkedTo l o c m q′ j′ x
   moved e inv = record {
     size = inv .size;
     right = λ r b there a h. inv .right r b there a (subst (λ (n : ℕ). a < n) (e r b there) h);
@@ -102,7 +102,7 @@ module _ {l o c m : List ℕ} (can : CanDecide l o c m) where
     tiled = λ p r b there n u. rw (zeros 16 p, nothing r (ℕ-discrete r 0)) (walk-start (kin p r b there n u));
   }
     where
-      nothing : (r : ℕ) → Dec (r ≡ 0) → behind c 0 0 r ≡ 0
+      nothing : (r : ℕ) → Dec (r ≡ 0) → placesBehind c 0 0 r ≡ 0
       nothing r (yes z) = behind-here c 0 0 r z
       nothing r (no z) = behind-after c 0 0 r (omega arith)
 
@@ -160,8 +160,8 @@ module _ {l o c m : List ℕ} (can : CanDecide l o c m) where
   pub root-here : present k 0 ≡ true
   root-here = present-means k 0 .1 (_, roots (can .shaped) .header)
 
-  pub not-whole : (board : Board) {r : Bool} → r ≡ exactly k 0 && s11 k 0 && grantsOpen (view l) 0 → not r ≡ true → false ≡ all 16 (localWhere board (view l) m)
-  not-whole board e n = never _ (λ q. failed e n (and-says (all 32 (entryRight (view l) m 0)) (exactly k 0 && s11 k 0 && grantsOpen (view l) 0) (each-right board q 0 (omega arith) root-here) .1))
+  pub root-uncovered : (board : Board) {r : Bool} → r ≡ exactly k 0 && s11 k 0 && grantsOpen (view l) 0 → not r ≡ true → false ≡ all 16 (localWhere board (view l) m)
+  root-uncovered board e n = never _ (λ q. failed e n (and-says (all 32 (entryRight (view l) m 0)) (exactly k 0 && s11 k 0 && grantsOpen (view l) 0) (each-right board q 0 (omega arith) root-here) .1))
 
 -- ── one entry: f, in slot i of q ──
 module _ {l o c m : List ℕ} {q j : ℕ} {x : List ℕ} (h : CanStep l o c m q j x) where
@@ -185,7 +185,7 @@ module _ {l o c m : List ℕ} {q j : ℕ} {x : List ℕ} (h : CanStep l o c m q 
       seen : Seen l q (placed o q j) f
       seen = subst (λ (i : ℕ). Seen l q i f) at v
 
-      rights-on : (r : ℕ) → r < 16 → present (view l .k) r ≡ true → (a : ℕ) → a < behind c q (j + 1) r → entryRight (view l) m r (placed o r a) ≡ true
+      rights-on : (r : ℕ) → r < 16 → present (view l .k) r ≡ true → (a : ℕ) → a < placesBehind c q (j + 1) r → entryRight (view l) m r (placed o r a) ≡ true
       rights-on r d t a few = go (ℕ-discrete r q) (ℕ-discrete a j)
         where
           go : Dec (r ≡ q) → Dec (a ≡ j) → entryRight (view l) m r (placed o r a) ≡ true
@@ -197,10 +197,10 @@ module _ {l o c m : List ℕ} {q j : ℕ} {x : List ℕ} (h : CanStep l o c m q 
       Reached p r a = Walked l o p r (getD c p 0) (getD c r 0) (getD x p 0) a
 
       -- who is not given it goes on as before
-      keep : (p r : ℕ) → p < 16 → present (view l .k) p ≡ true → (p ≡ 0 → ⊥) → view l .k .parent p ≡ r → (f .given .0 ≡ p → ⊥) → Reached p r (behind c q (j + 1) r)
+      keep : (p r : ℕ) → p < 16 → present (view l .k) p ≡ true → (p ≡ 0 → ⊥) → view l .k .parent p ≡ r → (f .given .0 ≡ p → ⊥) → Reached p r (placesBehind c q (j + 1) r)
       keep p r d t n u no-grant = go (ℕ-discrete r q)
         where
-          go : Dec (r ≡ q) → Reached p r (behind c q (j + 1) r)
+          go : Dec (r ≡ q) → Reached p r (placesBehind c q (j + 1) r)
           go (no z) = subst (Reached p r) (sym (behind-other c q j r z)) (h .walked .tiled p r d t n u)
           go (yes z) =
               let had : Reached p r j = subst (Reached p r) (behind-here c q j r z) (h .walked .tiled p r d t n u) in
@@ -249,7 +249,7 @@ module _ {l o c m : List ℕ} {q j : ℕ} {x : List ℕ} (h : CanStep l o c m q 
           entry-on few = record { size = length-set x d y ∙ h .walked .size; right = rights-on; tiled = λ p r b t n u. go p r b t n u (ℕ-discrete p d) }
             where
               go : (p r : ℕ) → p < 16 → present (view l .k) p ≡ true → (p ≡ 0 → ⊥) → view l .k .parent p ≡ r → Dec (p ≡ d)
-                  → Walked l o p r (getD c p 0) (getD c r 0) (getD (set x d y) p 0) (behind c q (j + 1) r)
+                  → Walked l o p r (getD c p 0) (getD c r 0) (getD (set x d y) p 0) (placesBehind c q (j + 1) r)
               go p r b t n u (no z) = rw (getD-set-other x d p y 0 z) (keep p r b t n u (λ g. z (sym g)))
               go p r b t n u (yes z) =
                   let (b′, _, u′) = given-kin in

@@ -1,6 +1,6 @@
 -- The verdict of C is met: the statement of Checks.antt, with its proof.
 use mathlib.Core.Path.{_≡_, sym, _∙_}
-use mathlib.Core.Bool.{true, false, false≢true}
+use mathlib.Core.Bool.{false≢true}
 use mathlib.Core.List.{List}
 use mathlib.Core.Logic.{_↔_}
 use Prim.Native.Nat.{ℕ}
@@ -10,10 +10,9 @@ use Rattle.shapes.specs.declared.Board.{Board}
 use Rattle.memory.specs.Bytes.{wordsOf}
 use Rattle.sound.specs.Sound.{Sound}
 use Rattle.sound.specs.Laws.List.{sound-means}
-use Rattle.face.specs.Face.{handed, CallLent}
+use Rattle.face.specs.Face.{handed}
 use Rattle.face.specs.Laws.Face.{handed-is, handed-unsound}
 use Rattle.face.specs.Laws.Check.{check-says}
-use Rattle.demands.specs.Demands.{Bytes, refusalIn}
 use Rattle.demands.specs.Laws.Calls.{handed-small, one-unsound}
 use Rattle.demands.specs.Checks.{CheckLent, CheckDemand}
 use Rattle.demands.specs.Theorem.{calls-sound}

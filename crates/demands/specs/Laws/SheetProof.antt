@@ -1,14 +1,14 @@
 -- A sheet beside the table, over bytes: what is refused 1 or 20, that all else is as without a sheet, and that the sheet goes on to be the table's.
 use mathlib.Core.Path.{_≡_, refl, ap, sym, subst, _∙_}
 use mathlib.Core.Bool.{Bool, true, false, cond, false≢true}
-use mathlib.Core.List.{List, []}
+use mathlib.Core.List.{List}
 use mathlib.Core.Logic.{_↔_}
-use Prim.Native.Nat.{ℕ, _+_, _-_, _*_, _/_, _%_, _^_, _≤_, _<_}
-use native.Mathlib.Decide.{ℕ-discrete, decLt}
+use Prim.Native.Nat.{ℕ, _+_, _-_, _*_, _^_, _<_}
+use native.Mathlib.Decide.{ℕ-discrete}
 use native.Mathlib.Omega.{arith}
 use lib.Dec.{lit<}
 use lib.ListN.{length, getD}
-use Rattle.words.specs.Kind.{fieldsIn, wordOf, reading}
+use Rattle.words.specs.Kind.{fieldsIn, reading}
 use Rattle.words.specs.Laws.Kind.{fields-back}
 use Rattle.words.specs.Words.{call, masks, lines}
 use Rattle.words.specs.declared.lines_word.LinesFields.{LinesFields}
@@ -30,7 +30,7 @@ use Rattle.sound.specs.Whole.{Right}
 use Rattle.sound.specs.Laws.List.{sound-means}
 use Rattle.sound.specs.Laws.Whole.{sound-right}
 use Rattle.sound.specs.Laws.Canonical.{sound-canon}
-use Rattle.rules.specs.Rules.{Result, done, refused, check, callOn, bootOn}
+use Rattle.rules.specs.Rules.{Result, done, refused, callOn, bootOn}
 use Rattle.rules.specs.Ran.{outcomeOf}
 use Rattle.rules.specs.Calls.{callerOf}
 use Rattle.rules.specs.Laws.Calls.{caller-small}
@@ -40,9 +40,8 @@ use Rattle.isolation.specs.Ladder.{Ladder, finish, must, there, least}
 use Rattle.isolation.specs.Ladders.{bootLadder, numberedLadder, callLadder}
 use Rattle.isolation.specs.Laws.Fits.{Good, right-fit}
 use Rattle.isolation.specs.Whole.{call-right, boot-good, afterAll}
-use Rattle.ledger.specs.Ledger.{keptOn, opening}
 use Rattle.ledger.specs.Laws.Kept.{from-boot-kept}
-use Rattle.sheet.specs.Sheet.{masksWord, linesWord, linesFor, sheetOf, matches, callSheetOn, bootSheetOn}
+use Rattle.sheet.specs.Sheet.{linesWord, linesFor, sheetOf, matches, callSheetOn, bootSheetOn}
 use Rattle.sheet.specs.Bytes.{handedSheet, sheetBytes, sheetBytesAfter}
 use Rattle.sheet.specs.Laws.Rules.{call-1, call-20, call-else, boot-1, boot-20, boot-else}
 use Rattle.sheet.specs.Laws.Held.{root-lines}
@@ -50,7 +49,7 @@ use Rattle.sheet.specs.Laws.Words.{lines-in, masks-back, lines-back, pair-absen
 use Rattle.sheet.specs.Laws.Bytes.{matches-means, matches-length, short-handed, handed-length, sheet-bytes}
 use Rattle.sheet.specs.Laws.Reading.{sheet-words, masks-read, lines-read, bytes-same}
 use Rattle.sheet.specs.Laws.Kept.{call-kept}
-use Rattle.face.specs.Face.{handed, resultPacked, resultOf, secondAfter, bytesAfter, Lent, CallLent}
+use Rattle.face.specs.Face.{handed, resultOf, secondAfter, bytesAfter, Lent, CallLent}
 use Rattle.face.specs.Laws.Face.{handed-is, handed-unsound, handed-none}
 use Rattle.facesheet.specs.Sheets.{BothLent, BootSheetLent, CallSheetLent}
 use Rattle.demands.specs.Demands.{Bytes, BootLent, refusalIn, firstIn, Accepted, Applies, fails, later, missing, of-entry, no-lowest, of-lowest}

@@ -24,8 +24,8 @@ boot-sheet-bytes-spec =
     (λ c κs.
     let told = c .before .before .before .before .before .before .before .before in
     let booted = told .before .before in
-    let room = booted .before .before in
-    (room .if2 .left, booted-right _ _ (booted .boot-table .ensures) (told .outcome .given .1)))
+    let decided = booted .before .before in
+    (decided .if2 .left, booted-right _ _ (booted .boot-table .ensures) (told .outcome .given .1)))
     (λ c κs.
     let stored = c .before .before .before .before .before .before .before in
     let told = stored .before .before .before .before in
@@ -40,7 +40,7 @@ boot-sheet-bytes-spec =
     let stored = written .before .before .before .before .before in
     let told = stored .before .before .before .before in
     let booted = told .before .before in
-    let room = booted .before .before in
-    let long = room .before in
-    boot-both _ _ _ _ (long .if1 .left) (room .if2 .left) (length-replicate {A = ℕ} 641 0) (booted .boot-table .ensures) (told .outcome .given .1) (c .packed3 .ensures) (stored .store-root .ensures) (written .write-sheet .ensures))
+    let decided = booted .before .before in
+    let begun = decided .before in
+    boot-both _ _ _ _ (begun .if1 .left) (decided .if2 .left) (length-replicate {A = ℕ} 641 0) (booted .boot-table .ensures) (told .outcome .given .1) (c .packed3 .ensures) (stored .store-root .ensures) (written .write-sheet .ensures))
     (λ c. boot-neither _ _ _ _ (c .before .before .before .before .before .before .before .if1 .left) (c .before .before .before .before .before .before .if2 .left) (length-replicate {A = ℕ} 641 0) (c .before .before .before .before .boot-table .ensures) (c .before .before .outcome2 .given .1) (c .packed4 .ensures)))

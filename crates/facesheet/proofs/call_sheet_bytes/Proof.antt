@@ -25,21 +25,21 @@ call-sheet-bytes-spec =
     (λ c κs.
     let judged = c .before .before .before in
     let loaded = judged .before .before in
-    let begun = loaded .before .before .before .before .before in
-    let small = begun .slice-known .given in
+    let lent = loaded .before .before .before .before .before in
+    let small = lent .slice-known .given in
     loaded-right _ _ (loaded .load .ensures .0) (λ i. small i .fits) (sym (judged .is-sound .ensures) ∙ not-false _ (c .before .before .if2 .left)))
     (λ c κs. search needs)
     (λ c κs. (omega arith, omega (arith, c .first .ensures .current-small), omega arith))
     (λ c. search needs)
     (λ c. search needs)
     (λ c.
-    let alike = c .before .before .before in
-    let compared = alike .before in
-    let accepted = compared .before .before .before in
-    let judged = accepted .before in
+    let matched = c .before .before .before in
+    let compared = matched .before in
+    let decided = compared .before .before .before in
+    let judged = decided .before in
     let loaded = judged .before .before in
-    let long = loaded .before .before .before in
-    call-mismatch _ _ _ _ (long .if1 .left) (loaded .load .ensures .0) (sym (judged .is-sound .ensures) ∙ not-false _ (accepted .if2 .left)) (sym (compared .is-sheet .ensures) ∙ not-true _ (alike .if3 .taken)) (c .before .first .ensures .current) (c .packed3 .ensures))
+    let begun = loaded .before .before .before in
+    call-mismatch _ _ _ _ (begun .if1 .left) (loaded .load .ensures .0) (sym (judged .is-sound .ensures) ∙ not-false _ (decided .if2 .left)) (sym (compared .is-sheet .ensures) ∙ not-true _ (matched .if3 .taken)) (c .before .first .ensures .current) (c .packed3 .ensures))
     (λ c κs. search needs)
     (λ c κs. sym (c .before .before .before .before .before .before .before .before .is-sound .ensures) ∙ not-false _ (c .before .before .before .before .before .before .before .if2 .left))
     (λ c. search needs)
@@ -47,31 +47,31 @@ call-sheet-bytes-spec =
     let told = c .before .before .before .before in
     let served = told .before .before .before in
     let asked = served .before .before in
-    let alike = asked .before .before in
-    let compared = alike .before in
+    let matched = asked .before .before in
+    let compared = matched .before in
     let loaded = compared .before .before .before .before .before .before in
-    let long = loaded .before .before .before in
-    let begun = long .before .before in
-    let size = long .if1 .left in
+    let begun = loaded .before .before .before in
+    let lent = begun .before .before in
+    let size = begun .if1 .left in
     let load = loaded .load .ensures .0 in
-    let small = begun .slice-known .given in
+    let small = lent .slice-known .given in
     let answer = served .serve-word .ensures in
     let done = told .outcome .given .1 in
-    (size, matches-length _ _ (sym (compared .is-sheet .ensures) ∙ not-false _ (alike .if3 .left)), call-tells _ size load answer (λ i. small i .fits) done, call-told _ size load answer (λ i. small i .fits) done, called-right _ _ load (λ i. small i .fits) answer done, asked .touched .ensures .1))
+    (size, matches-length _ _ (sym (compared .is-sheet .ensures) ∙ not-false _ (matched .if3 .left)), call-tells _ size load answer (λ i. small i .fits) done, call-told _ size load answer (λ i. small i .fits) done, called-right _ _ load (λ i. small i .fits) answer done, asked .touched .ensures .1))
     (λ c κs.
     let told = c .before .before .before .before .before .before .before .before .before in
     let served = told .before .before .before in
     let compared = served .before .before .before .before .before in
     let loaded = compared .before .before .before .before .before .before in
-    let long = loaded .before .before .before in
-    (omega arith, omega (arith, call-caller _ (long .if1 .left) (loaded .load .ensures .0) (served .serve-word .ensures)), omega (arith, brief-first (call-brief _ _ _) (sym (served .serve-word .ensures .ran .outcome) ∙ told .outcome .given .1))))
+    let begun = loaded .before .before .before in
+    (omega arith, omega (arith, call-caller _ (begun .if1 .left) (loaded .load .ensures .0) (served .serve-word .ensures)), omega (arith, brief-first (call-brief _ _ _) (sym (served .serve-word .ensures .ran .outcome) ∙ told .outcome .given .1))))
     (λ c. search needs)
     (λ c κs.
     let served = c .before .before .before .before in
     let compared = served .before .before .before .before .before in
     let loaded = compared .before .before .before .before .before .before in
-    let long = loaded .before .before .before in
-    (omega (arith, number-small (call-brief _ _ _) (sym (served .serve-word .ensures .ran .outcome) ∙ c .before .outcome2 .given .1)), omega (arith, call-caller _ (long .if1 .left) (loaded .load .ensures .0) (served .serve-word .ensures)), omega arith))
+    let begun = loaded .before .before .before in
+    (omega (arith, number-small (call-brief _ _ _) (sym (served .serve-word .ensures .ran .outcome) ∙ c .before .outcome2 .given .1)), omega (arith, call-caller _ (begun .if1 .left) (loaded .load .ensures .0) (served .serve-word .ensures)), omega arith))
     (λ c. search needs)
     (λ c. search needs)
     (λ c.
@@ -79,29 +79,29 @@ call-sheet-bytes-spec =
     let told = stored .before .before .before .before .before in
     let served = told .before .before .before in
     let asked = served .before .before in
-    let alike = asked .before .before in
-    let compared = alike .before in
-    let accepted = compared .before .before .before in
-    let judged = accepted .before in
+    let matched = asked .before .before in
+    let compared = matched .before in
+    let decided = compared .before .before .before in
+    let judged = decided .before in
     let loaded = judged .before .before in
-    let long = loaded .before .before .before in
-    let lent = long .before in
-    let begun = lent .before in
-    let small = begun .slice-known .given in
-    let bytes = lent .slice-known2 .given in
-    let right = sym (judged .is-sound .ensures) ∙ not-false _ (accepted .if2 .left) in
-    let same = sym (compared .is-sheet .ensures) ∙ not-false _ (alike .if3 .left) in
-    call-both _ _ _ _ (long .if1 .left) (loaded .load .ensures .0) right same (served .serve-word .ensures) (λ i. small i .fits) (told .outcome .given .1) (λ i. bytes i .fits) (c .packed4 .ensures) (stored .store-both .ensures .0) (asked .touched .ensures) (stored .store-both .ensures .1) refl)
+    let begun = loaded .before .before .before in
+    let beside = begun .before in
+    let lent = beside .before in
+    let small = lent .slice-known .given in
+    let bytes = beside .slice-known2 .given in
+    let right = sym (judged .is-sound .ensures) ∙ not-false _ (decided .if2 .left) in
+    let same = sym (compared .is-sheet .ensures) ∙ not-false _ (matched .if3 .left) in
+    call-both _ _ _ _ (begun .if1 .left) (loaded .load .ensures .0) right same (served .serve-word .ensures) (λ i. small i .fits) (told .outcome .given .1) (λ i. bytes i .fits) (c .packed4 .ensures) (stored .store-both .ensures .0) (asked .touched .ensures) (stored .store-both .ensures .1) refl)
     (λ c. search needs)
     (λ c. search needs)
     (λ c.
     let served = c .before .before .before .before .before in
-    let alike = served .before .before .before .before in
-    let compared = alike .before in
-    let accepted = compared .before .before .before in
-    let judged = accepted .before in
+    let matched = served .before .before .before .before in
+    let compared = matched .before in
+    let decided = compared .before .before .before in
+    let judged = decided .before in
     let loaded = judged .before .before in
-    let long = loaded .before .before .before in
-    let right = sym (judged .is-sound .ensures) ∙ not-false _ (accepted .if2 .left) in
-    let same = sym (compared .is-sheet .ensures) ∙ not-false _ (alike .if3 .left) in
-    call-neither _ _ _ _ (long .if1 .left) (loaded .load .ensures .0) right same (served .serve-word .ensures) (c .before .before .outcome2 .given .1) (c .packed5 .ensures)))
+    let begun = loaded .before .before .before in
+    let right = sym (judged .is-sound .ensures) ∙ not-false _ (decided .if2 .left) in
+    let same = sym (compared .is-sheet .ensures) ∙ not-false _ (matched .if3 .left) in
+    call-neither _ _ _ _ (begun .if1 .left) (loaded .load .ensures .0) right same (served .serve-word .ensures) (c .before .before .outcome2 .given .1) (c .packed5 .ensures)))

@@ -31,7 +31,7 @@ use Rattle.isolation.specs.Laws.Boot.{boot-right}
 use Rattle.isolation.specs.Whole.{call-right}
 use Rattle.sheet.specs.Sheet.{sheetOf, matches, callSheetOn, bootSheetOn}
 use Rattle.sheet.specs.Touched.{touched, Named, sheetKept}
-use Rattle.sheet.specs.declared.Whose.{Whose}
+use Rattle.sheet.specs.declared.calls.Whose.{Whose}
 use Rattle.sheet.specs.Bytes.{handedSheet, sheetBytes, sheetBytesAfter}
 use Rattle.sheet.specs.Laws.Rules.{call-1, call-20, call-else, boot-1, boot-20, boot-else}
 use Rattle.sheet.specs.Laws.Touched.{call-put}

@@ -11,7 +11,7 @@ use Rattle.shapes.specs.declared.Board.{Board}
 use Rattle.shapes.specs.declared.Board.the-variants.{V7, V8}
 use Rattle.shapes.specs.Laws.Halves.{pieces-few}
 use Rattle.shapes.specs.Pieces.{piecesFor, CanList, ShapesListed}
-use Rattle.tables.specs.State.{none, some, Entry}
+use Rattle.tables.specs.State.{some, Entry}
 use Rattle.tables.specs.Laws.State.{none-of, not-none, same-at}
 use Rattle.tables.specs.View.{entryOf, entryIn, slotAt, view}
 use Rattle.tables.specs.Laws.View.{slot-bounds}

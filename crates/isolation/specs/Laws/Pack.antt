@@ -6,8 +6,7 @@ use Prim.Native.Nat.{ℕ, _+_, _/_, _<_}
 use native.Mathlib.Decide.{ℕ-discrete}
 use Rattle.tables.specs.State.{Opt, none, some, Entry, Area, Table}
 use Rattle.tables.specs.Laws.State.{not-none}
-use Rattle.tables.specs.Update.{upd1}
-use Rattle.tables.specs.Laws.Update.{upd1-same, upd1-other, row-same, row-other}
+use Rattle.tables.specs.Laws.Update.{upd1-same, upd1-other, row-same, row-other, upd1-keep}
 use Rattle.tables.specs.Search.{isSome, present, child}
 use Rattle.tables.specs.Lines.{In, Holds}
 use Rattle.tables.specs.Settle.{openAt, settle}
@@ -148,14 +147,6 @@ module _ {t : Table} (h : Right t) (p : ℕ) where
 abbrev pub PackDone : Table → ℕ → ℕ → ℕ → Table → Type 0
 PackDone t p v w t′ = OwnOrChild (t .k) p × (v ≡ packed t p .moved) × (t′ ≡ settle (packK t p) (packRegion t p))
 
--- a row that is put back where it stands
-row-keep : {A : Type 0} (f : ℕ → ℕ → A) (p : ℕ) → upd1 f p (f p) ≡ f
-row-keep f p = λ x q. at q (ℕ-discrete q p) x
-  where
-    at : (q : ℕ) → Dec (q ≡ p) → upd1 f p (f p) q ≡ f q
-    at q (yes z) = upd1-same f p (f p) q z ∙ ap f (sym z)
-    at q (no z) = upd1-other f p (f p) q z
-
 module _ {t : Table} (h : Right t) (p : ℕ) where
   pub pack-exact : Answers (packLadder t p) (pack t p)
   unfolding pack
@@ -183,4 +174,4 @@ module _ {t : Table} (h : Right t) (p : ℕ) where
   pack-twice x = let (c, _, z) = pack-done x in rw (z ∙ pack-settled h p) (same c)
     where
       same : OwnOrChild (t .k) p → pack (after h p) p ≡ done 0 0 (after h p)
-      same c = pass 3 (own-means (t .k) p .1 c) (rw (again, row-keep (after h p .k .slot) p, row-keep (after h p .region) p, pack-settled h p) refl)
+      same c = pass 3 (own-means (t .k) p .1 c) (rw (again, upd1-keep (after h p .k .slot) p, upd1-keep (after h p .region) p, pack-settled h p) refl)

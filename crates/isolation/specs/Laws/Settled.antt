@@ -1,6 +1,6 @@
 -- settle makes a table right: each open bit by S9, and regions only of open entries. A right table is settled.
 use mathlib.Core.Path.{_≡_, refl, sym, _∙_}
-use mathlib.Core.Bool.{Bool, true, false, false≢true}
+use mathlib.Core.Bool.{Bool, true, false≢true}
 use mathlib.Core.Logic.{_⊎_, inl, inr}
 use Prim.Native.Nat.{ℕ, _^_, _<_}
 use Rattle.tables.specs.State.{Opt, none, some, Entry, Area, K, Table}

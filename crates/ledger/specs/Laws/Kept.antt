@@ -1,5 +1,5 @@
 -- The ledger is who holds what: after boot, and after any list of calls, done or refused.
-use mathlib.Core.Path.{_≡_, refl, ap, ap₂, sym, subst, _∙_}
+use mathlib.Core.Path.{_≡_, refl, ap, sym, subst, _∙_}
 use mathlib.Core.Bool.{Bool, true, not, _&&_, true≢false}
 use mathlib.Core.List.{List, [], _∷_}
 use mathlib.Core.Logic.{_↔_, Iff·rfl, Iff·symm, Iff·trans}
@@ -22,7 +22,6 @@ use Rattle.tables.specs.Search.{lowest}
 use Rattle.tables.specs.Laws.Search.{lowest-some, lowest-none}
 use Rattle.tables.specs.Lines.{In, Holds}
 use Rattle.tables.specs.Settle.{settle}
-use Rattle.tables.specs.declared.Outcome.{Outcome}
 use Rattle.sound.specs.Laws.Means.{eq-means, le-means, lt-means, and-means, or-means, not-means}
 use Rattle.sound.specs.Laws.Tests.{and-says, and-true}
 use Rattle.sound.specs.Laws.Properties.{siblings-one}

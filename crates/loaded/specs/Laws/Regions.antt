@@ -2,14 +2,12 @@
 use mathlib.Core.Path.{_≡_, refl, ap, ap₂, sym, _∙_}
 use mathlib.Core.Bool.{Bool, true, false, cond, not, _&&_, _||_, or-true, or-false, false≢true, Bool·not-not}
 use mathlib.Core.List.{List}
-use Prim.Native.Nat.{ℕ, zero, suc, _+_, _-_, _*_, _/_, _%_, _^_, _≤_, _<_}
-use native.Mathlib.Decide.{ℕ-discrete, decLt}
-use native.Mathlib.Nat.{pow-suc}
+use Prim.Native.Nat.{ℕ, zero, suc, _+_, _-_, _^_, _≤_, _<_}
+use native.Mathlib.Decide.{ℕ-discrete}
 use native.Mathlib.Omega.{arith}
-use lib.Bits.{bitOr, or-shr, or-mod}
+use lib.Bits.{bitOr}
 use lib.Dec.{leb, eqb}
-use lib.Pow.{pow-add, pow-lt, pow-pos, high, shl-exact, shl-shr}
-use borrow.Author.Tests.{not-true, eq-eqb, ne-eqb, leb-true, le-leb}
+use borrow.Author.Tests.{not-true, leb-true, le-leb}
 use Rattle.loops.specs.Loops.{sum, carried, all, names}
 use Rattle.loops.specs.Laws.Mask.{names-none, names-or, names-one}
 use Rattle.loops.specs.Laws.Count.{Summing, sum-start, sum-on, sum-end, sum-ext}

@@ -1,5 +1,5 @@
 -- src/lib.rt, mark_all: MarkSays (view t .k) 80 r mark′
-use Prim.Native.Nat.{_+_, _*_, _-_, _≤_}
+use Prim.Native.Nat.{_*_, _-_, _≤_}
 use borrow.Author.Tests.{not-false}
 use Rattle.tables.specs.View.{view}
 use Rattle.marking.specs.Marking.{MarkedTo}

@@ -37,7 +37,7 @@ use Rattle.ordering.specs.Laws.Present.{absent-zero, solid}
 use Rattle.marking.specs.Backing.{areaBetween, backs}
 use Rattle.loops.specs.Loops.{names}
 use Rattle.loops.specs.Laws.Mask.{names-none, names-or, names-one}
-use Rattle.marking.specs.Marking.{markOf, There, MarkedTo, equalSlot, Marks, nobody, marked, before, CanMark, EachS8, MarkSays}
+use Rattle.marking.specs.Marking.{slotMarked, There, MarkedTo, equalSlot, Marks, nobody, marked, before, CanMark, EachS8, MarkSays}
 
 -- what passes backs
 backs-says : (k : K) (q i : ℕ) (a : Area) → backs a (k .slot q i) ≡ true → (e : Entry) × (k .slot q i ≡ some e) × (e .given ≡ 0) × (e .start ≡ a .lo) × (e .stop ≡ a .hi)
@@ -65,7 +65,7 @@ apart-both l s p j q i a b n u v x y = go (decLt q p)
     go (no z) = s p (area-bounds l p j a u .0) .apart j q i a b n (omega arith) u v x y
 
 module _ {k : K} where
-  mark-start : {m : List ℕ} → length m ≡ 16 → ((x : ℕ) → markOf m x ≡ false) → MarkedTo k 0 m
+  mark-start : {m : List ℕ} → length m ≡ 16 → ((x : ℕ) → slotMarked m x ≡ false) → MarkedTo k 0 m
   mark-start size zeros = record {
     size = size;
     at = λ n. 0;
@@ -108,7 +108,7 @@ module _ {k : K} where
   -- area n is there, and equals the entry in slot x
   module _ {n p j : ℕ} {a : Area} {m : List ℕ} (inv : MarkedTo k n m) (is : 5 * p + j ≡ n) (h : There k (n + 1) p j a) {x : ℕ} (e : EqualAt k p j a x) where
     -- .. which nobody has marked
-    pub mark-on : {m′ : List ℕ} → markOf m x ≡ false → length m′ ≡ 16 → markOf m′ x ≡ true → ((y : ℕ) → (y ≡ x → ⊥) → markOf m′ y ≡ markOf m y) → MarkedTo k (n + 1) m′
+    pub mark-on : {m′ : List ℕ} → slotMarked m x ≡ false → length m′ ≡ 16 → slotMarked m′ x ≡ true → ((y : ℕ) → (y ≡ x → ⊥) → slotMarked m′ y ≡ slotMarked m y) → MarkedTo k (n + 1) m′
     mark-on {m′} unmarked size put kept = record {
       size = size;
       at = at;
@@ -149,15 +149,15 @@ module _ {k : K} where
             rw (at-here (5 * q + i) z, s, t, ← v) e
         equal q i b g (no z) = rw (at-other (5 * q + i) z) (inv .equal q i b (down g z))
 
-        hit : (q i : ℕ) (b : Area) → There k (n + 1) q i b → Dec (5 * q + i ≡ n) → markOf m′ (at (5 * q + i)) ≡ true
-        hit q i b g (yes z) = ap (markOf m′) (at-here (5 * q + i) z) ∙ put
-        hit q i b g (no z) = ap (markOf m′) (at-other (5 * q + i) z) ∙ go (ℕ-discrete (inv .at (5 * q + i)) x)
+        hit : (q i : ℕ) (b : Area) → There k (n + 1) q i b → Dec (5 * q + i ≡ n) → slotMarked m′ (at (5 * q + i)) ≡ true
+        hit q i b g (yes z) = ap (slotMarked m′) (at-here (5 * q + i) z) ∙ put
+        hit q i b g (no z) = ap (slotMarked m′) (at-other (5 * q + i) z) ∙ go (ℕ-discrete (inv .at (5 * q + i)) x)
           where
-            go : Dec (inv .at (5 * q + i) ≡ x) → markOf m′ (inv .at (5 * q + i)) ≡ true
-            go (yes c) = ap (markOf m′) c ∙ put
+            go : Dec (inv .at (5 * q + i) ≡ x) → slotMarked m′ (inv .at (5 * q + i)) ≡ true
+            go (yes c) = ap (slotMarked m′) c ∙ put
             go (no c) = kept _ c ∙ inv .hit q i b (down g z)
 
-        back : (y : ℕ) → markOf m′ y ≡ true → Dec (y ≡ x) → (q i : ℕ) × (b : Area) × There k (n + 1) q i b × (at (5 * q + i) ≡ y)
+        back : (y : ℕ) → slotMarked m′ y ≡ true → Dec (y ≡ x) → (q i : ℕ) × (b : Area) × There k (n + 1) q i b × (at (5 * q + i) ≡ y)
         back y c (yes z) = (p, j, a, h, at-here (5 * p + j) is ∙ sym z)
         back y c (no z) =
             let (q, i, b, g, w) = inv .back y (sym (kept y z) ∙ c) in
@@ -165,7 +165,7 @@ module _ {k : K} where
 
         -- nobody before had slot x
         fresh : (q i : ℕ) (b : Area) → There k n q i b → inv .at (5 * q + i) ≡ x → ⊥
-        fresh q i b g z = false≢true (sym unmarked ∙ ap (markOf m) (sym z) ∙ inv .hit q i b g)
+        fresh q i b g z = false≢true (sym unmarked ∙ ap (slotMarked m) (sym z) ∙ inv .hit q i b g)
 
         once : (q i r o : ℕ) (b c : Area) → There k (n + 1) q i b → There k (n + 1) r o c → Dec (5 * q + i ≡ n) → Dec (5 * r + o ≡ n) → at (5 * q + i) ≡ at (5 * r + o) → 5 * q + i ≡ 5 * r + o
         once q i r o b c g f (yes z) (yes y) w = z ∙ sym y
@@ -174,7 +174,7 @@ module _ {k : K} where
         once q i r o b c g f (no z) (no y) w = inv .once q i r o b c (down g z) (down f y) (sym (at-other _ z) ∙ w ∙ at-other _ y)
 
     -- .. which another has marked: both have the entry's first line
-    pub mark-twice : ((q i : ℕ) (f : Entry) → k .slot q i ≡ some f → f .start < f .stop) → markOf m x ≡ true
+    pub mark-twice : ((q i : ℕ) (f : Entry) → k .slot q i ≡ some f → f .start < f .stop) → slotMarked m x ≡ true
         → (s8 : (q i r o : ℕ) (b c : Area) (l : ℕ) → k .area q i ≡ some b → k .area r o ≡ some c → InA l b → InA l c → (q ≡ r) × (i ≡ o)) → ⊥
     mark-twice lines taken apart =
         let (q, i, b, g, z) = inv .back x taken in
@@ -188,7 +188,7 @@ module _ {k : K} where
         omega (arith, g .below)
 
   -- ── all have marked ──
-  pub all-marked : {m : List ℕ} → ((p j : ℕ) (a : Area) → k .area p j ≡ some a → (p < 16) × (j < 5)) → MarkedTo k 80 m → MarkedOnce k (markOf m)
+  pub all-marked : {m : List ℕ} → ((p j : ℕ) (a : Area) → k .area p j ≡ some a → (p < 16) × (j < 5)) → MarkedTo k 80 m → MarkedOnce k (slotMarked m)
   all-marked {m} range inv = record {
     at = λ p j. inv .at (5 * p + j);
     equal = λ p j a u n. inv .equal p j a (there p j a u n);
@@ -210,33 +210,33 @@ zeros (suc n) zero = refl
 zeros (suc n) (suc x) = zeros n x
 
 pub no-marks : {k : K} → MarkedTo k 0 (replicate 16 0)
-unfolding markOf
+unfolding slotMarked
 no-marks = mark-start (length-replicate {A = ℕ} 16 0) (λ x. rw (zeros 16 (x / 32)) (names-none (x % 32)))
 
 -- ── the mask of q with slot i ──
-mark-at : (m : List ℕ) (q i : ℕ) → i < 32 → markOf m (32 * q + i) ≡ names (getD m q 0) i
-unfolding markOf
+mark-at : (m : List ℕ) (q i : ℕ) → i < 32 → slotMarked m (32 * q + i) ≡ names (getD m q 0) i
+unfolding slotMarked
 mark-at m q i c =
     let a : (32 * q + i) / 32 ≡ q = omega arith in
     let b : (32 * q + i) % 32 ≡ i = omega arith in
     rw (a, b) refl
 
 -- .. as the code tells it
-pub mark-tells : (m : List ℕ) (q i : ℕ) {r x : Bool} → i < 32 → r ≡ names (getD m q 0) i → r ≡ x → markOf m (32 * q + i) ≡ x
+pub mark-tells : (m : List ℕ) (q i : ℕ) {r x : Bool} → i < 32 → r ≡ names (getD m q 0) i → r ≡ x → slotMarked m (32 * q + i) ≡ x
 mark-tells m q i c e z = mark-at m q i c ∙ sym e ∙ z
 
 module _ (m : List ℕ) (q i : ℕ) (few : i < 32) where
   abbrev with-mark : List ℕ
   with-mark = set m q (bitOr (getD m q 0) (2 ^ i))
 
-  mark-put : q < length m → markOf with-mark (32 * q + i) ≡ true
+  mark-put : q < length m → slotMarked with-mark (32 * q + i) ≡ true
   mark-put b = mark-at with-mark q i few ∙ rw (getD-set-same m q (bitOr (getD m q 0) (2 ^ i)) 0 b) (names-or (getD m q 0) (2 ^ i) i ∙ rw (names-one i i, eq-eqb i i refl) (or-true (names (getD m q 0) i)))
 
-  mark-kept : q < length m → (y : ℕ) → (y ≡ 32 * q + i → ⊥) → markOf with-mark y ≡ markOf m y
-  unfolding markOf
+  mark-kept : q < length m → (y : ℕ) → (y ≡ 32 * q + i → ⊥) → slotMarked with-mark y ≡ slotMarked m y
+  unfolding slotMarked
   mark-kept b y n = go (ℕ-discrete (y / 32) q)
     where
-      go : Dec (y / 32 ≡ q) → markOf with-mark y ≡ markOf m y
+      go : Dec (y / 32 ≡ q) → slotMarked with-mark y ≡ slotMarked m y
       go (yes z) = rw (z, getD-set-same m q (bitOr (getD m q 0) (2 ^ i)) 0 b) (names-or (getD m q 0) (2 ^ i) (y % 32) ∙ rw (names-one i (y % 32), ne-eqb (y % 32) i (λ w. n (omega arith))) (or-false (names (getD m q 0) (y % 32))))
       go (no z) = rw (getD-set-other m q (y / 32) (bitOr (getD m q 0) (2 ^ i)) 0 z) refl
 

@@ -1,5 +1,5 @@
 -- src/lib.rt, load_four: Loading b (k + 4) t′
-use Prim.Native.Nat.{_+_, _*_, _-_, _≤_}
+use Prim.Native.Nat.{_+_, _-_, _≤_}
 use Rattle.memory.specs.ByteRecords.{Loading}
 use Rattle.memory.specs.Laws.ByteRecords.{load-word, load-at}
 use native.Mathlib.Omega.{arith}

@@ -1,6 +1,5 @@
 -- src/lib.rt, quad: Quad b i r
 use Rattle.memory.specs.Laws.Quads.{quad-pairs}
-use native.Mathlib.Omega.{arith}
 use borrow.Author.Needs.{needs}
 use Rattle.memory.proofs.quad.Statement.{statement}
 use Rattle.memory.proofs.quad.Tie as tie

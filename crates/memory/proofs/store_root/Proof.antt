@@ -1,6 +1,5 @@
 -- src/lib.rt, store_root: now (b .exit) ≡ bytesOf t
 use Rattle.memory.specs.Laws.ByteRecords.{root-stored}
-use native.Mathlib.Omega.{arith}
 use borrow.Author.Needs.{needs}
 use Rattle.memory.proofs.store_root.Statement.{statement}
 use Rattle.memory.proofs.store_root.Tie as tie

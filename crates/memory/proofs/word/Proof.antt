@@ -1,6 +1,5 @@
 -- src/lib.rt, word: r ≡ wordFrom b i
 use Rattle.memory.specs.Laws.Quads.{word-halves}
-use native.Mathlib.Omega.{arith}
 use borrow.Author.Needs.{needs}
 use Rattle.memory.proofs.word.Statement.{statement}
 use Rattle.memory.proofs.word.Tie as tie

@@ -1,5 +1,4 @@
 -- src/lib.rt, zero_eight: r ≡ zeroEight b i
-use mathlib.Core.Path.{refl}
 use Prim.Native.Nat.{_+_, _*_, _-_}
 use Rattle.loops.specs.Laws.Oring.{Oring, or-start, or-on, or-end}
 use Rattle.memory.specs.Quads.{quadAt, zeroEight}

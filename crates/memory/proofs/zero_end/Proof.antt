@@ -5,7 +5,6 @@ use borrow.Author.Tests.{not-false}
 use Rattle.memory.specs.ByteRecords.{ZeroEnd}
 use Rattle.memory.specs.Laws.ByteRecords.{end-start, end-on}
 use native.Mathlib.Omega.{arith}
-use borrow.Author.Needs.{needs}
 use Rattle.memory.proofs.zero_end.Statement.{statement}
 use Rattle.memory.proofs.zero_end.Tie as tie
 

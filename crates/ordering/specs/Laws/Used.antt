@@ -16,7 +16,7 @@ use Rattle.sound.specs.Sound.{S5}
 use Rattle.sound.specs.Laws.MeansWords.{s5-means}
 use Rattle.shape.specs.AtOnce.{Shaped}
 use Rattle.shape.specs.Laws.AtOnce.{shaped-s5}
-use Rattle.ordering.specs.Used.{Bound, Used}
+use Rattle.ordering.specs.Used.{Used}
 
 -- two results are equal
 pub used-one : {l : List ℕ} {q r s : ℕ} → Used l q r → Used l q s → r ≡ s

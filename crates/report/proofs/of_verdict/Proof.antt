@@ -1,5 +1,5 @@
 -- src/lib.rt, of_verdict: take (r .len) (r .bytes) ≡ printedLine v
-use mathlib.Core.Path.{refl, sym, ap, _∙_}
+use mathlib.Core.Path.{sym, ap, _∙_}
 use Rattle.report.specs.Report.{printedLine}
 use borrow.Author.Needs.{needs}
 use Rattle.report.proofs.of_verdict.Statement.{statement}

@@ -10,9 +10,9 @@ use Rattle.words.specs.declared.slot_word.SlotFields.{SlotFields}
 use Rattle.tables.specs.State.{Opt, none, some, Entry, Table, givenTo}
 use Rattle.tables.specs.Laws.State.{none-of}
 use Rattle.tables.specs.Update.{upd, upd1}
-use Rattle.tables.specs.Laws.Update.{row-same}
+use Rattle.tables.specs.Laws.Update.{row-same, upd1-keep, upd-keep}
 use Rattle.settling.specs.UpTo.{upTo}
-use Rattle.settling.specs.Laws.UpTo.{up-above, up-start, up-more, up-end, upd1-keep, upd-keep, upd-row-put}
+use Rattle.settling.specs.Laws.UpTo.{up-above, up-start, up-more, up-end, upd-row-put}
 use Rattle.tables.specs.View.{view, entryOf}
 use Rattle.tables.specs.Encode.{encode, Canon, Is}
 use Rattle.tables.specs.Laws.Encode.{canon-is}

@@ -15,9 +15,9 @@ use Rattle.words.specs.declared.slot_word.SlotFields.{SlotFields}
 use Rattle.tables.specs.State.{Opt, none, some, Entry, Area, Table}
 use Rattle.tables.specs.Laws.State.{none-of}
 use Rattle.tables.specs.Update.{upd, upd1}
-use Rattle.tables.specs.Laws.Update.{upd1-same, upd1-other, row-same, row-other}
+use Rattle.tables.specs.Laws.Update.{upd1-same, upd1-other, row-same, row-other, upd1-keep, upd-keep}
 use Rattle.settling.specs.UpTo.{upTo}
-use Rattle.settling.specs.Laws.UpTo.{up-above, up-start, up-more, up-end, upd1-keep, upd-keep, upd-row-put}
+use Rattle.settling.specs.Laws.UpTo.{up-above, up-start, up-more, up-end, upd-row-put}
 use Rattle.tables.specs.View.{view, nthRegion, entryOf}
 use Rattle.tables.specs.Encode.{Canon, Is}
 use Rattle.tables.specs.Laws.Encode.{canon-is, is-canon}

@@ -1,6 +1,6 @@
 -- Slots that are closed because an area has come, or opened because areas have gone, lead to the settled table; and the words are seen as that table.
 use mathlib.Core.Path.{_≡_, refl, ap, sym, subst, _∙_}
-use mathlib.Core.Bool.{Bool, true, false, cond, not, _&&_, false≢true}
+use mathlib.Core.Bool.{Bool, true, false, cond, _&&_, false≢true}
 use mathlib.Core.List.{List}
 use Prim.Native.Nat.{ℕ, _+_, _-_, _*_, _/_, _≤_, _<_}
 use native.Mathlib.Decide.{ℕ-discrete, decLt}
@@ -15,8 +15,7 @@ use Rattle.words.specs.declared.structure_word.StructureFields.{StructureFields
 use Rattle.tables.specs.State.{Opt, none, some, K, Table}
 use Rattle.tables.specs.Laws.State.{some-inj, not-none, none-of, same as same-entry}
 use Rattle.tables.specs.Update.{both?, upd, upd1}
-use Rattle.tables.specs.Laws.Update.{upd-same, upd-other, upd1-same, upd1-other, row-same, row-other}
-use Rattle.settling.specs.Laws.UpTo.{upd1-keep, upd-keep}
+use Rattle.tables.specs.Laws.Update.{upd-same, upd-other, upd1-same, upd1-other, row-same, row-other, upd1-keep, upd-keep}
 use Rattle.tables.specs.View.{slotPlace, entryOf, entryIn, structureArea, view}
 use Rattle.tables.specs.Encode.{slotFor, slotWord, encode, Canon, Is}
 use Rattle.tables.specs.Laws.Encode.{is-one, is-canon, canon-is}

@@ -1,12 +1,12 @@
 -- Changed at every place a function is the new one; a value put where it stands already changes nothing.
-use mathlib.Core.Path.{_≡_, refl, ap, ap₂, sym, _∙_}
+use mathlib.Core.Path.{_≡_, refl, ap, sym, _∙_}
 use mathlib.Core.Bool.{Bool, true, false}
 use Prim.Native.Nat.{ℕ, _+_, _≤_, _<_}
 use native.Mathlib.Decide.{ℕ-discrete}
 use native.Mathlib.Omega.{arith}
 use lib.Dec.{ltb}
 use borrow.Author.Tests.{ltb-true, ltb-false, lt-ltb, le-ltb}
-use Rattle.tables.specs.Update.{both?, upd, upd1}
+use Rattle.tables.specs.Update.{upd, upd1}
 use Rattle.tables.specs.Laws.Update.{upd-same, upd-other, upd1-same, upd1-other, row-same, row-other}
 use Rattle.settling.specs.UpTo.{upTo}
 
@@ -44,21 +44,6 @@ module _ {A : Type 0} (n : ℕ) (f g : ℕ → A) where
       at : (k : ℕ) (b : Bool) → ltb k n ≡ b → upTo n f g k ≡ f k
       at k true u = up-below n f g k (ltb-true k n u)
       at k false u = up-above n f g k (ltb-false k n u) ∙ h k (ltb-false k n u)
-
--- ── a function with the value that it has ──
-pub upd1-keep : {A : Type 0} (f : ℕ → A) (p : ℕ) → upd1 f p (f p) ≡ f
-upd1-keep f p = λ x q. at q (ℕ-discrete q p) x
-  where
-    at : (q : ℕ) → Dec (q ≡ p) → upd1 f p (f p) q ≡ f q
-    at q (yes z) = upd1-same f p (f p) q z ∙ ap f (sym z)
-    at q (no z) = upd1-other f p (f p) q z
-
-pub upd-keep : {A : Type 0} (f : ℕ → ℕ → A) (p i : ℕ) → upd f p i (f p i) ≡ f
-upd-keep f p i = λ x q j. at q j (both? p i q j) x
-  where
-    at : (q j : ℕ) → Dec ((q ≡ p) × (j ≡ i)) → upd f p i (f p i) q j ≡ f q j
-    at q j (yes z) = upd-same f p i (f p i) q j z ∙ ap₂ f (sym (z .0)) (sym (z .1))
-    at q j (no z) = upd-other f p i (f p i) q j z
 
 -- one value of a row that was changed
 pub upd-row-put : {A : Type 0} (f : ℕ → ℕ → A) (p : ℕ) (g : ℕ → A) (i : ℕ) (a : A) → upd (upd1 f p g) p i a ≡ upd1 f p (upd1 g i a)

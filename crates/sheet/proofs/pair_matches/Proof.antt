@@ -3,7 +3,6 @@ use mathlib.Core.Path.{sym, _∙_}
 use borrow.Author.Tests.{not-true}
 use Rattle.sheet.specs.Laws.Bytes.{pair-same}
 use Rattle.sheet.specs.Laws.Words.{pair-absent, children-few, with-children}
-use borrow.Author.Needs.{needs}
 use Rattle.sheet.proofs.pair_matches.Statement.{statement}
 use Rattle.sheet.proofs.pair_matches.Tie as tie
 

@@ -1,11 +1,10 @@
 -- A partition whose record an accepted call leaves as it was has the same children then. All else in its two words of the sheet is of its own record.
 use mathlib.Core.Path.{_≡_, refl, ap, sym, subst, _∙_}
-use mathlib.Core.Bool.{Bool, true, false, cond, not, _&&_, false≢true, true≢false}
+use mathlib.Core.Bool.{Bool, true, false, cond, false≢true}
 use mathlib.Core.Logic.{_⊎_, inl, inr}
-use Prim.Native.Nat.{ℕ, zero, suc, _+_, _<_}
+use Prim.Native.Nat.{ℕ, _+_, _<_}
 use native.Mathlib.Decide.{ℕ-discrete}
 use native.Mathlib.Omega.{arith}
-use lib.Dec.{eqb}
 use Rattle.loops.specs.Laws.Every.{bool-ext}
 use Rattle.words.specs.declared.call_word.CallFields.{CallFields}
 use Rattle.shapes.specs.declared.Board.{Board}
@@ -17,7 +16,6 @@ use Rattle.tables.specs.Search.{child}
 use Rattle.tables.specs.Lines.{Clear}
 use Rattle.tables.specs.Settle.{settle}
 use Rattle.sound.specs.Sound.{Present}
-use Rattle.sound.specs.Core.{Core}
 use Rattle.sound.specs.Properties.{Child}
 use Rattle.sound.specs.Whole.{Right}
 use Rattle.rules.specs.Rules.{done, createK, removeK, remove, serve, areaOf}

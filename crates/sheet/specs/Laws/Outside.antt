@@ -1,8 +1,8 @@
 -- Where an area comes or goes, the records of all stay but of its owner and of those who hold its lines; these are above who has it as an entry.
 use mathlib.Core.Path.{_≡_, refl, ap, sym, subst, _∙_}
-use mathlib.Core.Bool.{Bool, true, false, cond, false≢true, true≢false}
+use mathlib.Core.Bool.{Bool, true, false, cond, true≢false}
 use mathlib.Core.Logic.{_⊎_, inl, inr}
-use Prim.Native.Nat.{ℕ, _+_, _≤_, _<_}
+use Prim.Native.Nat.{ℕ, _+_, _<_}
 use native.Mathlib.Decide.{ℕ-discrete}
 use native.Mathlib.Omega.{arith}
 use Rattle.loops.specs.Laws.Every.{bool-ext}
@@ -10,10 +10,9 @@ use Rattle.tables.specs.State.{Opt, none, some, Entry, Area, K, Table}
 use Rattle.tables.specs.Laws.State.{some-inj, not-none, sameA}
 use Rattle.tables.specs.Update.{upd}
 use Rattle.tables.specs.Laws.Update.{upd-other, upd-from, upd1-same, upd1-other, row-other}
-use Rattle.tables.specs.Lines.{In, InA, Holds}
+use Rattle.tables.specs.Lines.{InA, Holds}
 use Rattle.tables.specs.Laws.Stays.{Stays}
 use Rattle.sound.specs.Sound.{Present}
-use Rattle.sound.specs.Core.{Core}
 use Rattle.sound.specs.Properties.{Above, itself, higher}
 use Rattle.sound.specs.Whole.{Right}
 use Rattle.sound.specs.Laws.Chain.{holder-above}
@@ -149,8 +148,8 @@ module _ {t new : Table} (h : Right t) (g : Right new) where
         go (inl z) on = inr (subst (Above (t .k .parent) q) (ap (t .k .parent) z ∙ ok .child .parent) a)
         go (inr w) on = on w
 
-    pub remove-stays : {q : ℕ} → Present (new .k) q → (Above (new .k .parent) q (t .k .current) → ⊥) → Stays t new q
-    remove-stays {q} here far = record {
+    pub removal-stays : {q : ℕ} → Present (new .k) q → (Above (new .k .parent) q (t .k .current) → ⊥) → Stays t new q
+    removal-stays {q} here far = record {
       area = λ j. areas q j ∙ rw stays refl;
       slot = slots;
       opened = opened-stays slots (λ r j l a x u v. was r j a (m r) refl (sym (areas r j) ∙ v)) (λ r j l a x u v. areas r j ∙ kept r j l a x u v (m r) refl);

@@ -5,7 +5,7 @@ use mathlib.Core.List.{List}
 use Prim.Native.Nat.{ℕ, zero, suc, _+_, _-_, _*_, _/_, _^_, _≤_, _<_}
 use native.Mathlib.Omega.{arith}
 use lib.Pow.{pow-mono}
-use Rattle.loops.specs.Loops.{bitOf, carried, sum, mapFrom, mapOf}
+use Rattle.loops.specs.Loops.{bitOf, carried, sum, mapOf}
 use Rattle.loops.specs.Laws.Count.{sum-more}
 use Rattle.loops.specs.Laws.Map.{Mapping, map-lt, map-join, map-none, map-start, map-on, map-end}
 use Rattle.words.specs.declared.slot_word.SlotFields.{SlotFields}
@@ -16,7 +16,7 @@ use Rattle.tables.specs.Search.{isSome}
 use Rattle.tables.specs.Laws.Search.{entry-some}
 use Rattle.tables.specs.Seen.{Seen}
 use Rattle.sound.specs.Whole.{Right}
-use Rattle.sheet.specs.Sheet.{occupied, structured, numberOfLines, heldAt, openedAt, heldLines, openLines}
+use Rattle.sheet.specs.Sheet.{occupied, structured, numberOfLines, heldLines, openLines}
 use Rattle.sheet.specs.Sums.{Ending, Adding}
 use Rattle.sheet.specs.declared.sums.Sums.{Sums}
 

@@ -1,16 +1,15 @@
 -- The pairs of some partitions, put over the bytes of a sheet: one, those who are absent, those who stand above one.
-use mathlib.Core.Path.{_≡_, refl, ap, sym, subst, _∙_}
+use mathlib.Core.Path.{_≡_, refl, ap, sym, _∙_}
 use mathlib.Core.Bool.{Bool, true, false, cond, _||_, false≢true}
 use mathlib.Core.List.{List}
 use mathlib.Core.Logic.{_⊎_, inl, inr, _↔_}
-use Prim.Native.Nat.{ℕ, zero, suc, _+_, _-_, _*_, _/_, _%_, _≤_, _<_}
+use Prim.Native.Nat.{ℕ, suc, _+_, _-_, _*_, _/_, _≤_, _<_}
 use native.Mathlib.Decide.{ℕ-discrete, decLt}
 use native.Mathlib.Omega.{arith}
 use lib.Dec.{eqb}
 use lib.ListN.{length, getD}
-use borrow.Author.Tests.{eq-eqb, ne-eqb, eqb-true}
+use borrow.Author.Tests.{eq-eqb, ne-eqb}
 use Rattle.loops.specs.Loops.{Filling, Reaches, at-root, by-step}
-use Rattle.loops.specs.Laws.Climb.{reaches-more}
 use Rattle.loops.specs.Laws.Rewrite.{length-tab, tab-at, tab-is, tab-ext, fill-start, fill-tab}
 use Rattle.tables.specs.State.{Opt, none, some, Area, K, Table}
 use Rattle.tables.specs.Search.{isSome, isNone, present, absent}
@@ -25,8 +24,8 @@ use Rattle.rules.specs.Laws.Branch.{branch-of, branch-at}
 use Rattle.sheet.specs.Sheet.{masksWord, linesWord, sheetOf}
 use Rattle.sheet.specs.Bytes.{sheetBytes, pairPut}
 use Rattle.sheet.specs.Sums.{childrenOf}
-use Rattle.sheet.specs.Touched.{above, among, masksWith, putThose}
-use Rattle.sheet.specs.declared.Whose.the-variants.{Gone}
+use Rattle.sheet.specs.Touched.{above, touches, masksWith, putThose}
+use Rattle.sheet.specs.declared.calls.Whose.the-variants.{Gone}
 use Rattle.sheet.specs.Laws.Bytes.{pair-sheet, pair-on}
 use Rattle.sheet.specs.Laws.Words.{with-children}
 
@@ -138,7 +137,7 @@ pub pair-with : {t : Table} → Right t → (q : ℕ) (s : List ℕ) {c : ℕ} {
 pair-with {t} h q s e put = put ∙ ap (λ (m : ℕ). pairPut s q m (linesWord t q)) (with-children h q e)
 
 -- ── the walk from p up: at q, with so many turns left, the pairs of all below it are put ──
-pub record Rising (t : Table) (p : ℕ) (s : List ℕ) (q left : ℕ) (u : List ℕ) : Type 0 where
+pub record GoingUp (t : Table) (p : ℕ) (s : List ℕ) (q left : ℕ) (u : List ℕ) : Type 0 where
   pub small : q < 16
   pub steps : ℕ
   pub turns : left ≡ suc steps
@@ -149,7 +148,7 @@ pub record Rising (t : Table) (p : ℕ) (s : List ℕ) (q left : ℕ) (u : List 
   pub put : (n : ℕ) → n < 256 → above (t .k) p (n / 16) ≡ true → (getD u n 0 ≡ byteOf (sheetOf t) n) ⊎ Above (t .k .parent) (n / 16) q
 
 module _ {t : Table} (h : Core (t .k)) {p : ℕ} (b : p < 16) {s : List ℕ} where
-  pub rise-start : length s ≡ 256 → Rising t p s p 16 s
+  pub rise-start : length s ≡ 256 → GoingUp t p s p 16 s
   rise-start size = record {
     small = b;
     steps = 15;
@@ -161,7 +160,7 @@ module _ {t : Table} (h : Core (t .k)) {p : ℕ} (b : p < 16) {s : List ℕ} whe
     put = λ n _ a. inr (above-means h p (n / 16) b .0 a);
   }
 
-  module _ {q left : ℕ} {u v : List ℕ} (inv : Rising t p s q left u) (put : v ≡ pairPut u q (masksWord t q) (linesWord t q)) where
+  module _ {q left : ℕ} {u v : List ℕ} (inv : GoingUp t p s q left u) (put : v ≡ pairPut u q (masksWord t q) (linesWord t q)) where
     pub now-size : length v ≡ 256
     now-size = pair-size t q (inv .small) u (inv .size) put
 
@@ -189,7 +188,7 @@ module _ {t : Table} (h : Core (t .k)) {p : ℕ} (b : p < 16) {s : List ℕ} whe
         go n c true x = last n (now-put n c x)
         go n c false x = now-stay n c x
 
-    pub rise-on : (q ≡ 0 → ⊥) → {r : ℕ} → t .k .parent q ≡ r → Rising t p s r (left - 1) v
+    pub rise-on : (q ≡ 0 → ⊥) → {r : ℕ} → t .k .parent q ≡ r → GoingUp t p s r (left - 1) v
     rise-on z {r} e =
         let (m, d, c) = step (inv .climbs) in
         record {
@@ -259,6 +258,6 @@ module _ (t : Table) {s : List ℕ} where
   zero-end inv h = fill-tab inv h
 
 -- who is gone, and then the way up from the current one
-pub gone-put : (t : Table) (s : List ℕ) {c : ℕ} {u v : List ℕ} → t .k .current ≡ c → u ≡ putThose (absent (t .k)) t s → v ≡ putThose (above (t .k) c) t u → v ≡ putThose (among Gone (t .k)) t s
-unfolding among
+pub gone-put : (t : Table) (s : List ℕ) {c : ℕ} {u v : List ℕ} → t .k .current ≡ c → u ≡ putThose (absent (t .k)) t s → v ≡ putThose (above (t .k) c) t u → v ≡ putThose (touches Gone (t .k)) t s
+unfolding touches
 gone-put t s e q r = r ∙ rw (q, ← e) (those-twice t (above (t .k) (t .k .current)) (absent (t .k)) s)

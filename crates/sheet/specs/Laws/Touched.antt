@@ -61,15 +61,15 @@ use Rattle.isolation.specs.Whole.{serve-right, served}
 use Rattle.sheet.specs.Sheet.{numberOfLines, masksOf, masksWord, linesWord, sheetWord, sheetOf}
 use Rattle.sheet.specs.Bytes.{sheetBytes, pairPut}
 use Rattle.sheet.specs.Sums.{childrenOf}
-use Rattle.sheet.specs.Touched.{givenIn, nextIn, touchedOfCaller, touchedBy, touched, Named, above, among, masksWith, keptPair, putThose, sheetKept}
-use Rattle.sheet.specs.declared.Whose.{Whose}
-use Rattle.sheet.specs.declared.Whose.the-variants.{Nobody, One, Up, Gone}
+use Rattle.sheet.specs.Touched.{givenIn, nextIn, touchedOfCaller, touchedBy, touched, Named, above, touches, masksWith, keptPair, putThose, sheetKept}
+use Rattle.sheet.specs.declared.calls.Whose.{Whose}
+use Rattle.sheet.specs.declared.calls.Whose.the-variants.{Nobody, One, Up, Gone}
 use Rattle.sheet.specs.Laws.Words.{masks-in}
 use Rattle.sheet.specs.Laws.Reading.{masks-read, bytes-same}
 use Rattle.sheet.specs.Laws.Children.{SameChildren, heads-same, serve-children}
 use Rattle.sheet.specs.Laws.Kept.{PairAlike, stays-alike, masks-same, lines-same}
 use Rattle.sheet.specs.Laws.Those.{above-not, those-all, pair-size, pair-in, pair-out}
-use Rattle.sheet.specs.Laws.Outside.{create-stays, prepare-stays, collect-stays, remove-stays}
+use Rattle.sheet.specs.Laws.Outside.{create-stays, prepare-stays, collect-stays, removal-stays}
 
 -- the two words of q are as they were
 abbrev SamePair : Table → Table → ℕ → Type 0
@@ -118,7 +118,7 @@ module _ {t : Table} (h : Right t) where
 
   -- What is put brings the sheet up to the table: the others' pairs stay.
   record Follows (x : Whose) (new : Table) : Type 0 where
-    others : (q : ℕ) → q < 16 → among x (new .k) q ≡ false → SamePair t new q
+    others : (q : ℕ) → q < 16 → touches x (new .k) q ≡ false → SamePair t new q
     bytes : sheetKept x new before ≡ sheetBytes (sheetOf new)
 
   follows-nobody : {new : Table} → ((q : ℕ) → SamePair t new q) → Follows Nobody new
@@ -126,7 +126,7 @@ module _ {t : Table} (h : Right t) where
   follows-nobody {new} same = record { others = λ q _ _. same q; bytes = ap sheetBytes (sym (all-same t new same)) }
 
   follows-one : {new : Table} (p : ℕ) → p < 16 → ((q : ℕ) → (q ≡ p → ⊥) → SamePair t new q) → masksWith (fieldsIn masks (wordAt before (2 * p)) .children) new p ≡ masksWord new p → Follows (One (record { 0 = p })) new
-  unfolding sheetKept keptPair among
+  unfolding sheetKept keptPair touches
   follows-one {new} p b same own = record {
     others = λ q _ x. same q (λ z. false≢true (sym x ∙ eq-eqb q p z));
     bytes = one-put t new p b same own refl;
@@ -136,11 +136,11 @@ module _ {t : Table} (h : Right t) where
   those-bytes new m same = those-all new m before (λ n b x. other-byte t new n b (same (n / 16) (omega arith) x))
 
   follows-up : {new : Table} (p : Partition) → ((q : ℕ) → q < 16 → above (new .k) (p .0) q ≡ false → SamePair t new q) → Follows (Up p) new
-  unfolding sheetKept among
+  unfolding sheetKept touches
   follows-up {new} p same = record { others = same; bytes = those-bytes new (above (new .k) (p .0)) same }
 
   follows-gone : {new : Table} → ((q : ℕ) → q < 16 → absent (new .k) q || above (new .k) (new .k .current) q ≡ false → SamePair t new q) → Follows Gone new
-  unfolding sheetKept among
+  unfolding sheetKept touches
   follows-gone {new} same = record { others = same; bytes = those-bytes new (λ q. absent (new .k) q || above (new .k) (new .k .current) q) same }
 
   -- ── entries of p change, and of others at most whom they are given to ──
@@ -257,7 +257,7 @@ module _ {t : Table} (h : Right t) where
         go q x none u = absurd (true≢false (rw u at x))
         go q x (some a) u =
             let far = above-not (right .core) (rw caller (present-small (h .core) (h .core .s1-current))) (rw u at x) in
-            stayed (remove-stays h right ok is (a, u) (rw caller at far))
+            stayed (removal-stays h right ok is (a, u) (rw caller at far))
 
     at : (n : ℕ) → f .service ≡ n → Follows (touchedBy n (t .k) f) new → Follows (touchedBy (f .service) (t .k) f) new
     at n q e = subst (λ (n : ℕ). Follows (touchedBy n (t .k) f) new) (sym q) e
@@ -293,7 +293,7 @@ module _ (b : Board) (l : List ℕ) (w : ℕ) (small : Words l) (named : Named (
   follows : Follows (served b l w small z .1) (touched (view l .k) w) new
   follows = let (_, h, x) = served b l w small z in serve-follows h b (fieldsIn call w) x named
 
-  pub call-touched : (q : ℕ) → q < 16 → among (touched (view l .k) w) (new .k) q ≡ false → (masksWord new q ≡ masksWord (view l) q) × (linesWord new q ≡ linesWord (view l) q)
+  pub call-touched : (q : ℕ) → q < 16 → touches (touched (view l .k) w) (new .k) q ≡ false → (masksWord new q ≡ masksWord (view l) q) × (linesWord new q ≡ linesWord (view l) q)
   call-touched = follows .others
 
   -- .. so what the code puts makes the sheet of the table after it
@@ -410,9 +410,9 @@ module _ (t : Table) (s : List ℕ) {x : Whose} where
   kept-one e z = z ∙ ap (λ (x : Whose). sheetKept x t s) (sym e)
 
   pub kept-up : {p : Partition} {u : List ℕ} → x ≡ Up p → u ≡ putThose (above (t .k) (p .0)) t s → u ≡ sheetKept x t s
-  unfolding sheetKept among
+  unfolding sheetKept touches
   kept-up e z = z ∙ ap (λ (x : Whose). sheetKept x t s) (sym e)
 
-  pub kept-gone : {u : List ℕ} → x ≡ Gone → u ≡ putThose (among Gone (t .k)) t s → u ≡ sheetKept x t s
+  pub kept-gone : {u : List ℕ} → x ≡ Gone → u ≡ putThose (touches Gone (t .k)) t s → u ≡ sheetKept x t s
   unfolding sheetKept
   kept-gone e z = z ∙ ap (λ (x : Whose). sheetKept x t s) (sym e)

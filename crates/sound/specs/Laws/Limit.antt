@@ -1,6 +1,6 @@
 -- The pieces of what is loaded: fewer regions, or shorter entries, need no more; on ARMv8-M the limit is no limit.
 use mathlib.Core.Path.{_≡_, refl}
-use Prim.Native.Nat.{ℕ, _+_, _*_, _≤_, _<_}
+use Prim.Native.Nat.{ℕ, _≤_, _<_}
 use native.Mathlib.Omega.{arith}
 use Rattle.loops.specs.Laws.Count.{sum-le, sum-fewer}
 use Rattle.shapes.specs.declared.Board.{Board}

@@ -1,5 +1,5 @@
 -- The list of the eleven clauses: each test says what its clause says where the lower ones hold, and `sound` passes exactly where all tests do.
-use mathlib.Core.Path.{_≡_, refl}
+use mathlib.Core.Path.{_≡_}
 use mathlib.Core.Bool.{Bool, true, not, _||_}
 use mathlib.Core.Logic.{_↔_}
 use mathlib.Core.List.{List}

@@ -1,16 +1,16 @@
 -- S8 and S9 without a look at two areas together, or at an entry and an area: each area marks the not-given entry that it equals. Then
 -- areas share no line if none marks what another did; a not-given entry is open if it is not marked, a given one if all of the child's inside it are.
 use mathlib.Core.Path.{_≡_, refl, ap, sym, subst, _∙_}
-use mathlib.Core.Bool.{Bool, true, false, not, false≢true}
-use mathlib.Core.Logic.{_⊎_, inl, inr, _↔_}
+use mathlib.Core.Bool.{Bool, true, false, false≢true}
+use mathlib.Core.Logic.{_↔_}
 use Prim.Native.Nat.{ℕ, zero, suc, _+_, _*_, _≤_, _<_}
-use native.Mathlib.Decide.{ℕ-discrete, decLt}
+use native.Mathlib.Decide.{ℕ-discrete}
 use native.Mathlib.Omega.{arith}
 use Rattle.loops.specs.Laws.Climb.{Steps, one-step, steps-one, reaches→steps}
 use Rattle.tables.specs.State.{some, Entry, Area, nowhere, K, Table}
 use Rattle.tables.specs.Laws.State.{some-inj, same-at, sameA}
 use Rattle.tables.specs.Lines.{In, InA, Clear}
-use Rattle.sound.specs.Sound.{Present, Rooted, Around, Granted, S9}
+use Rattle.sound.specs.Sound.{Rooted, Around, S9}
 use Rattle.sound.specs.Core.{Backed}
 use Rattle.sound.specs.Laws.Grants.{Grants, free-one}
 

@@ -7,7 +7,7 @@ use Prim.Native.Nat.{ℕ, _<_}
 use native.Mathlib.Decide.{ℕ-discrete, decLt}
 use native.Mathlib.Omega.{arith}
 use lib.Dec.{eqb}
-use borrow.Author.Tests.{eqb-true, eq-eqb, ne-eqb}
+use borrow.Author.Tests.{eqb-true, eq-eqb}
 use Rattle.loops.specs.Loops.{all}
 use Rattle.loops.specs.Laws.Every.{all-at, all-of, bool-ext}
 use Rattle.words.specs.declared.Rights.{Rights}

@@ -3,11 +3,8 @@ use mathlib.Core.Path.{_≡_, ap, sym, _∙_}
 use mathlib.Core.List.{List}
 use Prim.Native.Nat.{ℕ, _≤_, _<_}
 use native.Mathlib.Decide.{ℕ-discrete}
-use native.Mathlib.Omega.{arith}
-use Rattle.loops.specs.Loops.{Reaches, at-root, by-step}
 use Rattle.shapes.specs.declared.Board.{Board}
 use Rattle.tables.specs.State.{some, Entry, K, Table}
-use Rattle.tables.specs.Laws.State.{same-at}
 use Rattle.tables.specs.View.{view}
 use Rattle.tables.specs.Lines.{In, Holds}
 use Rattle.sound.specs.Sound.{Present, S9, Loaded, Sound}

@@ -9,7 +9,7 @@ use borrow.Author.Tests.{ltb-true}
 use Rattle.words.specs.Kind.{fieldsIn}
 use Rattle.words.specs.Words.{slot}
 use Rattle.tables.specs.State.{none, Table}
-use Rattle.tables.specs.View.{recordWord, areaWordAt, slotWordAt, entryIn, areaIn, slotAt, areaAt, inside, viewK, view}
+use Rattle.tables.specs.View.{recordWord, slotWordAt, entryIn, areaIn, slotAt, areaAt, inside, viewK, view}
 use Rattle.tables.specs.Laws.Spelling.{area-word, slot-word}
 
 pub record Stays (t new : Table) (p : ℕ) : Type 0 where

@@ -1,5 +1,5 @@
 -- At its place stands the new value, and everywhere else the old one.
-use mathlib.Core.Path.{_≡_, refl, ap, sym, _∙_}
+use mathlib.Core.Path.{_≡_, refl, ap, ap₂, sym, _∙_}
 use mathlib.Core.Logic.{_⊎_, inl, inr}
 use Prim.Native.Nat.{ℕ}
 use native.Mathlib.Decide.{ℕ-discrete}
@@ -57,3 +57,18 @@ module _ {A : Type 0} (f : ℕ → ℕ → A) (p i : ℕ) (a : A) (q j : ℕ) wh
       go : Dec ((q ≡ p) × (j ≡ i)) → ((q ≡ p) × (j ≡ i) × (a ≡ b)) ⊎ (((q ≡ p) × (j ≡ i) → ⊥) × (f q j ≡ b))
       go (yes z) = inl (z .0, z .1, sym (upd-same z) ∙ h)
       go (no z) = inr (z, sym (upd-other z) ∙ h)
+
+-- ── a function with the value that it has ──
+pub upd1-keep : {A : Type 0} (f : ℕ → A) (p : ℕ) → upd1 f p (f p) ≡ f
+upd1-keep f p = λ x q. at q (ℕ-discrete q p) x
+  where
+    at : (q : ℕ) → Dec (q ≡ p) → upd1 f p (f p) q ≡ f q
+    at q (yes z) = upd1-same f p (f p) q z ∙ ap f (sym z)
+    at q (no z) = upd1-other f p (f p) q z
+
+pub upd-keep : {A : Type 0} (f : ℕ → ℕ → A) (p i : ℕ) → upd f p i (f p i) ≡ f
+upd-keep f p i = λ x q j. at q j (both? p i q j) x
+  where
+    at : (q j : ℕ) → Dec ((q ≡ p) × (j ≡ i)) → upd f p i (f p i) q j ≡ f q j
+    at q j (yes z) = upd-same f p i (f p i) q j z ∙ ap₂ f (sym (z .0)) (sym (z .1))
+    at q j (no z) = upd-other f p i (f p i) q j z

@@ -1,6 +1,6 @@
 -- src/main.rt, print_runs: ends without a fault
 use mathlib.Core.Path.{_≡_, ap}
-use Prim.Native.Nat.{ℕ, _-_, _≤_}
+use Prim.Native.Nat.{_-_, _≤_}
 use Rattle.shapes.specs.declared.Board.the-variants.{V7}
 use Rattle.tables.specs.Laws.Top.{top-16}
 use Rattle.runs.specs.declared.listing.Plan.{Plan}

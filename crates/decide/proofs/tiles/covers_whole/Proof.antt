@@ -1,6 +1,5 @@
 -- src/tiles.rt, covers_whole: r ≡ exactly (view t .k) (p .0) && s11 (view t .k) (p .0) && grantsOpen (view t) (p .0)
 use Rattle.decide.specs.Laws.Lines.{root-lacks, root-end}
-use borrow.Author.Needs.{needs}
 use Rattle.decide.proofs.tiles.covers_whole.Statement.{statement}
 use Rattle.decide.proofs.tiles.covers_whole.Tie as tie
 

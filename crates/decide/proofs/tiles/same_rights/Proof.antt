@@ -1,7 +1,6 @@
 -- src/tiles.rt, same_rights: r ≡ sameRights a b
 use mathlib.Core.Path.{refl}
 use Rattle.sound.specs.Clauses.{sameRights}
-use borrow.Author.Needs.{needs}
 use Rattle.decide.proofs.tiles.same_rights.Statement.{statement}
 use Rattle.decide.proofs.tiles.same_rights.Tie as tie
 

@@ -1,7 +1,6 @@
 -- src/tiles.rt, tile_slot: TiledSlot t order (p .0) n i (q .0) (j .0) x
 use Rattle.tables.specs.Laws.View.{slot-bounds}
 use Rattle.decide.specs.Laws.Tiles.{slot-tiled}
-use borrow.Author.Needs.{needs}
 use Rattle.decide.proofs.tiles.tile_slot.Statement.{statement}
 use Rattle.decide.proofs.tiles.tile_slot.Tie as tie
 

@@ -1,5 +1,5 @@
 -- src/walk.rt, walk: WalkSays t order counts mark 16 0 r next′
-use Prim.Native.Nat.{_-_, _≤_}
+use Prim.Native.Nat.{_-_}
 use native.Mathlib.Omega.{arith}
 use borrow.Author.Tests.{not-false}
 use Rattle.decide.specs.Walk.{WalkedTo}

@@ -3,7 +3,6 @@ use mathlib.Core.Path.{sym, _∙_}
 use borrow.Author.Tests.{not-true}
 use Rattle.decide.specs.Laws.Decide.{passed}
 use Rattle.decide.specs.Laws.Walk.{row-absent, walk-says}
-use borrow.Author.Needs.{needs}
 use Rattle.decide.proofs.walk.walk_partition.Statement.{statement}
 use Rattle.decide.proofs.walk.walk_partition.Tie as tie
 

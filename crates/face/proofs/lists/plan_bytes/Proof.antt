@@ -1,9 +1,8 @@
 -- src/lists.rt, plan_bytes: (r ≡ readyOf board table size) × (now (words .exit) ≡ leftOf board table)
-use mathlib.Core.Path.{refl, ap, sym, subst, _∙_}
+use mathlib.Core.Path.{ap, sym, subst, _∙_}
 use mathlib.Core.List.{List}
 use Prim.Native.Nat.{ℕ}
 use native.Mathlib.Omega.{arith}
-use borrow.Author.Needs.{needs}
 use Rattle.tables.specs.Laws.Top.{top-at}
 use Rattle.runs.specs.declared.listing.Plan.{Plan}
 use Rattle.runs.specs.Listing.{planOf, marksIn}

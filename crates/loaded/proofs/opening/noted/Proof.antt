@@ -1,7 +1,6 @@
 -- src/opening.rt, noted: r ≡ slotNoted mask x
 use borrow.Author.Tests.{not-true, not-false}
 use Rattle.loaded.specs.Laws.Regions.{noted-none, noted-loaded}
-use borrow.Author.Needs.{needs}
 use Rattle.loaded.proofs.opening.noted.Statement.{statement}
 use Rattle.loaded.proofs.opening.noted.Tie as tie
 

@@ -1,7 +1,5 @@
 -- src/walk.rt, leave_marks: (r ≡ length (runsOf (view t .k))) × (now (t .exit) ≡ marksOver 641 (view t .k) t)
 use mathlib.Core.Path.{refl, ap, _∙_}
-use mathlib.Core.List.{List}
-use Prim.Native.Nat.{ℕ}
 use lib.ListN.{length, replicate}
 use native.Mathlib.Omega.{arith}
 use borrow.Author.Needs.{needs}

@@ -2,7 +2,6 @@
 use mathlib.Core.Path.{refl}
 use Rattle.tables.specs.View.{entryIn}
 use Rattle.sheet.specs.Sheet.{numberOfLines}
-use native.Mathlib.Omega.{arith}
 use borrow.Author.Needs.{needs}
 use Rattle.sheet.proofs.sums.lines.Statement.{statement}
 use Rattle.sheet.proofs.sums.lines.Tie as tie

@@ -2,7 +2,6 @@
 use mathlib.Core.Path.{refl, _∙_}
 use borrow.Author.Tests.{not-true, not-false}
 use Rattle.sheet.specs.Laws.Sums.{open-is}
-use borrow.Author.Needs.{needs}
 use Rattle.sheet.proofs.sums.open_lines.Statement.{statement}
 use Rattle.sheet.proofs.sums.open_lines.Tie as tie
 

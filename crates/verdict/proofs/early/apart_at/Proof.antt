@@ -1,7 +1,6 @@
 -- src/early.rt, apart_at: r ≡ s6 (view t .k) (p .0)
 use mathlib.Core.Path.{refl}
 use Rattle.ordering.specs.Laws.Arrange.{rowed-says}
-use borrow.Author.Needs.{needs}
 use Rattle.verdict.proofs.early.apart_at.Statement.{statement}
 use Rattle.verdict.proofs.early.apart_at.Tie as tie
 

@@ -2,7 +2,6 @@
 use mathlib.Core.Path.{refl}
 use borrow.Author.Tests.{lt-ltb, le-ltb}
 use Rattle.tables.specs.Settle.{meets}
-use borrow.Author.Needs.{needs}
 use Rattle.verdict.proofs.owned.meet.Statement.{statement}
 use Rattle.verdict.proofs.owned.meet.Tie as tie
 

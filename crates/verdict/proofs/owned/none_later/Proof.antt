@@ -1,7 +1,7 @@
 -- src/owned.rt, none_later: r ≡ all 80 (λ n. not (ltb m n) || apart (view t .k .area (n / 5) (n % 5)) (lo .0) (hi .0))
 use mathlib.Core.Path.{ap, sym, _∙_}
 use mathlib.Core.Bool.{not}
-use Prim.Native.Nat.{_+_, _-_}
+use Prim.Native.Nat.{_-_}
 use native.Mathlib.Omega.{arith}
 use Rattle.loops.specs.Laws.Every.{Passing}
 use Rattle.loops.specs.Laws.Scan.{seek-start, seek-hit, seek-on, seek-end}

@@ -3,7 +3,7 @@ use mathlib.Core.Path.{refl, ap, sym, _∙_}
 use mathlib.Core.Bool.{not}
 use Prim.Native.Nat.{_-_}
 use native.Mathlib.Omega.{arith}
-use borrow.Author.Tests.{not-true, not-false}
+use borrow.Author.Tests.{not-true}
 use Rattle.loops.specs.Laws.Every.{Passing}
 use Rattle.loops.specs.Laws.Scan.{seek-start, seek-hit, seek-on, seek-end}
 use Rattle.tables.specs.View.{view}

@@ -1,6 +1,6 @@
 -- src/says.rt, runs: ends without a fault
 use mathlib.Core.Path.{_≡_, ap}
-use Prim.Native.Nat.{ℕ, _-_, _≤_}
+use Prim.Native.Nat.{_-_, _≤_}
 use Rattle.tables.specs.Laws.Top.{top-16}
 use Rattle.runs.specs.declared.listing.Plan.{Plan}
 use Rattle.runs.specs.Listing.{planOf}

@@ -1,8 +1,8 @@
--- src/lib.rt, touched: (r ≡ touched (view t .k) word) × Named r
+-- src/calls.rt, touched: (r ≡ touched (view t .k) word) × Named r
 use Rattle.sheet.specs.Laws.Touched.{told-slot, told-gone, told-up, told-one, told-else}
 use borrow.Author.Needs.{needs}
-use Rattle.sheet.proofs.touched.Statement.{statement}
-use Rattle.sheet.proofs.touched.Tie as tie
+use Rattle.sheet.proofs.calls.touched.Statement.{statement}
+use Rattle.sheet.proofs.calls.touched.Tie as tie
 
 pub touched-spec : {M : Type 1} → statement M
 touched-spec =

@@ -1,4 +1,4 @@
--- src/lib.rt, zero_absent: now (sheet .exit) ≡ putThose (absent (view t .k)) (view t) sheet
+-- src/kept.rt, zero_absent: now (sheet .exit) ≡ putThose (absent (view t .k)) (view t) sheet
 use mathlib.Core.Path.{sym, _∙_}
 use mathlib.Core.Logic.{⊎-elim}
 use Prim.Native.Nat.{_*_, _-_, _≤_}
@@ -8,8 +8,8 @@ use Rattle.tables.specs.View.{view}
 use Rattle.sheet.specs.Laws.Those.{orZero, zero-start, zero-put, zero-skip, zero-end}
 use native.Mathlib.Omega.{arith}
 use borrow.Author.Needs.{needs}
-use Rattle.sheet.proofs.zero_absent.Statement.{statement}
-use Rattle.sheet.proofs.zero_absent.Tie as tie
+use Rattle.sheet.proofs.kept.zero_absent.Statement.{statement}
+use Rattle.sheet.proofs.kept.zero_absent.Tie as tie
 
 abbrev Inv-loop : tie.InvT-loop
 Inv-loop t sheet₀ p₀ sheet p = (p ≤ 16) × Filling (orZero (view t)) sheet₀ 256 (16 * p) sheet

@@ -1,8 +1,8 @@
--- src/lib.rt, keep_sheet: now (sheet .exit) ≡ sheetKept x (view t) sheet
+-- src/kept.rt, keep_sheet: now (sheet .exit) ≡ sheetKept x (view t) sheet
 use Rattle.sheet.specs.Laws.Touched.{kept-nobody, kept-one, kept-up, kept-gone}
 use borrow.Author.Needs.{needs}
-use Rattle.sheet.proofs.keep_sheet.Statement.{statement}
-use Rattle.sheet.proofs.keep_sheet.Tie as tie
+use Rattle.sheet.proofs.kept.keep_sheet.Statement.{statement}
+use Rattle.sheet.proofs.kept.keep_sheet.Tie as tie
 
 pub keep-sheet-spec : {M : Type 1} → statement M
 keep-sheet-spec =

@@ -1,9 +1,9 @@
--- src/lib.rt, put_again: now (sheet .exit) ≡ keptPair (view t) (p .0) sheet
+-- src/kept.rt, put_again: now (sheet .exit) ≡ keptPair (view t) (p .0) sheet
 use Rattle.sheet.specs.Laws.Touched.{few-again, pair-again}
 use native.Mathlib.Omega.{arith}
 use borrow.Author.Needs.{needs}
-use Rattle.sheet.proofs.put_again.Statement.{statement}
-use Rattle.sheet.proofs.put_again.Tie as tie
+use Rattle.sheet.proofs.kept.put_again.Statement.{statement}
+use Rattle.sheet.proofs.kept.put_again.Tie as tie
 
 pub put-again-spec : {M : Type 1} → statement M
 put-again-spec =

@@ -1,8 +1,8 @@
--- src/lib.rt, put_up: now (sheet .exit) ≡ putThose (above (view t .k) (p .0)) (view t) sheet
+-- src/kept.rt, put_up: now (sheet .exit) ≡ putThose (above (view t .k) (p .0)) (view t) sheet
 use mathlib.Core.Path.{refl}
 use borrow.Author.Needs.{needs}
-use Rattle.sheet.proofs.put_up.Statement.{statement}
-use Rattle.sheet.proofs.put_up.Tie as tie
+use Rattle.sheet.proofs.kept.put_up.Statement.{statement}
+use Rattle.sheet.proofs.kept.put_up.Tie as tie
 
 pub put-up-spec : {M : Type 1} → statement M
 put-up-spec =

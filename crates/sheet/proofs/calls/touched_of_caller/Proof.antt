@@ -1,8 +1,8 @@
--- src/lib.rt, touched_of_caller: (r ≡ touchedOfCaller service (view t .k) (i .0)) × Named r
+-- src/calls.rt, touched_of_caller: (r ≡ touchedOfCaller service (view t .k) (i .0)) × Named r
 use Rattle.sheet.specs.Laws.Touched.{caller-creates, caller-takes, caller-cuts, caller-else}
 use borrow.Author.Needs.{needs}
-use Rattle.sheet.proofs.touched_of_caller.Statement.{statement}
-use Rattle.sheet.proofs.touched_of_caller.Tie as tie
+use Rattle.sheet.proofs.calls.touched_of_caller.Statement.{statement}
+use Rattle.sheet.proofs.calls.touched_of_caller.Tie as tie
 
 pub touched-of-caller-spec : {M : Type 1} → statement M
 touched-of-caller-spec =

@@ -1,15 +1,15 @@
--- src/lib.rt, climb_pairs: now (sheet .exit) ≡ putThose (above (view t .k) (p .0)) (view t) sheet
+-- src/kept.rt, climb_pairs: now (sheet .exit) ≡ putThose (above (view t .k) (p .0)) (view t) sheet
 use mathlib.Core.Path.{sym, _∙_}
 use Rattle.tables.specs.View.{view}
 use Rattle.sheet.specs.Laws.Words.{children-few}
-use Rattle.sheet.specs.Laws.Those.{pair-with, Rising, rise-start, now-size, rise-end, rise-on}
+use Rattle.sheet.specs.Laws.Those.{pair-with, GoingUp, rise-start, now-size, rise-end, rise-on}
 use native.Mathlib.Omega.{arith}
 use borrow.Author.Needs.{needs}
-use Rattle.sheet.proofs.climb_pairs.Statement.{statement}
-use Rattle.sheet.proofs.climb_pairs.Tie as tie
+use Rattle.sheet.proofs.kept.climb_pairs.Statement.{statement}
+use Rattle.sheet.proofs.kept.climb_pairs.Tie as tie
 
 abbrev Inv-loop : tie.InvT-loop
-Inv-loop t masks sheet₀ q₀ left₀ sheet q left = Rising (view t) q₀ sheet₀ q left sheet
+Inv-loop t masks sheet₀ q₀ left₀ sheet q left = GoingUp (view t) q₀ sheet₀ q left sheet
 
 abbrev μ-loop : tie.MeasureT-loop
 μ-loop t masks sheet₀ q₀ left₀ sheet q left = left

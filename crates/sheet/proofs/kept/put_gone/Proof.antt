@@ -1,10 +1,10 @@
--- src/lib.rt, put_gone: now (sheet .exit) ≡ putThose (among Gone (view t .k)) (view t) sheet
+-- src/kept.rt, put_gone: now (sheet .exit) ≡ putThose (touches Gone (view t .k)) (view t) sheet
 use mathlib.Core.Path.{ap, sym, _∙_}
 use lib.ListN.{length}
 use Rattle.sheet.specs.Laws.Those.{those-length, gone-put}
 use borrow.Author.Needs.{needs}
-use Rattle.sheet.proofs.put_gone.Statement.{statement}
-use Rattle.sheet.proofs.put_gone.Tie as tie
+use Rattle.sheet.proofs.kept.put_gone.Statement.{statement}
+use Rattle.sheet.proofs.kept.put_gone.Tie as tie
 
 pub put-gone-spec : {M : Type 1} → statement M
 put-gone-spec =
