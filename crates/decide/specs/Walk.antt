@@ -31,12 +31,16 @@ pub record Exact (E : ℕ → Entry) (n : ℕ) (F : ℕ → Entry) (m p : ℕ) :
 pub record Bits (E : ℕ → Entry) (O : ℕ → Bool) (n : ℕ) (F : ℕ → Entry) (P : ℕ → Bool) (m p : ℕ) : Type 0 where
   pub says : (b : ℕ) → b < m → F b .given ≡ p → (P b ≡ true) ↔ ((a : ℕ) → a < n → Around (E a) (F b) → O a ≡ true)
 
--- so are the first i of the n entries of p, and the first j of the m entries of q
-pub record Walked (l o : List ℕ) (p q n m i j : ℕ) : Type 0 where
+-- so are the first i of them, and the first j
+pub record WalkedRows (E : ℕ → Entry) (O : ℕ → Bool) (n : ℕ) (F : ℕ → Entry) (P : ℕ → Bool) (m p i j : ℕ) : Type 0 where
   pub few : i ≤ n
   pub far : j ≤ m
-  pub exact : Exact (rowOf l o p) i (rowOf l o q) j p
-  pub bits : Bits (rowOf l o p) (openedBit l o p) i (rowOf l o q) (openedBit l o q) j p
+  pub exact : Exact E i F j p
+  pub bits : Bits E O i F P j p
+
+-- .. of the n entries of p, and of the m entries of q
+abbrev pub Walked : List ℕ → List ℕ → ℕ → ℕ → ℕ → ℕ → ℕ → ℕ → Type 0
+Walked l o p q n m i j = WalkedRows (rowOf l o p) (openedBit l o p) n (rowOf l o q) (openedBit l o q) m p i j
 
 -- ── the walk, at place j of q ──
 -- how many places of r are behind it; c has how many there are

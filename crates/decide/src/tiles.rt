@@ -1,19 +1,16 @@
 ghost use mathlib.Core.Path.{_≡_};
-ghost use mathlib.Core.Bool.{true, _&&_};
+ghost use mathlib.Core.Bool.{_&&_};
 ghost use Rattle.loops.specs.Loops.{bitOf};
-ghost use Prim.Native.Nat.{_≤_, _<_};
+ghost use Prim.Native.Nat.{_≤_};
 ghost use Rattle.tables.specs.State.{allRights};
 ghost use Rattle.tables.specs.View.{view};
-ghost use Rattle.tables.specs.Search.{present};
 ghost use Rattle.sound.specs.Clauses.{within, sameRights, s11};
 ghost use Rattle.shape.specs.AtOnce.{Shaped};
 ghost use Rattle.decide.specs.Entries.{exactly};
-ghost use Rattle.ordering.specs.Order.{Orders};
 ghost use Rattle.decide.specs.Local.{grantsOpen};
-ghost use Rattle.decide.specs.Tiles.{rightsNumber, follows, rowOf, openedBit, plainRow, InOrder, ChildOf, Filled, Tiled, TiledAs, TiledSlot};
+ghost use Rattle.decide.specs.Tiles.{rightsNumber, follows, rowOf, openedBit, plainRow, InOrder, Filled, Tiled, TiledAs, TiledSlot};
 use crate::entries::full_each;
 use ordering::order::entry_at;
-use ordering::order::slot_at;
 use tables::read;
 use words::Line;
 use words::Partition;
@@ -122,34 +119,6 @@ pub fn tile_slot(
     tile(t, p, order, n, i, g.start, g.end, g.rights, g.opened)
 }
 
-// The n entries of p tile, one after the other, those of the m entries of its parent q that are given to p; and none is left.
-fn tiles_grants(
-    t: &[u64; 641],
-    p: Partition,
-    q: Partition,
-    order: &[u8; 512],
-    n: u32,
-    m: u32,
-) -> bool
-    requires { ⌜ ChildOf (now t) (now order) (p .0) (q .0) n m ⌝ }
-    ensures { λ r. ⌜ r ≡ exactly (view (now (t .entry)) .k) (p .0) && s11 (view (now (t .entry)) .k) (p .0) && grantsOpen (view (now (t .entry))) (p .0) ⌝ }
-{
-    let mut i = 0u32;
-    let mut j = 0u32;
-    while j < m {
-        let s = slot_at(q, order, j);
-        let g = read::entry(t, q, s);
-        if g.given.0 == p.0 {
-            i = tile_slot(t, p, order, n, i, q, s);
-            if i > n {
-                return false;
-            }
-        }
-        j += 1;
-    }
-    i == n
-}
-
 // The entries of p from place i on tile lo to hi, whatever their rights: the place after them. Where they do not, 33, which is no place.
 pub fn tile_lines(
     t: &[u64; 641],
@@ -200,19 +169,4 @@ pub fn covers_whole(t: &[u64; 641], p: Partition, order: &[u8; 512], n: u32) -> 
         return false;
     }
     tiles_whole(t, p, order, n)
-}
-
-// S7 at p, which is present, but for what it says of given and whole entries, S11, and the open bits of what p was given: by one walk, since the entries of each
-// partition are in order
-pub fn covers(t: &[u64; 641], p: Partition, order: &[u8; 512], counts: &[u32; 16]) -> bool
-    requires { ⌜ (p .0 < 16) × (present (view (now t) .k) (p .0) ≡ true) × Shaped (now t) × Orders (view (now t) .k) (now order) (now counts) ⌝ }
-    ensures { λ r. ⌜ r ≡ exactly (view (now (t .entry)) .k) (p .0) && s11 (view (now (t .entry)) .k) (p .0) && grantsOpen (view (now (t .entry))) (p .0) ⌝ }
-{
-    let n = counts[p.0 as usize];
-    if p.0 == 0 {
-        return covers_whole(t, p, order, n);
-    }
-    let h = read::header(t, p);
-    let m = counts[h.parent.0 as usize];
-    tiles_grants(t, p, h.parent, order, n, m)
 }

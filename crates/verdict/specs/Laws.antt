@@ -1,6 +1,6 @@
 pub mod Names
 pub mod Stages
 pub mod Records
-pub mod Exact
+pub mod Cover
 pub mod Backed
 pub mod Given

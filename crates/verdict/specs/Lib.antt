@@ -1,4 +1,5 @@
 pub mod Verdict
 pub mod Stages
+pub mod Cover
 pub mod Laws
 pub mod Theorem

@@ -3,14 +3,29 @@ ghost use mathlib.Core.Bool.{true};
 ghost use Prim.Native.Nat.{_≤_, _<_};
 ghost use Rattle.tables.specs.View.{view};
 ghost use Rattle.settling.specs.Areas.{AreasOf};
-ghost use Rattle.sound.specs.Clauses.{s9, s11, clauseAt};
+ghost use Rattle.sound.specs.Clauses.{s7, s9, s11, clauseAt};
 ghost use Rattle.shape.specs.AtOnce.{Shaped};
 ghost use Rattle.ordering.specs.Order.{Orders};
 ghost use Rattle.verdict.specs.Stages.{openSlot, Before11, lowestOf, Reached, Sorted};
+use crate::cover::covers;
 use settling::areas::clear_of;
 use shapes::Board;
 use words::Partition;
 use words::Slot;
+
+// S7 at p
+fn exact_at(t: &[u64; 641], p: Partition, order: &[u8; 512], counts: &[u32; 16]) -> bool
+    requires { ⌜ (p .0 < 16) × Shaped (now t) × Orders (view (now t) .k) (now order) (now counts) ⌝ }
+    ensures { λ r. ⌜ r ≡ s7 (view (now (t .entry))) (p .0) ⌝ }
+{
+    if !searching::is_present(t, p) {
+        return true;
+    }
+    if !crate::given::given_each(t, p) {
+        return false;
+    }
+    covers(false, t, p, order, counts)
+}
 
 // slot i of p is open exactly if it is clear of the areas
 fn open_slot(t: &[u64; 641], p: Partition, i: Slot, n: usize, s: &[u32; 80], e: &[u32; 80]) -> bool
@@ -47,7 +62,7 @@ fn rights_at(t: &[u64; 641], p: Partition, order: &[u8; 512], counts: &[u32; 16]
     if !searching::is_present(t, p) {
         return true;
     }
-    decide::tiles::covers(t, p, order, counts)
+    covers(true, t, p, order, counts)
 }
 
 // Clause k at p, of S7 to S11; the clauses below it hold.
@@ -66,7 +81,7 @@ fn holds(
     ensures { λ r. ⌜ r ≡ clauseAt board (now (t .entry)) k (p .0) ⌝ }
 {
     if k <= 7 {
-        return crate::lines::exact_at(t, p, order, counts);
+        return exact_at(t, p, order, counts);
     }
     if k <= 8 {
         return crate::owned::owned_at(t, p);

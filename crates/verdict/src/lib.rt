@@ -5,10 +5,10 @@ ghost use Rattle.verdict.specs.Stages.{saidOf};
 // The lowest clause that a table fails, and the lowest partition where it fails.
 mod backed;
 mod bits;
+mod cover;
 mod early;
 mod given;
 mod late;
-mod lines;
 mod owned;
 
 use shapes::Board;

@@ -1,13 +1,14 @@
 -- The walk along lines alone decides S7's cover: it is the walk of `Tiles` over entries that all have the same rights. The root's is that.
-use mathlib.Core.Path.{_≡_, refl, sym, subst, _∙_}
+use mathlib.Core.Path.{_≡_, refl, sym, _∙_}
 use mathlib.Core.Bool.{Bool, true, false, not, _&&_, and-true as and-unit}
 use mathlib.Core.List.{List}
 use Prim.Native.Nat.{ℕ, _+_, _≤_, _<_}
-use native.Mathlib.Decide.{ℕ-discrete, decLt}
+use native.Mathlib.Decide.{decLt}
 use native.Mathlib.Omega.{arith}
 use lib.Dec.{eqb}
-use borrow.Author.Tests.{eq-eqb, ne-eqb}
+use borrow.Author.Tests.{ne-eqb}
 use Rattle.loops.specs.Loops.{all}
+use Rattle.words.specs.declared.Rights.{Rights}
 use Rattle.words.specs.declared.slot_word.SlotFields.{SlotFields}
 use Rattle.tables.specs.State.{Entry, allRights}
 use Rattle.tables.specs.View.{view}
@@ -20,9 +21,9 @@ use Rattle.decide.specs.Local.{grantsOpen}
 use Rattle.decide.specs.Laws.Local.{root-open}
 use Rattle.decide.specs.Laws.Decide.{failed, passed}
 use Rattle.ordering.specs.Order.{placed}
-use Rattle.decide.specs.Tiles.{Tiling, GoesOn, Tiled, stuck, rowOf, unranked, plainRow, InOrder}
-use Rattle.decide.specs.Walk.{Exact}
-use Rattle.decide.specs.Laws.Tiles.{TwoRows, Lies, tile-on, exact-start, exact-short, exact-on, exact-stuck, row-seen, row-line, row-ends, whole, root-lies, lies-root}
+use Rattle.decide.specs.Tiles.{Tiling, GoesOn, Tiled, stuck, TiledAs, alike, rowOf, unranked, plainRow, InOrder}
+use Rattle.decide.specs.Walk.{Exact, Bits}
+use Rattle.decide.specs.Laws.Tiles.{TwoRows, Lies, tile-on, RowsTell, rows-start, rows-end, rows-on, rows-stuck, row-seen, row-line, row-ends, whole, root-lies, lies-root}
 
 -- ── rights apart ──
 module _ {E : ℕ → Entry} {n : ℕ} {F : ℕ → Entry} {m p : ℕ} where
@@ -40,6 +41,13 @@ module _ {E : ℕ → Entry} {n : ℕ} {F : ℕ → Entry} {m p : ℕ} where
     rights = λ a b c d g u. refl;
     equal = λ a c b d e f g u v. refl;
   }
+
+-- .. and open bits: all are set
+pub no-bits : {E F : ℕ → Entry} {n m p : ℕ} → Bits E (λ _. true) n F (λ _. true) m p
+no-bits = record { says = λ b c g. (λ _ a d u. refl, λ _. refl) }
+
+pub lines-as : {E : ℕ → Entry} {n i lo hi x : ℕ} {r : Rights} → Tiled E n i lo hi r x → TiledAs E (λ _. true) n i lo hi r true x
+lines-as t = alike t (λ _. (λ _ a b c. refl, λ _. refl))
 
 -- ── the walk along one range, as the code reads the entries ──
 module _ {l o : List ℕ} {p n i k lo hi at : ℕ} (h : InOrder l o p n) (inv : Tiling (plainRow l o p) i k lo hi at allRights) where
@@ -68,19 +76,19 @@ module _ {l o : List ℕ} {p n : ℕ} (h : InOrder l o p n) (root : p ≡ 0) whe
   one-row : TwoRows (plainRow l o p) n (whole l p) 1
   one-row = record { line = row-line h; ends = row-ends h; grants = λ a b c d. absurd (omega arith) }
 
+  root-tells : RowsTell (plainRow l o p) (λ _. true) n (whole l p) (λ _. true) 1 p (exactly (view l .k) p)
+  root-tells = record {
+    rows = one-row;
+    to = λ q. (lies-exact {E = rowOf l o p} {F = whole l p} (root-lies h root q), no-bits);
+    back = λ x _. lies-root h root (exact-lies {E = rowOf l o p} {F = whole l p} x);
+  }
+
   pub root-walk : {x : ℕ} → Tiled (plainRow l o p) n 0 (view l .k .base) (view l .k .stop) allRights x → eqb x n ≡ exactly (view l .k) p
-  root-walk {x} t = go (ℕ-discrete x n) (decLt n x)
+  root-walk {x} t = go (decLt n x)
     where
-      start : Exact (plainRow l o p) 0 (whole l p) 0 p
-      start = exact-start
-
-      on : x ≤ n → Exact (plainRow l o p) x (whole l p) 1 p
-      on few = exact-on one-row start (omega arith) (omega arith) refl few t
-
-      go : Dec (x ≡ n) → Dec (n < x) → eqb x n ≡ exactly (view l .k) p
-      go (yes e) _ = eq-eqb x n e ∙ sym (lies-root h root (exact-lies {E = rowOf l o p} {F = whole l p} (subst (λ (x : ℕ). Exact (plainRow l o p) x (whole l p) 1 p) e (on (omega arith)))))
-      go (no e) (yes c) = ne-eqb x n e ∙ never _ (λ q. exact-stuck one-row start (omega arith) (omega arith) refl c t (lies-exact {E = rowOf l o p} {F = whole l p} (root-lies h root q)))
-      go (no e) (no c) = ne-eqb x n e ∙ never _ (λ q. exact-short one-row (on (omega arith)) (omega arith) (omega arith) (omega arith) (lies-exact {E = rowOf l o p} {F = whole l p} (root-lies h root q)))
+      go : Dec (n < x) → eqb x n ≡ exactly (view l .k) p
+      go (yes c) = ne-eqb x n (λ z. omega arith) ∙ rows-stuck root-tells rows-start (omega arith) refl (lines-as t) c
+      go (no c) = rows-end root-tells (rows-on root-tells rows-start (omega arith) refl (lines-as t) (omega arith)) (omega arith)
 
 -- S11 asks for all rights of the root, and nobody gave it anything
 module _ (l : List ℕ) {p : ℕ} (root : p ≡ 0) {r : Bool} (e : r ≡ all 32 (fullSlot (view l .k) p)) where

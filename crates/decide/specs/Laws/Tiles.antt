@@ -36,8 +36,8 @@ use Rattle.shape.specs.Laws.AtOnce.{shaped-s2, shaped-record}
 use Rattle.ordering.specs.Laws.Present.{solid}
 use Rattle.ordering.specs.Order.{linesOf, placed, Orders}
 use Rattle.ordering.specs.Laws.Order.{held-of, lines-of}
-use Rattle.decide.specs.Tiles.{TilePiece, Tiling, GoesOn, rightsNumber, follows, Tiled, fitted, stuck, AllSet, TiledAs, alike, unlike, entryOr, entryAt, rowOf, openedBit, Filled, TiledSlot, plainRow, InOrder, ChildOf}
-use Rattle.decide.specs.Walk.{Exact, Bits, Walked}
+use Rattle.decide.specs.Tiles.{TilePiece, Tiling, GoesOn, rightsNumber, follows, Tiled, fitted, stuck, AllSet, TiledAs, alike, unlike, entryOr, entryAt, rowOf, openedBit, Filled, plainRow, InOrder, ChildOf}
+use Rattle.decide.specs.Walk.{Exact, Bits, WalkedRows}
 
 -- ── two rows: n entries E, and m entries F, some of them given to p ──
 -- each of E has a line; in both, each ends by the start of those after it
@@ -227,7 +227,7 @@ module _ {E : ℕ → Entry} {O : ℕ → Bool} {n i lo hi : ℕ} {r : Rights} {
 
 -- ── laws of the walk along the grants ──
 module _ {E F : ℕ → Entry} {p : ℕ} where
-  pub exact-start : Exact E 0 F 0 p
+  exact-start : Exact E 0 F 0 p
   exact-start = record {
     inside = λ a b. absurd (omega arith);
     cover = λ a b. absurd (omega arith);
@@ -236,7 +236,7 @@ module _ {E F : ℕ → Entry} {p : ℕ} where
   }
 
   -- the next is not given to p
-  pub exact-skip : {i j : ℕ} → Exact E i F j p → (F j .given ≡ p → ⊥) → Exact E i F (j + 1) p
+  exact-skip : {i j : ℕ} → Exact E i F j p → (F j .given ≡ p → ⊥) → Exact E i F (j + 1) p
   exact-skip {i} {j} inv no-grant = record {
     inside = λ a b. let (c, h, g, u) = inv .inside a b in (c, omega arith, g, u);
     cover = λ b h g. inv .cover b (below b h g) g;
@@ -259,13 +259,13 @@ module _ {E F : ℕ → Entry} {p : ℕ} where
         omega (arith, v .to, w .ends a k (omega arith) d)
 
     -- not all of them lie inside
-    pub exact-short : m ≤ j → i < n → Exact E n F m p → ⊥
+    exact-short : m ≤ j → i < n → Exact E n F m p → ⊥
     exact-short c d ex =
         let (b, h, g, u) = ex .inside i d in
         later i b (omega arith) d (omega arith) g u
 
     module _ (next : j < m) (given : F j .given ≡ p) {x : ℕ} where
-      pub exact-on : x ≤ n → Tiled E n i (F j .start) (F j .stop) (F j .rights) x → Exact E x F (j + 1) p
+      exact-on : x ≤ n → Tiled E n i (F j .start) (F j .stop) (F j .rights) x → Exact E x F (j + 1) p
       exact-on few′ (stuck k at b z c t no-fit) = absurd (omega arith)
       exact-on few′ (fitted at _ c t) = record {
         inside = λ a b. inside a b (decLt a i);
@@ -307,7 +307,7 @@ module _ {E F : ℕ → Entry} {p : ℕ} where
               inv .equal a d b (early a b c (omega arith) g u (decLt a i)) (early d b e (omega arith) g v (decLt d i)) (omega arith) g u v
 
       -- they do not tile it
-      pub exact-stuck : n < x → Tiled E n i (F j .start) (F j .stop) (F j .rights) x → Exact E n F m p → ⊥
+      exact-stuck : n < x → Tiled E n i (F j .start) (F j .stop) (F j .rights) x → Exact E n F m p → ⊥
       exact-stuck far (fitted at few′ c t) ex = omega arith
       exact-stuck far (stuck k at _ _ c t no-fit) ex =
           let (a, d, u) = ex .cover j next given at (record { from = t .on; to = c }) in
@@ -404,9 +404,48 @@ module _ {E F : ℕ → Entry} {O P : ℕ → Bool} {p : ℕ} where
           λ set. back (λ a d u. let (e, f) = in-grant w inv next c t a d u in set a e f),
         )
 
+-- ── a walk along two rows that tells a test ──
+-- b: whether they are exact to their ends
+pub record RowsTell (E : ℕ → Entry) (O : ℕ → Bool) (n : ℕ) (F : ℕ → Entry) (P : ℕ → Bool) (m p : ℕ) (b : Bool) : Type 0 where
+  pub rows : TwoRows E n F m
+  pub to : b ≡ true → Exact E n F m p × Bits E O n F P m p
+  pub back : Exact E n F m p → Bits E O n F P m p → b ≡ true
+
+module _ {E F : ℕ → Entry} {O P : ℕ → Bool} {n m p : ℕ} where
+  pub rows-start : WalkedRows E O n F P m p 0 0
+  rows-start = record { few = omega arith; far = omega arith; exact = exact-start; bits = bits-start }
+
+  pub rows-skip : {i j : ℕ} → WalkedRows E O n F P m p i j → j < m → (F j .given ≡ p → ⊥) → WalkedRows E O n F P m p i (j + 1)
+  rows-skip inv next no-grant = record { few = inv .few; far = omega arith; exact = exact-skip (inv .exact) no-grant; bits = bits-skip (inv .bits) no-grant }
+
+  module _ {b : Bool} (h : RowsTell E O n F P m p b) {i j : ℕ} (inv : WalkedRows E O n F P m p i j) where
+    pub rows-end : m ≤ j → eqb i n ≡ b
+    rows-end c = go (ℕ-discrete i n)
+      where
+        go : Dec (i ≡ n) → eqb i n ≡ b
+        go (yes e) = let z : m ≡ j = omega (arith, inv .far) in eq-eqb i n e ∙ sym (h .back (rw (← e, z) (inv .exact)) (rw (← e, z) (inv .bits)))
+        go (no e) = ne-eqb i n e ∙ never _ (λ w. exact-short (h .rows) (inv .exact) (inv .few) c (omega (arith, inv .few)) (h .to w .0))
+
+    module _ (next : j < m) (given : F j .given ≡ p) {x : ℕ} where
+      pub rows-on : TiledAs E O n i (F j .start) (F j .stop) (F j .rights) (P j) x → x ≤ n → WalkedRows E O n F P m p x (j + 1)
+      rows-on (alike t f) few = record {
+        few = few;
+        far = omega arith;
+        exact = exact-on (h .rows) (inv .exact) (inv .few) next given few t;
+        bits = bits-on (h .rows) (inv .exact) (inv .few) next (inv .bits) few t (f few);
+      }
+      rows-on (unlike _ _ small is _ _ _ _) few = absurd (omega (arith, small, is))
+
+      pub rows-stuck : TiledAs E O n i (F j .start) (F j .stop) (F j .rights) (P j) x → n < x → false ≡ b
+      rows-stuck tiled beyond = never _ (λ w. go tiled (h .to w))
+        where
+          go : TiledAs E O n i (F j .start) (F j .stop) (F j .rights) (P j) x → Exact E n F m p × Bits E O n F P m p → ⊥
+          go (alike t _) (w, _) = exact-stuck (h .rows) (inv .exact) (inv .few) next given beyond t w
+          go (unlike _ _ _ _ few far t differs) (_, w) = bits-unlike (h .rows) (inv .exact) (inv .few) next given few far t differs w
+
 -- ── the entries of a partition by place ──
 -- an entry and what was read of it; it is there
-seen-at : {l : List ℕ} {p j : ℕ} {e : Entry} {f : SlotFields} → view l .k .slot p j ≡ some e → Seen l p j f → Same e (entryOf f)
+pub seen-at : {l : List ℕ} {p j : ℕ} {e : Entry} {f : SlotFields} → view l .k .slot p j ≡ some e → Seen l p j f → Same e (entryOf f)
 unfolding entryIn
 seen-at {e = e} {f} u v = go (f .present) (sym u ∙ v .slot)
   where
@@ -436,9 +475,6 @@ module _ {l o : List ℕ} {p n : ℕ} (h : InOrder l o p n) where
       let (x, u) = h .rows .ordered .full a b in
       let (e, v, _, _) = held-of (view l .k) p (placed o p a) x u in
       rw v refl
-
-  pub row-filled : {a i : ℕ} → a < n → i ≡ placed o p a → Filled l p i
-  row-filled {a} b at = (rowOf l o p a, rw at (row-at a b))
 
   -- .. and what was read there
   pub row-seen : {a : ℕ} {f : SlotFields} → a < n → Seen l p (placed o p a) f → Same (rowOf l o p a) (entryOf f)
@@ -624,55 +660,13 @@ module _ {l o : List ℕ} {p q n m : ℕ} (h : ChildOf l o p q n m) where
   two-rows : TwoRows (rowOf l o p) n (rowOf l o q) m
   two-rows = record { line = row-line (h .own); ends = row-ends (h .own); grants = row-ends (h .above) }
 
-  -- ── its walk, as the code reads the entries ──
-  pub walk-start : Walked l o p q n m 0 0
-  walk-start = record { few = omega arith; far = omega arith; exact = exact-start; bits = bits-start }
-
-  module _ {i j : ℕ} (inv : Walked l o p q n m i j) where
-    says : exactly (view l .k) p && s11 (view l .k) p && grantsOpen (view l) p ≡ true → (exactly (view l .k) p && s11 (view l .k) p ≡ true) × (grantsOpen (view l) p ≡ true)
-    says w = and-says (exactly (view l .k) p && s11 (view l .k) p) (grantsOpen (view l) p) w
-
-    pub walk-end : m ≤ j → eqb i n ≡ exactly (view l .k) p && s11 (view l .k) p && grantsOpen (view l) p
-    walk-end c = go (ℕ-discrete i n)
-      where
-        go : Dec (i ≡ n) → eqb i n ≡ exactly (view l .k) p && s11 (view l .k) p && grantsOpen (view l) p
-        go (yes e) =
-            let z : m ≡ j = omega (arith, inv .far) in
-            eq-eqb i n e ∙ sym (and-true _ _ (exact-child (rw (← e, z) (inv .exact))) (child-bits (rw (← e, z) (inv .bits))))
-        go (no e) = ne-eqb i n e ∙ never _ (λ w. exact-short two-rows (inv .exact) (inv .few) c (omega (arith, inv .few)) (child-exact (says w .0)))
-
-    module _ {f : SlotFields} (next : j < m) (v : Seen l q (placed o q j) f) where
-      read : Same (rowOf l o q j) (entryOf f)
-      read = row-seen (h .above) next v
-
-      pub walk-skip : (f .given .0 ≡ p → ⊥) → Walked l o p q n m i (j + 1)
-      walk-skip no-grant = record {
-        few = inv .few;
-        far = omega arith;
-        exact = exact-skip (inv .exact) (λ g. no-grant (sym (read .given) ∙ g));
-        bits = bits-skip (inv .bits) (λ g. no-grant (sym (read .given) ∙ g));
-      }
-
-      module _ {x : ℕ} (given : f .given .0 ≡ p) (tiled : TiledSlot l o p n i q (placed o q j) x) where
-        pub walk-on : x ≤ n → Walked l o p q n m x (j + 1)
-        walk-on few = go tiled
-          where
-            go : TiledAs (rowOf l o p) (openedBit l o p) n i (rowOf l o q j .start) (rowOf l o q j .stop) (rowOf l o q j .rights) (openedBit l o q j) x → Walked l o p q n m x (j + 1)
-            go (alike u f) = record {
-              few = few;
-              far = omega arith;
-              exact = exact-on two-rows (inv .exact) (inv .few) next (read .given ∙ given) few u;
-              bits = bits-on two-rows (inv .exact) (inv .few) next (inv .bits) few u (f few);
-            }
-            go (unlike k at b z _ _ _ _) = absurd (omega arith)
-
-        pub walk-stuck : n < x → false ≡ exactly (view l .k) p && s11 (view l .k) p && grantsOpen (view l) p
-        walk-stuck beyond = never _ (λ w. go tiled (says w))
-          where
-            go : TiledAs (rowOf l o p) (openedBit l o p) n i (rowOf l o q j .start) (rowOf l o q j .stop) (rowOf l o q j .rights) (openedBit l o q j) x
-                → (exactly (view l .k) p && s11 (view l .k) p ≡ true) × (grantsOpen (view l) p ≡ true) → ⊥
-            go (alike u _) (w, _) = exact-stuck two-rows (inv .exact) (inv .few) next (read .given ∙ given) beyond u (child-exact w)
-            go (unlike k at b z le far u differs) (_, w) = bits-unlike two-rows (inv .exact) (inv .few) next (read .given ∙ given) le far u differs (bits-child w)
+  -- the walk tells S7's cover, S11 and the open bits
+  pub child-tells : RowsTell (rowOf l o p) (openedBit l o p) n (rowOf l o q) (openedBit l o q) m p (exactly (view l .k) p && s11 (view l .k) p && grantsOpen (view l) p)
+  child-tells = record {
+    rows = two-rows;
+    to = λ w. let (x, y) = and-says (exactly (view l .k) p && s11 (view l .k) p) (grantsOpen (view l) p) w in (child-exact x, bits-child y);
+    back = λ x y. and-true _ _ (exact-child x) (child-bits y);
+  }
 
 -- ── the root's entries, and base to end as one that it was given ──
 abbrev pub whole : List ℕ → ℕ → ℕ → Entry

@@ -33,7 +33,7 @@ use Rattle.decide.specs.Laws.Decide.{failed}
 use Rattle.decide.specs.Laws.Granted.{here, roots}
 use Rattle.decide.specs.Laws.Local.{local-says, local-true, where-says, where-true, left-says, left-true, one-says, entry-true}
 use Rattle.marking.specs.Laws.Marking.{zeros}
-use Rattle.decide.specs.Laws.Tiles.{row-at, row-seen, row-every-at, walk-start, walk-skip, walk-on, walk-stuck, walk-end, in-order, child-of}
+use Rattle.decide.specs.Laws.Tiles.{row-at, row-seen, row-every-at, rows-start, rows-skip, rows-on, rows-stuck, rows-end, child-tells, in-order, child-of}
 
 -- ── how much is behind it ──
 module _ (c : List ℕ) (q j r : ℕ) where
@@ -99,7 +99,7 @@ module _ {l o c m : List ℕ} (can : CanDecide l o c m) where
   walk-first = record {
     size = length-replicate {A = ℕ} 16 0;
     right = λ r b there a h. absurd (omega (arith, nothing r (ℕ-discrete r 0)));
-    tiled = λ p r b there n u. rw (zeros 16 p, nothing r (ℕ-discrete r 0)) (walk-start (kin p r b there n u));
+    tiled = λ p r b there n u. rw (zeros 16 p, nothing r (ℕ-discrete r 0)) rows-start;
   }
     where
       nothing : (r : ℕ) → Dec (r ≡ 0) → placesBehind c 0 0 r ≡ 0
@@ -129,7 +129,7 @@ module _ {l o c m : List ℕ} (can : CanDecide l o c m) where
         go p b there (yes z) = rw (z, root) refl
         go p b there (no n) =
             let (d, _) = up-here p (k .parent p) b there n refl in
-            rw (ne-eqb p 0 n) (walk-end (kin p (k .parent p) b there n refl) (inv .tiled p (k .parent p) b there n refl) (omega (arith, behind-before c 16 0 (k .parent p) d)))
+            rw (ne-eqb p 0 n) (rows-end (child-tells (kin p (k .parent p) b there n refl)) (inv .tiled p (k .parent p) b there n refl) (omega (arith, behind-before c 16 0 (k .parent p) d)))
 
     rights-each : (p : ℕ) → p < 16 → present k p ≡ true → all 32 (entryRight (view l) m p) ≡ true
     rights-each p b there = entry-true (view l) m p (λ i e d u.
@@ -206,7 +206,7 @@ module _ {l o c m : List ℕ} {q j : ℕ} {x : List ℕ} (h : CanStep l o c m q 
               let had : Reached p r j = subst (Reached p r) (behind-here c q j r z) (h .walked .tiled p r d t n u) in
               let less : j < getD c r 0 = subst (λ (r : ℕ). j < getD c r 0) (sym z) (h .next) in
               let there : Seen l r (placed o r j) f = subst (λ (r : ℕ). Seen l r (placed o r j) f) (sym z) seen in
-              subst (Reached p r) (sym (behind-here c q (j + 1) r z)) (walk-skip (kin (h .can) p r d t n u) had less there no-grant)
+              subst (Reached p r) (sym (behind-here c q (j + 1) r z)) (rows-skip had less (λ g. no-grant (sym (row-seen (kin (h .can) p r d t n u .above) less there .given) ∙ g)))
 
       pub entry-free : f .given .0 ≡ 0 → WalkedTo l o c m q (j + 1) x
       entry-free z = record { size = h .walked .size; right = rights-on; tiled = λ p r d t n u. keep p r d t n u (λ g. n (sym g ∙ z)) }
@@ -216,12 +216,14 @@ module _ {l o c m : List ℕ} {q j : ℕ} {x : List ℕ} (h : CanStep l o c m q 
         abbrev d : ℕ
         d = f .given .0
 
+        to-child : rowOf l o q j .given ≡ d
+        to-child = row-seen step-row (h .next) seen .given
+
         given-kin : (d < 16) × (present (view l .k) d ≡ true) × (view l .k .parent d ≡ q)
         given-kin =
-            let e = row-seen step-row (h .next) seen .given in
-            let (a, _, u) = child-means (view l .k) q (rowOf l o q j .given) .0 (one-says (view l) m q i (rowOf l o q j) right (step-entry at) .given (λ z. given (sym e ∙ z))) in
+            let (a, _, u) = child-means (view l .k) q (rowOf l o q j .given) .0 (one-says (view l) m q i (rowOf l o q j) right (step-entry at) .given (λ z. given (sym to-child ∙ z))) in
             let (b, t) = here l (rowOf l o q j .given) a in
-            rw (← e) (b, t, u)
+            rw (← to-child) (b, t, u)
 
         kind : ChildOf l o d q (getD c d 0) (getD c q 0)
         kind = let (b, t, u) = given-kin in kin (h .can) d q b t given u
@@ -243,7 +245,7 @@ module _ {l o c m : List ℕ} {q j : ℕ} {x : List ℕ} (h : CanStep l o c m q 
           entry-stuck beyond each =
               let (b, t, _) = given-kin in
               let (_, w) = and-says (all 32 (entryRight (view l) m d)) (exactly (view l .k) d && s11 (view l .k) d && grantsOpen (view l) d) (each d b t) in
-              false≢true (walk-stuck kind given-walked (h .next) seen refl tiled beyond ∙ w)
+              false≢true (rows-stuck (child-tells kind) given-walked (h .next) to-child tiled beyond ∙ w)
 
           pub entry-on : y ≤ getD c d 0 → WalkedTo l o c m q (j + 1) (set x d y)
           entry-on few = record { size = length-set x d y ∙ h .walked .size; right = rights-on; tiled = λ p r b t n u. go p r b t n u (ℕ-discrete p d) }
@@ -254,7 +256,7 @@ module _ {l o c m : List ℕ} {q j : ℕ} {x : List ℕ} (h : CanStep l o c m q 
               go p r b t n u (yes z) =
                   let (b′, _, u′) = given-kin in
                   let w : r ≡ q = sym u ∙ ap (view l .k .parent) z ∙ u′ in
-                  rw (z, w, getD-set-same x d y 0 (omega (arith, h .walked .size)), behind-here c q (j + 1) q refl) (walk-on kind given-walked (h .next) seen refl tiled few)
+                  rw (z, w, getD-set-same x d y 0 (omega (arith, h .walked .size)), behind-here c q (j + 1) q refl) (rows-on (child-tells kind) given-walked (h .next) to-child tiled few)
 
 -- ── what a step says ──
 module _ {l o c m : List ℕ} {q j : ℕ} {x : List ℕ} where

@@ -23,7 +23,6 @@ use Rattle.sound.specs.Laws.List.{lower-passed}
 use Rattle.sound.specs.Laws.MeansRegions.{s9-means}
 use Rattle.sound.specs.Sound.{Present, S9}
 use Rattle.tables.specs.Laws.View.{slot-bounds}
-use Rattle.decide.specs.Local.{grantsOpen}
 use Rattle.decide.specs.Laws.Granted.{SevenSays, five, here, grants-open}
 use Rattle.shape.specs.AtOnce.{shapeAt, Shaped}
 use Rattle.shape.specs.Laws.Absent.{absent-s7, absent-s11}
@@ -37,6 +36,7 @@ use Rattle.verdict.specs.declared.Verdict.{Verdict}
 use Rattle.verdict.specs.declared.Verdict.the-variants.{Accepted, Length}
 use Rattle.verdict.specs.Verdict.{failsAt, failing, verdict, imageVerdict}
 use Rattle.verdict.specs.Laws.Names.{none-lower, lower-none}
+use Rattle.verdict.specs.Cover.{coversFor}
 use Rattle.verdict.specs.Stages.{Before11, lowestOf, saidOf, Reached}
 
 -- ── the loops over the tests ──
@@ -185,12 +185,14 @@ module _ (l : List ℕ) (p : ℕ) {r g : Bool} (there : r ≡ present (view l .k
   pub given-fails : not g ≡ true → false ≡ s7 (view l) p
   given-fails q = sym (parts ∙ rw (← given, not-true g q) refl)
 
-  pub exact-decides : {x : Bool} → not g ≡ false → x ≡ exactly (view l .k) p → x ≡ s7 (view l) p
+  pub exact-decides : {x : Bool} → not g ≡ false → x ≡ coversFor false (view l) p → x ≡ s7 (view l) p
+  unfolding coversFor
   exact-decides q e = e ∙ sym (parts ∙ rw (← given, not-false g q) refl)
 
 -- ── S11 of one ──
 -- the walk tells S7, S11 and the open bits, and all but S11 hold
-pub rights-decide : (l : List ℕ) (p : ℕ) {x : Bool} → present (view l .k) p ≡ true → Before11 (view l) p → x ≡ exactly (view l .k) p && s11 (view l .k) p && grantsOpen (view l) p → x ≡ s11 (view l .k) p
+pub rights-decide : (l : List ℕ) (p : ℕ) {x : Bool} → present (view l .k) p ≡ true → Before11 (view l) p → x ≡ coversFor true (view l) p → x ≡ s11 (view l .k) p
+unfolding coversFor
 rights-decide l p here h e =
     let (_, y) = and-says (s7Given (view l .k) p && s7Whole (view l) p) (exactly (view l .k) p) (sym (s7-parts (view l) p here) ∙ h .s7) in
     e ∙ rw (y, h .opens here) (and-unit (s11 (view l .k) p))

@@ -1,9 +1,9 @@
--- src/lines.rt, exact_at: r ≡ s7 (view t) (p .0)
+-- src/late.rt, exact_at: r ≡ s7 (view t) (p .0)
 use Rattle.decide.specs.Laws.Decide.{passed}
 use Rattle.verdict.specs.Laws.Stages.{s7-absent, given-fails, exact-decides}
 use borrow.Author.Needs.{needs}
-use Rattle.verdict.proofs.lines.exact_at.Statement.{statement}
-use Rattle.verdict.proofs.lines.exact_at.Tie as tie
+use Rattle.verdict.proofs.late.exact_at.Statement.{statement}
+use Rattle.verdict.proofs.late.exact_at.Tie as tie
 
 pub exact-at-spec : {M : Type 1} → statement M
 exact-at-spec =

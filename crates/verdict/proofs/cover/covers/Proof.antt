@@ -1,8 +1,8 @@
--- src/lines.rt, covers: r ≡ exactly (view t .k) (p .0)
+-- src/cover.rt, covers: r ≡ coversFor ranked (view t) (p .0)
 use Rattle.decide.specs.Laws.Tiles.{in-order, child-of}
 use borrow.Author.Needs.{needs}
-use Rattle.verdict.proofs.lines.covers.Statement.{statement}
-use Rattle.verdict.proofs.lines.covers.Tie as tie
+use Rattle.verdict.proofs.cover.covers.Statement.{statement}
+use Rattle.verdict.proofs.cover.covers.Tie as tie
 
 pub covers-spec : {M : Type 1} → statement M
 covers-spec =
@@ -11,7 +11,7 @@ covers-spec =
     (λ c. search needs)
     (λ c. search needs)
     (λ c. search needs)
-    (λ c κs. let h = c .before .before .before .before .pre in (in-order (h .2) (h .3) (h .0) (h .1), c .if1 .taken))
+    (λ c κs. let h = c .before .before .before .before .pre in (in-order (h .2) (h .3) (h .0) (h .1), c .if1 .taken, h .2))
     (λ c. search needs)
     (λ c κs. search needs)
     (λ c. search needs)
