@@ -1,6 +1,5 @@
 ghost use mathlib.Core.Path.{_≡_};
 ghost use mathlib.Core.Bool.{_&&_};
-ghost use Rattle.loops.specs.Loops.{bitOf};
 ghost use Prim.Native.Nat.{_≤_};
 ghost use Rattle.tables.specs.State.{allRights};
 ghost use Rattle.tables.specs.View.{view};
@@ -16,13 +15,7 @@ use words::Line;
 use words::Partition;
 use words::Rights;
 use words::Slot;
-
-// a flag as a bit
-fn bit(b: bool) -> u32
-    ensures { λ r. ⌜ (r ≡ bitOf b) × (r ≤ 1) ⌝ }
-{
-    if b { 1 } else { 0 }
-}
+use words::bit;
 
 // rights as a number, a bit each
 fn number(a: Rights) -> u32

@@ -74,9 +74,9 @@ pub fn write(f: CallFields) -> Written
             + (partition as u64 * 0x100_0000_0000_0000
                 + (slot as u64 * 0x8_0000_0000_0000
                     + (other as u64 * 0x4000_0000_0000
-                        + (bit(f.rights.read) * 0x2000_0000_0000
-                            + (bit(f.rights.write) * 0x1000_0000_0000
-                                + (bit(f.rights.execute) * 0x800_0000_0000
-                                    + (line as u64 * 0x1_0000 + bit(f.whole) * 0x8000))))))),
+                        + (bit(f.rights.read) as u64 * 0x2000_0000_0000
+                            + (bit(f.rights.write) as u64 * 0x1000_0000_0000
+                                + (bit(f.rights.execute) as u64 * 0x800_0000_0000
+                                    + (line as u64 * 0x1_0000 + bit(f.whole) as u64 * 0x8000))))))),
     )
 }

@@ -53,6 +53,7 @@ pub fn write(f: PairFields) -> Written
     Written::Word(
         base as u64 * 0x20_0000_0000
             + (access as u64 * 0x2_0000_0000
-                + (bit(f.never) * 0x1_0000_0000 + (limit as u64 * 32 + bit(f.enabled)))),
+                + (bit(f.never) as u64 * 0x1_0000_0000
+                    + (limit as u64 * 32 + bit(f.enabled) as u64))),
     )
 }

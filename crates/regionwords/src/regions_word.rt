@@ -76,7 +76,7 @@ pub fn read(w: u64) -> RegionsRead
 fn byte(r: Region) -> u64
     ensures { λ b. ⌜ (b ≡ bitOf (r .loaded) * 128 + r .slot .0) × (b ≤ 128 + r .slot .0) ⌝ }
 {
-    bit(r.loaded) * 128 + r.slot.0 as u64
+    bit(r.loaded) as u64 * 128 + r.slot.0 as u64
 }
 
 // Four regions as half a word.

@@ -53,7 +53,7 @@ pub fn write(f: HeaderFields) -> Written
         return Written::Refused(2);
     }
     Written::Word(
-        bit(f.present) * 0x8000_0000_0000_0000
+        bit(f.present) as u64 * 0x8000_0000_0000_0000
             + (parent as u64 * 0x800_0000_0000_0000
                 + (start as u64 * 0x1_0000_0000 + end as u64 * 32)),
     )

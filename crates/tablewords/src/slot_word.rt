@@ -61,13 +61,13 @@ pub fn write(f: SlotFields) -> Written
         return Written::Refused(2);
     }
     Written::Word(
-        bit(f.present) * 0x8000_0000_0000_0000
-            + (bit(f.opened) * 0x4000_0000_0000_0000
-                + (bit(f.rights.read) * 0x2000_0000_0000_0000
-                    + (bit(f.rights.write) * 0x1000_0000_0000_0000
-                        + (bit(f.rights.execute) * 0x800_0000_0000_0000
+        bit(f.present) as u64 * 0x8000_0000_0000_0000
+            + (bit(f.opened) as u64 * 0x4000_0000_0000_0000
+                + (bit(f.rights.read) as u64 * 0x2000_0000_0000_0000
+                    + (bit(f.rights.write) as u64 * 0x1000_0000_0000_0000
+                        + (bit(f.rights.execute) as u64 * 0x800_0000_0000_0000
                             + (given as u64 * 0x80_0000_0000_0000
                                 + (start as u64 * 0x1000_0000
-                                    + (end as u64 * 2 + bit(f.whole)))))))),
+                                    + (end as u64 * 2 + bit(f.whole) as u64))))))),
     )
 }

@@ -47,6 +47,7 @@ pub fn write(f: StructureFields) -> Written
         return Written::Refused(2);
     }
     Written::Word(
-        bit(f.present) * 0x8000_0000_0000_0000 + (start as u64 * 0x10_0000_0000 + end as u64 * 512),
+        bit(f.present) as u64 * 0x8000_0000_0000_0000
+            + (start as u64 * 0x10_0000_0000 + end as u64 * 512),
     )
 }

@@ -1,6 +1,6 @@
 ghost use mathlib.Core.Path.{_≡_};
 ghost use Prim.Native.Nat.{_<_, _^_};
-ghost use Rattle.loops.specs.Loops.{bitOf, any};
+ghost use Rattle.loops.specs.Loops.{any};
 ghost use Rattle.tables.specs.View.{view, entryOf};
 ghost use Rattle.who.specs.Who.{entryNumbers, namesIt, canWrite, shared, placeOf};
 use shapes::Board;
@@ -8,14 +8,8 @@ use tables::Found;
 use words::Line;
 use words::Partition;
 use words::Slot;
+use words::bit;
 use words::slot_word::SlotFields;
-
-// a flag as a number
-fn bit(b: bool) -> u32
-    ensures { λ r. ⌜ r ≡ bitOf b ⌝ }
-{
-    if b { 1 } else { 0 }
-}
 
 // The numbers of the entry that stands in slot s of p.
 pub fn entry(board: Board, p: Partition, s: Slot, f: SlotFields) -> [u32; 11]

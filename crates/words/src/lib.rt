@@ -36,8 +36,8 @@ pub enum Written {
     Refused(u64),
 }
 
-// A flag as a bit of a word, for the writers.
-pub fn bit(b: bool) -> u64
+// A flag as a bit: for the writers, and where flags are added up or told as numbers.
+pub fn bit(b: bool) -> u32
     ensures { λ r. ⌜ (r ≡ bitOf b) × (r ≤ 1) ⌝ }
 {
     if b { 1 } else { 0 }

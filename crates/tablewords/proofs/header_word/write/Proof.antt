@@ -28,4 +28,5 @@ write-spec =
     (λ c. search needs)
     (λ c. search needs)
     (λ c. search needs)
+    (λ c. search needs)
     (λ c. let f = c .before .before .before .before .args .f in ap Word (omega arith) ∙ sym (write-done header f (header-range f (omega arith) (omega arith) (omega arith)))))

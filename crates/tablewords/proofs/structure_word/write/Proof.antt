@@ -24,4 +24,5 @@ write-spec =
     (λ c. search needs)
     (λ c. search needs)
     (λ c. search needs)
+    (λ c. search needs)
     (λ c. let f = c .before .before .before .args .f in ap Word (omega arith) ∙ sym (write-done structure f (structure-range f (omega arith) (omega arith)))))

@@ -16,4 +16,4 @@ entry-spec =
     (λ c κs. search needs)
     (λ c.
     let counted = c .before .before .before .before .before in
-    entry-numbers _ _ _ _ _ (c .before .before .before .before .bit .ensures) (c .before .before .before .bit2 .ensures) (c .before .before .bit3 .ensures) (c .before .bit4 .ensures) (c .bit5 .ensures) (counted .piece-count .ensures .0)))
+    entry-numbers _ _ _ _ _ (c .before .before .before .before .bit .ensures .0) (c .before .before .before .bit2 .ensures .0) (c .before .before .bit3 .ensures .0) (c .before .bit4 .ensures .0) (c .bit5 .ensures .0) (counted .piece-count .ensures .0)))
