@@ -91,15 +91,6 @@ static void boot_both(uint64_t base, uint64_t end)
     boots++;
 }
 
-/* The row that a word is counted in; 0 if none. */
-static unsigned row_of(uint64_t word)
-{
-    unsigned service = (unsigned)(word >> 60);
-    if (service == ULAVREPIT_LOAD && (word >> 43 & 7) != 0)
-        return UNLOAD;
-    return service == 10 ? 0 : service;
-}
-
 /* A pack of P that was done, and moved so many entries; the state is still the one before it. */
 static void note_pack(uint8_t p, unsigned long moved)
 {
@@ -411,9 +402,7 @@ static void session(unsigned long last)
 
 /* ---- what was met ---- */
 
-static const char *const names[LAST_SERVICE + 1] = {"", "create", "delete", "prepare", "collect", "give", "take", "cut",
-                                                    "merge", "load", "unload", "read region", "find", "switch",
-                                                    "clear out", "pack"};
+static const char *const names[LAST_SERVICE + 1] = {SERVICES(SERVICE_NAMES)};
 
 static void print_cells(void)
 {

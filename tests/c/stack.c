@@ -7,6 +7,7 @@
 #include "lent.h"
 #include "most_runs.h"
 #include "paint.h"
+#include "services.h"
 #include "session.h"
 #include "tables.h"
 
@@ -33,7 +34,7 @@ static uint8_t list[ULAVREPIT_HOLDERS_BYTES];
 static ulavrepit_run runs[ULAVREPIT_RUNS];
 static uint64_t pieces[ULAVREPIT_PIECES];
 static uint64_t argument;
-static bool accepted[ULAVREPIT_PACK + 1]; /* by service; there is no service 10, so unload is noted there */
+static bool accepted[LAST_SERVICE + 1]; /* by row */
 
 static void do_nothing(void)
 {
@@ -58,7 +59,7 @@ static void do_call(void)
     uint64_t second;
     memcpy(table, start, sizeof table);
     if ((ulavrepit_call(table, sizeof table, argument, &second) & 0xff) == 0)
-        accepted[argument >> 60 == ULAVREPIT_LOAD && (argument >> 43 & 1) == 1 ? 10 : argument >> 60] = true;
+        accepted[row_of(argument)] = true;
 }
 
 static void do_holders(void)
@@ -95,11 +96,7 @@ static void measure(unsigned which, void (*work)(void), uint64_t with)
 /* Every service with these fields, where it uses them. */
 static void measure_services(uint32_t p, uint32_t s, uint32_t t, uint32_t line)
 {
-    const uint64_t words[] = {
-        ulavrepit_create(s), ulavrepit_delete(p), ulavrepit_prepare(p, s), ulavrepit_collect(p, t),
-        ulavrepit_give(p, s, t & 7), ulavrepit_give_whole(p, s, t & 7), ulavrepit_take(s), ulavrepit_cut(s, line),
-        ulavrepit_merge(s, t), ulavrepit_load(p, s, t), ulavrepit_unload(p, t), ulavrepit_read_region(p, t),
-        ulavrepit_find(p, line), ulavrepit_switch(p), ulavrepit_clear_out(p), ulavrepit_pack(p), 0};
+    const uint64_t words[] = {SERVICES(SERVICE_WORDS) ulavrepit_give_whole(p, s, t & 7), 0};
     for (size_t i = 0; i < sizeof words / sizeof *words; i++)
         measure(1, do_call, words[i]);
 }
@@ -145,7 +142,7 @@ static void measure_script(void)
 
 static bool every_service_accepted(void)
 {
-    for (unsigned service = ULAVREPIT_CREATE; service <= ULAVREPIT_PACK; service++)
+    for (unsigned service = 1; service <= LAST_SERVICE; service++)
         if (!accepted[service])
             return false;
     return true;

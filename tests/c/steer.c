@@ -1,23 +1,11 @@
 #include "steer.h"
 
-#include "ulavrepit.h"
-
 #include <string.h>
 
-const uint8_t service_checks[LAST_SERVICE + 1][8] = {
-    {0}, {4, 5, 6, 8, 9, 18}, {3, 15}, {3, 4, 5, 6, 8, 9, 18}, {3, 4, 15}, {3, 4, 5, 6, 8, 10, 18}, {4, 6, 14},
-    {4, 5, 6, 7, 8, 18}, {4, 5, 6, 11, 12}, {3, 4, 5, 16, BOARD == SECOND_V7 ? 19 : 0}, {3, 16}, {3, 16}, {3, 7},
-    {3}, {3}, {3}};
+const uint8_t service_checks[LAST_SERVICE + 1][8] = {SERVICES(SERVICE_CHECKS)};
 
 /* How often each service is tried, by mood. */
-static const uint8_t weights[MOODS][LAST_SERVICE + 1] = {
-    [MIXED] = {0, 7, 1, 8, 3, 12, 5, 14, 8, 8, 2, 2, 3, 12, 1, 4},
-    [DEEP] = {0, 6, 1, 6, 1, 12, 3, 12, 4, 4, 1, 1, 2, 12, 0, 1},
-    [WIDE] = {0, 20, 1, 6, 2, 6, 1, 18, 2, 3, 1, 1, 1, 6, 0, 1},
-    [DENSE] = {0, 3, 0, 12, 1, 16, 2, 30, 2, 4, 1, 1, 2, 10, 0, 1},
-    [LENDING] = {0, 5, 0, 10, 1, 26, 6, 18, 10, 3, 1, 1, 2, 16, 0, 3},
-    [REGIONS] = {0, 5, 1, 7, 3, 10, 6, 10, 6, 24, 5, 5, 3, 10, 1, 6},
-    [CLEARING] = {0, 14, 0, 8, 0, 12, 1, 12, 2, 8, 1, 1, 2, 14, 1, 1}};
+static const uint8_t weights[LAST_SERVICE + 1][MOODS] = {SERVICES(SERVICE_WEIGHTS)};
 
 /* ---- the tree ---- */
 
@@ -602,11 +590,11 @@ static uint8_t some_service(mood m, dice *d)
 {
     uint32_t total = 0;
     for (unsigned i = 1; i <= LAST_SERVICE; i++)
-        total += weights[m][i];
+        total += weights[i][m];
     uint32_t pick = below(d, total);
     uint8_t service = 1;
-    while (pick >= weights[m][service])
-        pick -= weights[m][service++];
+    while (pick >= weights[service][m])
+        pick -= weights[service++][m];
     return service;
 }
 

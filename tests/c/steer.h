@@ -8,6 +8,7 @@
 
 #include "dice.h"
 #include "kernel.h"
+#include "services.h"
 
 /* The board whose library is called: -DBOARD=SECOND_V8 for that of an ARMv8-M. */
 #ifndef BOARD
@@ -20,16 +21,10 @@
  */
 typedef enum { MIXED, DEEP, WIDE, DENSE, LENDING, REGIONS, CLEARING, MOODS } mood;
 
-/*
- * The services are 1 to 15 without 10. What service 9 does with R = 1, unload, has checks of its own and is counted by
- * itself: in row 10, which is free.
- */
-enum { UNLOAD = 10, LAST_SERVICE = 15 };
-
 /* No call is refused with a higher number. */
 enum { LAST_REFUSAL = 19 };
 
-/* The refusal numbers of each, from 01's column Checks and from 02, ended by 0. */
+/* The refusal numbers of each service, ended by 0. */
 extern const uint8_t service_checks[LAST_SERVICE + 1][8];
 
 /* A word of service 9 by which nothing is loaded or unloaded: R above 1, or R = 1 and S not 0; or one of service 10. */

@@ -3,6 +3,5 @@ pub mod Unloading
 pub mod FreeExits
 pub mod CutExits
 pub mod GiveExits
-pub mod RegionExits
 pub mod TakeExits
 pub mod MergeExits

@@ -2,7 +2,6 @@ pub mod Pick
 pub mod Unloading
 pub mod CutExits
 pub mod GiveExits
-pub mod RegionExits
 pub mod TakeExits
 pub mod MergeExits
 pub mod Laws

@@ -54,10 +54,13 @@ module _ (base end : ℕ) {b : List ℕ} {r : ℕ} {c : List ℕ} (h : BootLent 
     boot-changed : Changed (bootLadder (handed b) base end) (firstIn r) 0 c
     boot-changed = changed (subst (Answers (bootLadder (handed b) base end)) (booted .1) (boot-exact (handed b) base end)) (boot-right (handed b) base end (booted .1)) bytes-booted
 
+    pub start-good : (board : Board) → Good board (handed c)
+    start-good board = subst (Good board) (sym start) (boot-good board (handed b) base end (booted .1))
+
     -- and any list of calls after it: the words are the rules', and so is a ledger kept beside them
     module _ {board : Board} {g h′ : Ledger} {ws d : List ℕ} (calls : Called board c g ws d h′) where
       both : (handed d ≡ afterAll board (encode (booted .0)) ws) × (h′ ≡ keptOn board (encode (booted .0)) g ws)
-      both = rw start at (called (subst (Good board) (sym start) (boot-good board (handed b) base end (booted .1))) calls)
+      both = rw start at (called (start-good board) calls)
 
       pub calls-sound : Sound board (handed d)
       calls-sound = rw (both .0) (from-boot-sound board (handed b) ws base end (booted .1))

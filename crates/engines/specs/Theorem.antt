@@ -12,7 +12,7 @@ use Rattle.sound.specs.Laws.Core.{sound-core}
 use Rattle.sound.specs.Laws.Properties.{holder-present}
 use Rattle.rules.specs.Rules.{callOn, wordsAfter}
 use Rattle.isolation.specs.Laws.Fits.{Good}
-use Rattle.isolation.specs.Whole.{boot-good, afterAll}
+use Rattle.isolation.specs.Whole.{afterAll}
 use Rattle.ledger.specs.Ledger.{Ledger, opening, Event, noted, answerOn, linesNamed, keptOn}
 use Rattle.ledger.specs.Laws.Kept.{Keeps, after-kept, from-boot-kept}
 use Rattle.loops.specs.Loops.{names}
@@ -21,7 +21,7 @@ use Rattle.engine.specs.Laws.Exits.{memory-of}
 use Rattle.engine.specs.Laws.Marking.{between-length, between-from}
 use Rattle.face.specs.Face.{handed, CallLent, ListLent}
 use Rattle.demands.specs.Demands.{BootLent, Accepted, firstIn, HoldersWritten, happened, entered, Called, no-call, one-call, Tells}
-use Rattle.demands.specs.Theorem.{demand-three, booted, start}
+use Rattle.demands.specs.Theorem.{demand-three, booted, start, start-good}
 use Rattle.demands.specs.Laws.Calls.{call-done, call-event, call-noted, next}
 use Rattle.engines.specs.Engines.{goes, makes, Drives, Both, no-turn, one-turn, SideBySide, LineEngine}
 use Rattle.engines.specs.Laws.Mirrors.{Mirrors, start-mirrors}
@@ -124,9 +124,6 @@ module _ (board : Board) {base end : ℕ} (first : List ℕ) (fit : Memory (leng
 
 -- ── from boot ──
 module _ (board : Board) (base end : ℕ) {b : List ℕ} {r : ℕ} {c : List ℕ} (h : BootLent b base end r c) (a : Accepted r) where
-  start-good : Good board (handed c)
-  start-good = subst (Good board) (sym (start base end h a)) (boot-good board (handed b) base end (booted base end h a .1))
-
   boot-keeps : Keeps base end (opening base end) (view (handed c) .k)
   unfolding keptOn afterAll
   boot-keeps = subst (λ (l : List ℕ). Keeps base end (opening base end) (view l .k)) (sym (start base end h a)) (from-boot-kept board (handed b) (booted base end h a .1) [])
@@ -134,7 +131,7 @@ module _ (board : Board) (base end : ℕ) {b : List ℕ} {r : ℕ} {c : List ℕ
   module _ (few : end - base ≤ 2048) (first : List ℕ) (room : end - base ≤ length first) where
     memory : Memory (length first) base end
     memory =
-        let s = sound-core _ (start-good .sound) .s1 in
+        let s = sound-core _ (start-good base end h a board .sound) .s1 in
         record { some = omega (arith, s, boot-keeps .base-is, boot-keeps .end-is); few = few; room = room }
 
     module _ {q : ℕ} {begun : List ℕ} (s : StartLent base end first q begun) where
@@ -147,7 +144,7 @@ module _ (board : Board) (base end : ℕ) {b : List ℕ} {r : ℕ} {c : List ℕ
 
       begun-come : Come board first memory c (opening base end) begun
       begun-come = record {
-        good = start-good;
+        good = start-good base end h a board;
         keeps = boot-keeps;
         mirrors = subst (Mirrors base end (opening base end)) (sym begins) (start-mirrors first room);
         size = ap length begins ∙ between-length 0 (end - base) _ first;

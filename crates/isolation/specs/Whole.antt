@@ -144,14 +144,19 @@ unfoldable pub afterAll : Board → List ℕ → List ℕ → List ℕ
 afterAll b l [] = l
 afterAll b l (w ∷ ws) = afterAll b (wordsAfter l (callOn b l w)) ws
 
-pub after-good : {b : Board} {l : List ℕ} → Good b l → (ws : List ℕ) → Good b (afterAll b l ws)
-unfolding afterAll wordsAfter
-after-good g [] = g
-after-good {b} {l} g (w ∷ ws) = after-good (one (callOn b l w) refl) ws
+-- after a call, done or refused, the words are good
+pub next-good : {b : Board} {l : List ℕ} → Good b l → (w : ℕ) → Good b (wordsAfter l (callOn b l w))
+unfolding wordsAfter
+next-good {b} {l} g w = one (callOn b l w) refl
   where
     one : (r : Result) → callOn b l w ≡ r → Good b (wordsAfter l r)
     one (done v x t′) z = call-good b l w (g .small) z
     one (refused n) z = g
+
+pub after-good : {b : Board} {l : List ℕ} → Good b l → (ws : List ℕ) → Good b (afterAll b l ws)
+unfolding afterAll
+after-good g [] = g
+after-good g (w ∷ ws) = after-good (next-good g w) ws
 
 module _ {b : Board} (l ws : List ℕ) (small : Words l) (s : Sound b l) where
   pub after-sound : Sound b (afterAll b l ws)

@@ -5,4 +5,5 @@ pub mod Ran
 pub mod Calls
 pub mod Reads
 pub mod Unloaded
+pub mod Removed
 pub mod Brief

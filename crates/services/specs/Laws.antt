@@ -1,6 +1,7 @@
 pub mod Zeroed
 pub mod Unsettled
 pub mod Who
+pub mod RegionExits
 pub mod CreateExits
 pub mod CollectExits
 pub mod DeleteExits

@@ -1,4 +1,5 @@
 pub mod Zeroed
+pub mod RegionExits
 pub mod DeleteExits
 pub mod ClearExits
 pub mod PackExits

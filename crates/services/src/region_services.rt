@@ -8,7 +8,7 @@ ghost use Rattle.sound.specs.Limit.{loadedPieces};
 ghost use Rattle.sound.specs.Whole.{Right};
 ghost use Rattle.rules.specs.Rules.{elsewhere, load, unload, readRegion};
 ghost use Rattle.rules.specs.Ran.{Ran};
-ghost use Rattle.blocks.specs.RegionExits.{inAnother};
+ghost use Rattle.services.specs.RegionExits.{inAnother};
 use crate::who::own_or_child;
 use loaded::limit::loaded_pieces;
 use shapes::Board;

@@ -18,4 +18,5 @@ pub mod Local
 pub mod Whole
 pub mod Settled
 pub mod Holders
+pub mod Found
 pub mod Looks

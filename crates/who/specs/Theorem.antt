@@ -7,6 +7,7 @@ use lib.Dec.{eqb, leb}
 use native.Mathlib.Omega.{arith}
 use borrow.Author.Tests.{leb-true, leb-false}
 use Rattle.loops.specs.Loops.{any}
+use Rattle.loops.specs.Laws.Count.{sum-at}
 use Rattle.shapes.specs.declared.Board.{Board}
 use Rattle.shapes.specs.Pieces.{piecesFor}
 use Rattle.tables.specs.State.{none, some, Entry, Table}
@@ -22,7 +23,7 @@ use Rattle.isolation.specs.Ladder.{finished, holds, found}
 use Rattle.isolation.specs.Laws.Ladder.{answer-one}
 use Rattle.isolation.specs.Laws.Regions.{load-exact, load-done}
 use Rattle.who.specs.Who.{namesIt, canWrite}
-use Rattle.who.specs.Laws.Pieces.{sum-at, sum-only, number, is-0, is-2, is-3}
+use Rattle.who.specs.Laws.Pieces.{sum-only, number, is-0, is-2, is-3}
 
 -- of the entry e in slot s of p, in a right table, as every sound one is (`sound-right`)
 module _ (b : Board) {t : Table} (h : Right t) (p s : ℕ) {e : Entry} (at : t .k .slot p s ≡ some e) where

@@ -7,11 +7,11 @@ use Rattle.words.specs.declared.slot_word.SlotFields.{SlotFields}
 use Rattle.tables.specs.View.{view, entryOf}
 use Rattle.tables.specs.Encode.{Canon}
 use Rattle.tables.specs.Seen.{Seen}
+use Rattle.tables.specs.Laws.Seen.{entry-there}
 use Rattle.tables.specs.Settle.{clear}
 use Rattle.sound.specs.Whole.{Right}
 use Rattle.sound.specs.Laws.Settled.{entry-clear, right-settled}
 use Rattle.blocks.specs.Pick.{Free}
-use Rattle.blocks.specs.Laws.RegionExits.{entry-there}
 use Rattle.writing.specs.CanWrite.{CanEntry}
 
 -- in a right table no area shares a line with a free entry

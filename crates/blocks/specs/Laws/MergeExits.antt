@@ -13,6 +13,7 @@ use Rattle.tables.specs.Encode.{encode, Is}
 use Rattle.tables.specs.Update.{upd}
 use Rattle.tables.specs.Write.{withSlot}
 use Rattle.tables.specs.Seen.{Seen}
+use Rattle.tables.specs.Laws.Seen.{entry-none, entry-there}
 use Rattle.tables.specs.Settle.{settle, settled}
 use Rattle.tables.specs.declared.Outcome.the-variants.{Done}
 use Rattle.sound.specs.Laws.Settled.{Settled, clear-both, settled-words, entry-clear, put-settled, emptied-settled, right-settled}
@@ -21,7 +22,6 @@ use Rattle.rules.specs.Rules.{Result, done, refused, check, unloaded, mergeK, m
 use Rattle.rules.specs.Ran.{Ran}
 use Rattle.rules.specs.Laws.Ran.{ran-done, pass, fail, there, missing}
 use Rattle.blocks.specs.Laws.Pick.{at-caller}
-use Rattle.blocks.specs.Laws.RegionExits.{entry-none, entry-there}
 use Rattle.blocks.specs.Laws.Unloading.{upd-twice, unloaded-same, unloaded-both}
 use Rattle.blocks.specs.MergeExits.{mayJoin, longerAt, joinedAt, CanMerge}
 

@@ -10,6 +10,7 @@ use Rattle.tables.specs.View.{view, entryOf}
 use Rattle.tables.specs.Encode.{encode, Is}
 use Rattle.tables.specs.Write.{putSlot}
 use Rattle.tables.specs.Seen.{Seen}
+use Rattle.tables.specs.Laws.Seen.{entry-none, entry-there}
 use Rattle.tables.specs.Search.{lowest}
 use Rattle.tables.specs.Settle.{settled}
 use Rattle.tables.specs.Kept.{keepRegions}
@@ -22,7 +23,6 @@ use Rattle.rules.specs.Laws.Ran.{ran-refused, ran-done, pass, fail, there, miss
 use Rattle.blocks.specs.Laws.Pick.{at-caller}
 use Rattle.writing.specs.CanWrite.{CanEntry}
 use Rattle.blocks.specs.Laws.FreeExits.{can-put}
-use Rattle.blocks.specs.Laws.RegionExits.{entry-none, entry-there}
 use Rattle.blocks.specs.TakeExits.{takenBack, CanTake}
 
 -- ── slot i of the child that e is given to, whose entry f was read ──

@@ -34,7 +34,7 @@ use Rattle.isolation.specs.Laws.Fits.{Good, right-fit}
 use Rattle.isolation.specs.Ladder.{Ladder, Answers}
 use Rattle.isolation.specs.Ladders.{callLadder}
 use Rattle.isolation.specs.Laws.Exact.{call-exact}
-use Rattle.isolation.specs.Whole.{call-right, call-good, afterAll}
+use Rattle.isolation.specs.Whole.{call-right, afterAll, next-good}
 use Rattle.ledger.specs.Ledger.{Ledger, Event, apply, eventOf, noted, answerOn, linesNamed, keptOn}
 use Rattle.face.specs.Face.{handed, resultOf, secondAfter, bytesAfter, CallLent}
 use Rattle.face.specs.Laws.Face.{handed-is}
@@ -73,17 +73,17 @@ changed {t = t} a h e =
     }
 
 -- ── one call ──
+pub caller-byte : (board : Board) (b : List ℕ) → callerOf board (handed b) < 2 ^ 8
+caller-byte board b = let z = caller-small board (handed b) in omega arith
+
 module _ {board : Board} {b : List ℕ} {w s r : ℕ} {c : List ℕ} {s′ : ℕ} (small : Words (handed b)) (h : CallLent board b w s r c s′) where
   exact : Answers (callLadder board (handed b) w) (callOn board (handed b) w)
   exact = call-exact board (handed b) w small
 
-  caller-byte : callerOf board (handed b) < 2 ^ 8
-  caller-byte = let z = caller-small board (handed b) in omega arith
-
   pub call-answered : Answered (callLadder board (handed b) w) r ((c ≡ b) × (s′ ≡ s))
   unfolding bytesAfter secondAfter outcomeOf
   call-answered =
-      answered (call-rises board (handed b) w) caller-byte (callOn board (handed b) w) exact (h .table .result)
+      answered (call-rises board (handed b) w) (caller-byte board b) (callOn board (handed b) w) exact (h .table .result)
       (λ n z. (h .table .bytes ∙ ap (bytesAfter b) z, h .second ∙ ap (λ (y : Result). secondAfter s (outcomeOf y)) z))
 
   -- refusal 1 is given exactly where the table is not sound
@@ -96,7 +96,7 @@ module _ {board : Board} {b : List ℕ} {w s r : ℕ} {c : List ℕ} {s′ : ℕ
   pub call-caller : (refusalIn r ≡ 1 → callerIn r ≡ 0) × ((refusalIn r ≡ 1 → ⊥) → callerIn r ≡ view (handed b) .k .current)
   unfolding callerOf
   call-caller =
-      let e = read (call-rises board (handed b) w) caller-byte (callOn board (handed b) w) exact (h .table .result) .1 in
+      let e = read (call-rises board (handed b) w) (caller-byte board b) (callOn board (handed b) w) exact (h .table .result) .1 in
       go (sound board (handed b)) refl e
     where
       go : (x : Bool) → sound board (handed b) ≡ x → callerIn r ≡ cond x (view (handed b) .k .current) 0
@@ -106,7 +106,7 @@ module _ {board : Board} {b : List ℕ} {w s r : ℕ} {c : List ℕ} {s′ : ℕ
 
   -- an accepted call is done by the rule
   pub call-done : Accepted r → (y : ℕ) × (t : Table) × (callOn board (handed b) w ≡ done (firstIn r) y t)
-  call-done = accepted-done (call-rises board (handed b) w) caller-byte (callOn board (handed b) w) exact (h .table .result)
+  call-done = accepted-done (call-rises board (handed b) w) (caller-byte board b) (callOn board (handed b) w) exact (h .table .result)
 
   pub call-changed : Accepted r → Changed (callLadder board (handed b) w) (firstIn r) s′ c
   unfolding bytesAfter secondAfter outcomeOf
@@ -122,8 +122,8 @@ module _ {board : Board} {b : List ℕ} {w s r : ℕ} {c : List ℕ} {s′ : ℕ
     where
       go : (x : Result) → Answers (callLadder board (handed b) w) x → r ≡ resultOf (callerOf board (handed b)) (outcomeOf x)
           → happened board b w r g ≡ eventOf g (fieldsIn call w) (callerOf board (handed b)) (outcomeOf x) (linesNamed board (handed b) w)
-      go (done v y t) a e = let ((i, k), j) = read (call-rises board (handed b) w) caller-byte (done v y t) a e in rw (i, k, j) refl
-      go (refused n) a e = let ((i, k, j), _) = read (call-rises board (handed b) w) caller-byte (refused n) a e in rw (i, ne-eqb n 0 (omega arith)) refl
+      go (done v y t) a e = let ((i, k), j) = read (call-rises board (handed b) w) (caller-byte board b) (done v y t) a e in rw (i, k, j) refl
+      go (refused n) a e = let ((i, k, j), _) = read (call-rises board (handed b) w) (caller-byte board b) (refused n) a e in rw (i, ne-eqb n 0 (omega arith)) refl
 
   -- so the ledger is kept as by the rule
   pub call-noted : (g : Ledger) → entered board b w r g ≡ noted w (answerOn board (handed b) w) (linesNamed board (handed b) w) g
@@ -134,13 +134,11 @@ module _ {board : Board} {b : List ℕ} {w s r : ℕ} {c : List ℕ} {s′ : ℕ
 module _ {board : Board} {b : List ℕ} {w s r : ℕ} {c : List ℕ} {s′ : ℕ} (good : Good board (handed b)) (h : CallLent board b w s r c s′) where
   pub next : Good board (wordsAfter (handed b) (callOn board (handed b) w)) × (handed c ≡ wordsAfter (handed b) (callOn board (handed b) w))
   unfolding bytesAfter wordsAfter
-  next = go (callOn board (handed b) w) refl
+  next = (next-good good w, go (callOn board (handed b) w) refl)
     where
-      go : (x : Result) → callOn board (handed b) w ≡ x → Good board (wordsAfter (handed b) x) × (handed c ≡ wordsAfter (handed b) x)
-      go (done v y t) z =
-          let k = call-right board (handed b) w (good .small) z in
-          (call-good board (handed b) w (good .small) z, ap handed (h .table .bytes ∙ ap (bytesAfter b) z) ∙ handed-of k)
-      go (refused n) z = (good, ap handed (h .table .bytes ∙ ap (bytesAfter b) z))
+      go : (x : Result) → callOn board (handed b) w ≡ x → handed c ≡ wordsAfter (handed b) x
+      go (done v y t) z = ap handed (h .table .bytes ∙ ap (bytesAfter b) z) ∙ handed-of (call-right board (handed b) w (good .small) z)
+      go (refused n) z = ap handed (h .table .bytes ∙ ap (bytesAfter b) z)
 
 -- ── any list of calls ──
 -- the words at its end are those of the rules, and so is the ledger

@@ -29,8 +29,8 @@ use Rattle.rules.specs.Ran.{outcomeOf}
 use Rattle.isolation.specs.Ladder.{Answers, finished, Ends}
 use Rattle.isolation.specs.Laws.Ladder.{ends, check-answers}
 use Rattle.runs.specs.declared.Run.{Run}
-use Rattle.runs.specs.Runs.{deepestAt, runsOf, runsOutcome, runsRecords, On, Chain, nthRun as run, runsOver}
-use Rattle.runs.specs.Laws.RunLaws.{run-within, runs-longest, trail-last, same-trail}
+use Rattle.runs.specs.Runs.{deepestAt, runsOf, runsOutcome, runsRecords, nthRun as run, runsOver}
+use Rattle.runs.specs.Laws.RunLaws.{runs-longest, trail-last, same-trail, line-within}
 use Rattle.runs.specs.Laws.OneList.{longest-one}
 use Rattle.ledger.specs.Lists.{Lists, nthName}
 use Rattle.ledger.specs.Laws.Lists.{lists-same, one-list}
@@ -50,10 +50,6 @@ module _ {Holder : ℕ → ℕ → Type 0} {up : ℕ → ℕ} (k : K) (range : k
   one : (l m : ℕ) → Inside l → Inside m → ((p : ℕ) → Holder p l ↔ Holder p m) → holdersOf k l ≡ holdersOf k m
   one l m a b f = one-list (lists-same f (lists l (a .0) (a .1))) (lists m (b .0) (b .1))
 
-  -- a line of a run of a chain
-  on-line : {rs : List Run} → Chain (k .base) (k .stop) rs → (i l : ℕ) → i < length rs → On (run rs i) l → Inside l
-  on-line c i l b o = let w = run-within c i b in (omega arith, omega arith)
-
   -- the last holder is the deepest
   last : (l : ℕ) → nthName (holdersOf k l) (length (holdersOf k l) - 1) ≡ deepestAt k l
   last l = rw (same-trail k l (deepestAt k l) refl) (trail-last k (deepestAt k l))
@@ -64,10 +60,10 @@ module _ {Holder : ℕ → ℕ → Type 0} {up : ℕ → ℕ} (k : K) (range : k
       let c = w .chain in
       record {
         chain = c;
-        same = λ i l m b o p. alike l m (on-line c i l b o) (on-line c i m b p) (w .same i l b o ∙ sym (w .same i m b p));
-        differ = λ i l m b o p q. w .differ i l m b o p (one l m (on-line c i l (omega arith) o) (on-line c (suc i) m b p) q);
+        same = λ i l m b o p. alike l m (line-within c i l b o) (line-within c i m b p) (w .same i l b o ∙ sym (w .same i m b p));
+        differ = λ i l m b o p q. w .differ i l m b o p (one l m (line-within c i l (omega arith) o) (line-within c (suc i) m b p) q);
         deepest = λ i l b o.
-            let (x, y) = on-line c i l b o in
+            let (x, y) = line-within c i l b o in
             (holdersOf k l, lists l x y, rw (w .same i l b o) (trail-last k (run (runsOf k) i .deepest .0)));
       }
 
@@ -77,11 +73,11 @@ module _ {Holder : ℕ → ℕ → Type 0} {up : ℕ → ℕ} (k : K) (range : k
       longest-one range (record {
         chain = c;
         same = λ i l b o.
-            let (x, y) = on-line c i l b o in
+            let (x, y) = line-within c i l b o in
             let (hs, u, v) = w .deepest i l b o in
             let e = one-list u (lists l x y) in
             same-trail k l (run rs i .deepest .0) (sym (last l) ∙ rw e at v);
-        differ = λ i l m b o p q. w .differ i l m b o p (alike l m (on-line c i l (omega arith) o) (on-line c (suc i) m b p) q);
+        differ = λ i l m b o p q. w .differ i l m b o p (alike l m (line-within c i l (omega arith) o) (line-within c (suc i) m b p) q);
       })
 
 -- .. and those of a sound table are, by the entries that hold a line

@@ -23,23 +23,20 @@ use Rattle.tables.specs.Fitting.{Words}
 use Rattle.tables.specs.Search.{isSome, present}
 use Rattle.tables.specs.Laws.Back.{view-encode}
 use Rattle.memory.specs.Bytes.{wordAt, bytesOf, recordByte}
-use Rattle.memory.specs.Laws.ByteTrips.{length-wordsOf, length-bytesOf, record-stays}
+use Rattle.memory.specs.Laws.ByteTrips.{length-bytesOf, record-stays}
 use Rattle.sound.specs.Sound.{Present, Sound}
 use Rattle.sound.specs.Clauses.{sound}
 use Rattle.sound.specs.Whole.{Right}
 use Rattle.sound.specs.Laws.List.{sound-means}
-use Rattle.sound.specs.Laws.Whole.{sound-right}
-use Rattle.sound.specs.Laws.Canonical.{sound-canon}
 use Rattle.rules.specs.Rules.{Result, done, refused, callOn, bootOn}
 use Rattle.rules.specs.Ran.{outcomeOf}
 use Rattle.rules.specs.Calls.{callerOf}
-use Rattle.rules.specs.Laws.Calls.{caller-small}
 use Rattle.services.specs.Laws.Boot.{boot-length}
 use Rattle.isolation.specs.Laws.Boot.{boot-right}
 use Rattle.isolation.specs.Ladder.{Ladder, finish, must, there, least}
 use Rattle.isolation.specs.Ladders.{bootLadder, numberedLadder, callLadder}
-use Rattle.isolation.specs.Laws.Fits.{Good, right-fit}
-use Rattle.isolation.specs.Whole.{call-right, boot-good, afterAll}
+use Rattle.isolation.specs.Laws.Fits.{Good, right-fit, good-right}
+use Rattle.isolation.specs.Whole.{call-right, afterAll}
 use Rattle.ledger.specs.Laws.Kept.{from-boot-kept}
 use Rattle.sheet.specs.Sheet.{linesWord, linesFor, sheetOf, matches, callSheetOn, bootSheetOn}
 use Rattle.sheet.specs.Bytes.{handedSheet, sheetBytes, sheetBytesAfter}
@@ -50,17 +47,14 @@ use Rattle.sheet.specs.Laws.Bytes.{matches-means, matches-length, short-handed,
 use Rattle.sheet.specs.Laws.Reading.{sheet-words, masks-read, lines-read, bytes-same}
 use Rattle.sheet.specs.Laws.Kept.{call-kept}
 use Rattle.face.specs.Face.{handed, resultOf, secondAfter, bytesAfter, Lent, CallLent}
-use Rattle.face.specs.Laws.Face.{handed-is, handed-unsound, handed-none}
+use Rattle.face.specs.Laws.Face.{handed-is, handed-unsound, handed-whole, handed-short}
 use Rattle.facesheet.specs.Sheets.{BothLent, BootSheetLent, CallSheetLent}
 use Rattle.demands.specs.Demands.{Bytes, BootLent, refusalIn, firstIn, Accepted, Applies, fails, later, missing, of-entry, no-lowest, of-lowest}
-use Rattle.demands.specs.Theorem.{boot-answered, booted, start}
-use Rattle.demands.specs.Laws.Calls.{handed-small, handed-of, call-answered, call-done, one-unsound, next}
+use Rattle.demands.specs.Theorem.{boot-answered, booted, start, start-good}
+use Rattle.demands.specs.Laws.Calls.{handed-small, handed-of, call-answered, call-done, one-unsound, next, caller-byte}
 use Rattle.demands.specs.Laws.Lowest.{Rises, top, rung, applies-range, past}
 use Rattle.demands.specs.Laws.Results.{reads-back}
 use Rattle.demands.specs.Sheet.{IsSheet, Pair, CalledBeside, no-call, one-call, KeptBeside, SheetDemand}
-
-good-right : {board : Board} {l : List ℕ} → Good board l → Right (view l)
-good-right g = sound-right (sound-canon (g .small) (g .sound)) (g .sound)
 
 -- a table that was left is right: the sheet left beside it is its own
 afresh : {t : Table} {c u : List ℕ} → Right t → c ≡ bytesOf (encode t) → u ≡ sheetBytes (sheetOf t) → IsSheet c u
@@ -123,19 +117,13 @@ data HowBoot (b s : List ℕ) (base end : ℕ) : Type 0 where
   no-sheet : length b ≡ 5128 → (length s ≡ 256 → ⊥) → bootSheetOn (handed b) (handedSheet s) base end ≡ refused 20 → HowBoot b s base end
   plain : length b ≡ 5128 → length s ≡ 256 → bootSheetOn (handed b) (handedSheet s) base end ≡ bootOn (handed b) base end → HowBoot b s base end
 
-long : (b : List ℕ) → length b ≡ 5128 → length (handed b) ≡ 641
-long b h = ap length (sym (handed-is b h)) ∙ length-wordsOf b
-
-none-long : (b : List ℕ) → (length b ≡ 5128 → ⊥) → length (handed b) ≡ 641 → ⊥
-none-long b h z = omega (arith, ap (λ (x : List ℕ). length x) (handed-none b h), z)
-
 how-boot : (b s : List ℕ) (base end : ℕ) → HowBoot b s base end
 how-boot b s base end = go (ℕ-discrete (length b) 5128) (ℕ-discrete (length s) 256)
   where
     go : Dec (length b ≡ 5128) → Dec (length s ≡ 256) → HowBoot b s base end
-    go (no h) _ = short h (boot-1 _ _ base end (none-long b h))
-    go (yes h) (no k) = no-sheet h k (boot-20 _ _ base end (long b h) (short-handed s k))
-    go (yes h) (yes k) = plain h k (boot-else _ _ base end (long b h) (handed-length s k))
+    go (no h) _ = short h (boot-1 _ _ base end (handed-short b h))
+    go (yes h) (no k) = no-sheet h k (boot-20 _ _ base end (handed-whole b h) (short-handed s k))
+    go (yes h) (yes k) = plain h k (boot-else _ _ base end (handed-whole b h) (handed-length s k))
 
 -- after 1 comes 7
 range-rises : {P : Type 0} {t : Table} → Rises 2 (must 7 P (finish 0 0 t))
@@ -152,7 +140,7 @@ module _ (base end : ℕ) {b s : List ℕ} {r : ℕ} {c s′ : List ℕ} (h : Bo
   boot-one : length b ≡ 5128 → BootLent b base end r c → (refusalIn r ≡ 1 → ⊥) × (refusalIn r ≡ 20 → ⊥)
   boot-one k l =
       let a = boot-answered base end l in (
-        λ z. let (i, _) = applies-range range-rises (past (long b k) (a .refuses 1 (omega arith) .0 z .applies)) in omega arith,
+        λ z. let (i, _) = applies-range range-rises (past (handed-whole b k) (a .refuses 1 (omega arith) .0 z .applies)) in omega arith,
         λ z. let i = applies-below (boot-below (handed b) base end) (a .refuses 20 (omega arith) .0 z .applies) in omega arith,
       )
 
@@ -176,7 +164,7 @@ module _ (base end : ℕ) {b s : List ℕ} {r : ℕ} {c s′ : List ℕ} (h : Bo
   sheet-boot-else k = go (how-boot b s base end)
     where
       go : HowBoot b s base end → BootLent b base end r c
-      go (short j e) = boot-without (e ∙ sym (boot-length (handed b) base end (none-long b j)))
+      go (short j e) = boot-without (e ∙ sym (boot-length (handed b) base end (handed-short b j)))
       go (no-sheet j n e) = absurd (n k)
       go (plain j n e) = boot-without e
 
@@ -198,9 +186,6 @@ module _ (base end : ℕ) {b s : List ℕ} {r : ℕ} {c s′ : List ℕ} (h : Bo
     sheet-boot-afresh =
         let e = boot-lent .1 ∙ boot-is in
         afresh (boot-right (handed b) base end boot-is) (h .table .bytes ∙ ap (bytesAfter b) e) (h .sheet ∙ ap (sheetBytesAfter s) e)
-
-    booted-good : (board : Board) → Good board (handed c)
-    booted-good board = subst (Good board) (sym (start base end (boot-lent .0) q)) (boot-good board (handed b) base end boot-is)
 
 -- the bytes of a sound table are 5,128
 sound-size : (board : Board) (b : List ℕ) → sound board (handed b) ≡ true → length b ≡ 5128
@@ -228,9 +213,6 @@ not-sound : {board : Board} {l : List ℕ} → sound board l ≡ false → Sound
 not-sound {board} {l} q s = false≢true (sym q ∙ sound-means board l .1 s)
 
 module _ {board : Board} {b s : List ℕ} {w v r : ℕ} {c s′ : List ℕ} {v′ : ℕ} (h : CallSheetLent board b s w v r c s′ v′) where
-  caller-byte : callerOf board (handed b) < 2 ^ 8
-  caller-byte = let z = caller-small board (handed b) in omega arith
-
   without : callSheetOn board (handed b) (handedSheet s) w ≡ callOn board (handed b) w → CallLent board b w v r c v′
   without e = record {
     table = subst (λ (x : Result). Lent (callerOf board (handed b)) x b r c) e (h .both .table);
@@ -238,12 +220,12 @@ module _ {board : Board} {b s : List ℕ} {w v r : ℕ} {c s′ : List ℕ} {v�
   }
 
   call-says : {n : ℕ} → n < 2 ^ 8 → callSheetOn board (handed b) (handedSheet s) w ≡ refused n → refusalIn r ≡ n
-  call-says small e = refused-reads small caller-byte e (h .both .table .result)
+  call-says small e = refused-reads small (caller-byte board b) e (h .both .table .result)
 
   call-unchanged : (Accepted r → ⊥) → (c ≡ b) × (s′ ≡ s) × (v′ ≡ v)
   unfolding outcomeOf secondAfter
   call-unchanged n =
-      let (m, e, d, k) = both-unchanged caller-byte (h .both) n in
+      let (m, e, d, k) = both-unchanged (caller-byte board b) (h .both) n in
       (d, k, h .second ∙ ap (λ (x : Result). secondAfter v (outcomeOf x)) e)
 
   -- done by the rule: the sheet is the new table's
@@ -378,7 +360,7 @@ root-held b s good is =
 module _ (base end : ℕ) {b s : List ℕ} {r : ℕ} {c s′ : List ℕ} (h : BootSheetLent b s base end r c s′) (q : Accepted r) {board : Board} {ws d u : List ℕ} (calls : CalledBeside board c s′ ws d u) where
   beside : KeptBeside board base end d u
   beside =
-      let (e, good, is) = called-beside (booted-good base end h q board) (sheet-boot-afresh base end h q) calls in
+      let (e, good, is) = called-beside (start-good base end (boot-lent base end h q .0) q board) (sheet-boot-afresh base end h q) calls in
       let k = from-boot-kept {base = base} {end = end} board (handed b) (boot-is base end h q) ws in
       let from = e ∙ ap (λ (l : List ℕ). afterAll board l ws) (start base end (boot-lent base end h q .0) q) in
       record {

@@ -1,6 +1,6 @@
 -- What the exits of the code cite.
 use mathlib.Core.Path.{_≡_, refl, ap, _∙_}
-use mathlib.Core.Bool.{Bool, true, false, _&&_, false≢true}
+use mathlib.Core.Bool.{Bool, true, false, _&&_, and-eq-true-iff}
 use mathlib.Core.List.{List}
 use Prim.Native.Nat.{ℕ, _-_, _*_, _%_, _^_, _≤_}
 use native.Mathlib.Omega.{arith}
@@ -10,10 +10,6 @@ use lib.ListN.{length}
 use borrow.Author.Tests.{leb-true, ltb-true, eqb-true, le-leb, lt-ltb, eq-eqb}
 use Rattle.engine.specs.Engine.{between, joined, maskStruck, giveMasks, takeMasks, memoryRight, childRight, membersRight, blockRight, linesRight, strikeRight, engineRefusal, Memory, Block, Members, Engine}
 use Rattle.engine.specs.Laws.Masks.{names-child, names-even, names-low}
-
-and-both : (a b : Bool) → a && b ≡ true → (a ≡ true) × (b ≡ true)
-and-both true b q = (refl, q)
-and-both false b q = absurd (false≢true q)
 
 -- the first test fails, or it holds and the others tell
 pub and-no : {a : Bool} (b : Bool) → a ≡ false → false ≡ a && b
@@ -35,18 +31,18 @@ engine-done right new before q e = record { answer = rw q refl; masks = rw q e }
 pub memory-says : (n base end : ℕ) → memoryRight n base end ≡ true → Memory n base end
 unfolding memoryRight
 memory-says n base end q =
-    let (a, r) = and-both (ltb base end) _ q in
-    let (b, c) = and-both (leb (end - base) 2048) _ r in
+    let (a, r) = and-eq-true-iff (ltb base end) _ .0 q in
+    let (b, c) = and-eq-true-iff (leb (end - base) 2048) _ .0 r in
     record { some = ltb-true base end a; few = leb-true (end - base) 2048 b; room = leb-true (end - base) n c }
 
 pub lines-say : (n base end child from to : ℕ) → linesRight n base end child from to ≡ true → Block n base end child from to
 unfolding linesRight childRight blockRight
 lines-say n base end child from to q =
-    let (m, r) = and-both (memoryRight n base end) _ q in
-    let (c, b) = and-both (leb 1 child && leb child 15) _ r in
-    let (d, e) = and-both (leb 1 child) _ c in
-    let (f, g) = and-both (leb base from) _ b in
-    let (i, j) = and-both (ltb from to) _ g in
+    let (m, r) = and-eq-true-iff (memoryRight n base end) _ .0 q in
+    let (c, b) = and-eq-true-iff (leb 1 child && leb child 15) _ .0 r in
+    let (d, e) = and-eq-true-iff (leb 1 child) _ .0 c in
+    let (f, g) = and-eq-true-iff (leb base from) _ .0 b in
+    let (i, j) = and-eq-true-iff (ltb from to) _ .0 g in
     record {
       memory = memory-says n base end m;
       child-low = leb-true 1 child d;
@@ -59,8 +55,8 @@ lines-say n base end child from to q =
 pub strike-says : (n base end members : ℕ) → strikeRight n base end members ≡ true → Members n base end members
 unfolding strikeRight membersRight
 strike-says n base end members q =
-    let (m, r) = and-both (memoryRight n base end) _ q in
-    let (a, b) = and-both (eqb (members % 2) 0) _ r in
+    let (m, r) = and-eq-true-iff (memoryRight n base end) _ .0 q in
+    let (a, b) = and-eq-true-iff (eqb (members % 2) 0) _ .0 r in
     record { memory = memory-says n base end m; each = λ p. names-child members p (eqb-true (members % 2) 0 a) (ltb-true members (2 ^ 16) b) }
 
 -- .. and when they hold

@@ -54,10 +54,16 @@ pub handed-is : (b : List ℕ) → length b ≡ 5128 → wordsOf b ≡ handed b
 unfolding handed
 handed-is b h = rw (eq-eqb (length b) 5128 h) refl
 
+pub handed-whole : (b : List ℕ) → length b ≡ 5128 → length (handed b) ≡ 641
+handed-whole b h = ap length (sym (handed-is b h)) ∙ length-wordsOf b
+
 module _ (b : List ℕ) (h : length b ≡ 5128 → ⊥) where
   pub handed-none : handed b ≡ []
   unfolding handed
   handed-none = rw (ne-eqb (length b) 5128 h) refl
+
+  pub handed-short : length (handed b) ≡ 641 → ⊥
+  handed-short z = omega (arith, ap (λ (x : List ℕ). length x) handed-none, z)
 
   pub handed-unsound : (board : Board) → sound board (handed b) ≡ false
   handed-unsound board = rw handed-none (wrong-length board [] (λ z. omega arith))
@@ -113,11 +119,11 @@ boot-root base end {a} {m} {o} {v} {w} ran q = go (eqb (length a) 641) (ltb base
 
 pub boot-none : (b : List ℕ) (base end : ℕ) {r : ℕ} → (length b ≡ 5128 → ⊥) → r ≡ resultPacked 1 0 0 → Lent 0 (bootOn (handed b) base end) b r b
 boot-none b base end h p =
-    lent-refused (ran-refused {l = b} (boot-length (handed b) base end (λ z. omega (arith, ap (λ (x : List ℕ). length x) (handed-none b h), z)))) b refl p
+    lent-refused (ran-refused {l = b} (boot-length (handed b) base end (handed-short b h))) b refl p
 
 module _ (b : List ℕ) (base end : ℕ) {a m : List ℕ} {o : Outcome} (size : length b ≡ 5128) (zeros : length a ≡ 641) (ran : Ran (bootOn a base end) a o m) where
   any : bootOn (handed b) base end ≡ bootOn a base end
-  any = boot-any a (handed b) base end zeros (ap length (sym (handed-is b size)) ∙ length-wordsOf b)
+  any = boot-any a (handed b) base end zeros (handed-whole b size)
 
   pub boot-lent : {v w r : ℕ} {n : List ℕ} → o ≡ Done v w → r ≡ resultPacked 0 0 v → n ≡ bytesOf m → Lent 0 (bootOn (handed b) base end) b r n
   boot-lent q p e = lent-done (ran-as any ran) b q p e

@@ -13,7 +13,7 @@ use Rattle.tables.specs.Fitting.{Words}
 use Rattle.tables.specs.declared.Outcome.{Outcome}
 use Rattle.tables.specs.declared.Outcome.the-variants.{Done, Refused}
 use Rattle.memory.specs.Bytes.{wordsOf, bytesOf}
-use Rattle.memory.specs.Laws.ByteTrips.{length-wordsOf, words-small}
+use Rattle.memory.specs.Laws.ByteTrips.{words-small}
 use Rattle.sound.specs.Clauses.{sound}
 use Rattle.sound.specs.Whole.{Right}
 use Rattle.sound.specs.Laws.List.{sound-means}
@@ -37,7 +37,7 @@ use Rattle.sheet.specs.Laws.Rules.{call-1, call-20, call-else, boot-1, boot-20,
 use Rattle.sheet.specs.Laws.Touched.{call-put}
 use Rattle.sheet.specs.Laws.Bytes.{matches-means, sheet-bytes, short-handed, handed-length, matches-length}
 use Rattle.face.specs.Face.{handed, resultPacked, resultOf, secondAfter, bytesAfter, Lent, CallLent}
-use Rattle.face.specs.Laws.Face.{lent-one, handed-is, handed-unsound, handed-none, boot-lent, call-lent, call-stands, call-kept}
+use Rattle.face.specs.Laws.Face.{lent-one, handed-is, handed-unsound, boot-lent, call-lent, call-stands, call-kept, handed-whole, handed-short}
 use Rattle.facesheet.specs.Sheets.{BothLent, BootSheetLent, CallSheetLent}
 
 -- two results are equal: the result, every byte of both, the second value
@@ -103,23 +103,20 @@ booted-right base end {a} ran q = right-done ran q (λ v y t z. boot-right a bas
 
 module _ (b s : List ℕ) (base end : ℕ) where
   pub boot-short : {r : ℕ} → (length b ≡ 5128 → ⊥) → r ≡ resultPacked 1 0 0 → BootSheetLent b s base end r b s
-  boot-short h q = both-refused (boot-1 _ _ base end (λ z. omega (arith, ap (λ (x : List ℕ). length x) (handed-none b h), z))) q
+  boot-short h q = both-refused (boot-1 _ _ base end (handed-short b h)) q
 
   module _ (size : length b ≡ 5128) where
-    long : length (handed b) ≡ 641
-    long = ap length (sym (handed-is b size)) ∙ length-wordsOf b
-
     pub boot-no-sheet : {r : ℕ} → (length s ≡ 256 → ⊥) → r ≡ resultPacked 20 0 0 → BootSheetLent b s base end r b s
-    boot-no-sheet h q = both-refused (boot-20 _ _ base end long (short-handed s h)) q
+    boot-no-sheet h q = both-refused (boot-20 _ _ base end (handed-whole b size) (short-handed s h)) q
 
     module _ (h : length s ≡ 256) {a m : List ℕ} {o : Outcome} (zeros : length a ≡ 641) (ran : Ran (bootOn a base end) a o m) where
       -- as without a sheet
       same-boot : bootSheetOn (handed b) (handedSheet s) base end ≡ bootOn (handed b) base end
-      same-boot = boot-else _ _ base end long (handed-length s h)
+      same-boot = boot-else _ _ base end (handed-whole b size) (handed-length s h)
 
       pub boot-both : {v y r : ℕ} {n u : List ℕ} → o ≡ Done v y → r ≡ resultPacked 0 0 v → n ≡ bytesOf m → u ≡ sheetBytes (sheetOf (view m)) → BootSheetLent b s base end r n u
       boot-both {r = r} {n} q p e d =
-          let also : bootSheetOn (handed b) (handedSheet s) base end ≡ bootOn a base end = same-boot ∙ boot-any a (handed b) base end zeros long in
+          let also : bootSheetOn (handed b) (handedSheet s) base end ≡ bootOn a base end = same-boot ∙ boot-any a (handed b) base end zeros (handed-whole b size) in
           record {
             table = subst (λ (x : Result). Lent 0 x b r n) (sym same-boot) (boot-lent b base end size zeros ran q p e);
             sheet = both-done s ran q (λ v y t z. boot-right a base end z) d ∙ ap (sheetBytesAfter s) (sym also);
@@ -127,7 +124,7 @@ module _ (b s : List ℕ) (base end : ℕ) where
 
       pub boot-neither : {n r : ℕ} → o ≡ Refused n → r ≡ resultPacked n 0 0 → BootSheetLent b s base end r b s
       boot-neither {n} q p =
-          let also : bootSheetOn (handed b) (handedSheet s) base end ≡ bootOn a base end = same-boot ∙ boot-any a (handed b) base end zeros long in
+          let also : bootSheetOn (handed b) (handedSheet s) base end ≡ bootOn a base end = same-boot ∙ boot-any a (handed b) base end zeros (handed-whole b size) in
           both-refused (also ∙ refused-result (sym (ran .outcome) ∙ q)) p
 
 -- ── a call ──

@@ -16,7 +16,7 @@ use Rattle.tables.specs.Laws.State.{none-of, not-none, same-at}
 use Rattle.tables.specs.View.{entryOf, entryIn, slotAt, view}
 use Rattle.tables.specs.Laws.View.{slot-bounds}
 use Rattle.tables.specs.Seen.{Seen}
-use Rattle.tables.specs.Laws.Seen.{see}
+use Rattle.tables.specs.Laws.Seen.{see, entry-there, entry-none}
 use Rattle.tables.specs.declared.Outcome.{Outcome}
 use Rattle.tables.specs.declared.Outcome.the-variants.{Done, Refused}
 use Rattle.sound.specs.Core.{Core}
@@ -34,21 +34,17 @@ module _ (b : Board) {l : List ℕ} {p i : ℕ} {f : SlotFields} (v : Seen l p i
   slot-none q = rw (v .slot, q) (record { outcome = refl; words = refl })
 
   module _ (q : f .present ≡ true) where
-    there : view l .k .slot p i ≡ some (entryOf f)
-    unfolding entryIn
-    there = v .slot ∙ rw q refl
-
     pub can-list : {list : List ℕ} → Core (view l .k) → length (piecesFor b (f .start .0) (f .end .0)) ≤ length list → CanList b (f .start .0) (f .end .0) list
-    can-list h room = record { block = omega (arith, h .s5-range p i (entryOf f) there); small = v .end-small; room = room }
+    can-list h room = record { block = omega (arith, h .s5-range p i (entryOf f) (entry-there v q)); small = v .end-small; room = room }
 
     pub slot-short : {list : List ℕ} → length list < length (piecesFor b (f .start .0) (f .end .0)) → SlotListed b (view l .k .slot p i) list (Refused 17) list
     unfolding slotOutcome slotWords listOutcome listWords
-    slot-short h = rw there (record { outcome = rw (lt-leb _ _ h) refl; words = rw (lt-leb _ _ h) refl })
+    slot-short h = rw (entry-there v q) (record { outcome = rw (lt-leb _ _ h) refl; words = rw (lt-leb _ _ h) refl })
 
     pub slot-listed : {list : List ℕ} {n : ℕ} {after : List ℕ} → length (piecesFor b (f .start .0) (f .end .0)) ≤ length list → ShapesListed (piecesFor b (f .start .0) (f .end .0)) list n after
         → SlotListed b (view l .k .slot p i) list (Done n 0) after
     unfolding slotOutcome slotWords listOutcome listWords
-    slot-listed room made = rw there (record { outcome = rw (le-leb _ _ room) (ap (λ (n : ℕ). Done n 0) (made .number)); words = rw (le-leb _ _ room) (made .words) })
+    slot-listed room made = rw (entry-there v q) (record { outcome = rw (le-leb _ _ room) (ap (λ (n : ℕ). Done n 0) (made .number)); words = rw (le-leb _ _ room) (made .words) })
 
 -- ── the exits ──
 module _ (b : Board) {t : List ℕ} {p s : ℕ} {list : List ℕ} where
@@ -72,7 +68,6 @@ pieces-copy {b} {p = p} {s} {list} {r} {after} e h = subst (λ (x : List ℕ). P
 
 -- ── no entry has more than 52 pieces ──
 stop-small : (t : List ℕ) (p s : ℕ) (e : Entry) → view t .k .slot p s ≡ some e → e .stop < 2 ^ 27
-unfolding entryIn
 stop-small t p s e u = go (slotAt t p s .present) refl
   where
     v : Seen t p s (slotAt t p s)
@@ -80,10 +75,9 @@ stop-small t p s e u = go (slotAt t p s .present) refl
 
     go : (x : Bool) → slotAt t p s .present ≡ x → e .stop < 2 ^ 27
     go true q =
-        let there : view t .k .slot p s ≡ some (entryOf (slotAt t p s)) = v .slot ∙ rw q refl in
-        let w = same-at (view t .k .slot p s) u there in
+        let w = same-at (view t .k .slot p s) u (entry-there v q) in
         omega (arith, w .stop, v .end-small)
-    go false q = not-none (view t .k .slot p s) (v .slot ∙ rw q refl) u
+    go false q = not-none (view t .k .slot p s) (entry-none v q) u
 
 pub entry-few : (b : Board) (t : List ℕ) (p s : ℕ) (e : Entry) → view t .k .slot p s ≡ some e → length (piecesFor b (e .start) (e .stop)) ≤ 52
 entry-few V7 t p s e u = pieces-few (e .start) (e .stop) (stop-small t p s e u)

@@ -12,6 +12,7 @@ use Rattle.tables.specs.Settle.{settle}
 use Rattle.sound.specs.Sound.{Present}
 use Rattle.sound.specs.Laws.MeansEntries.{present-means}
 use Rattle.sound.specs.Core.{Core}
+use Rattle.sound.specs.Laws.Core.{parent-range}
 use Rattle.sound.specs.Properties.{Child}
 use Rattle.sound.specs.Whole.{Right}
 use Rattle.rules.specs.Rules.{removeK, remove, done, branch, clearOut}
@@ -25,16 +26,9 @@ use Rattle.isolation.specs.Ladders.{clearLadder}
 
 -- ── the branch of a child of the caller goes ──
 module _ {k : K} (h : Core k) where
-  parent-small : (q : ℕ) → k .parent q < 16
-  parent-small q = go (k .area q 0) refl
-    where
-      go : (o : Opt Area) → k .area q 0 ≡ o → k .parent q < 16
-      go none z = rw (h .s2-parent q z) (omega arith)
-      go (some a) z = let (b, u) = h .s2-up q (a, z) in h .s2-range (k .parent q) 0 b u .0
-
   module _ {p : ℕ} (c : Child k (k .current) p) where
     in-branch : (q : ℕ) → q < 16 → Under (k .parent) p q → branch (k .parent) p q ≡ true
-    in-branch q b u = branch-of (k .parent) p (c .other) parent-small b u
+    in-branch q b u = branch-of (k .parent) p (c .other) (parent-range h) b u
 
     -- the branch of p is p and every descendant of it
     pub branch-means : (q : ℕ) → q < 16 → (branch (k .parent) p q ≡ true) ↔ Under (k .parent) p q
@@ -70,7 +64,7 @@ module _ {k : K} (h : Core k) where
       where
         above : (q : ℕ) → Under (k .parent) p q → (q ≡ p) ⊎ (branch (k .parent) p (k .parent q) ≡ true)
         above q (itself z) = inl z
-        above q (below n u) = inr (in-branch (k .parent q) (parent-small q) u)
+        above q (below n u) = inr (in-branch (k .parent q) (parent-range h q) u)
 
 -- ── the service ──
 abbrev pub ClearDone : Table → ℕ → ℕ → ℕ → Table → Type 0

@@ -1,12 +1,12 @@
 -- Collect keeps a table sound, and each partition holds the lines that it held; its answer is that of its conditions.
 use mathlib.Core.Path.{_≡_, refl, _∙_}
-use mathlib.Core.Logic.{_⊎_, inl, inr, _↔_}
+use mathlib.Core.Logic.{_↔_}
 use mathlib.Core.Bool.{true}
 use Prim.Native.Nat.{ℕ, _+_, _*_, _/_, _%_}
 use native.Mathlib.Omega.{arith}
 use Rattle.tables.specs.State.{Opt, none, some, Entry, Area, nowhere, K, Table}
 use Rattle.tables.specs.Laws.State.{not-none, none-of}
-use Rattle.tables.specs.Laws.Update.{upd-other, upd-from}
+use Rattle.tables.specs.Laws.Update.{upd-other, upd-none}
 use Rattle.tables.specs.Lines.{Holds}
 use Rattle.tables.specs.Settle.{settle}
 use Rattle.sound.specs.Sound.{Present}
@@ -34,11 +34,7 @@ module _ {k : K} {p j : ℕ} (h : Core k) (ok : CollectOk k p j) where
   new = collectK k p j .area
 
   was : (q i : ℕ) (a : Area) → new q i ≡ some a → k .area q i ≡ some a
-  was q i a u = go (upd-from (k .area) p (1 + j) none q i u)
-    where
-      go : ((q ≡ p) × (i ≡ 1 + j) × (none ≡ some a)) ⊎ (((q ≡ p) × (i ≡ 1 + j) → ⊥) × (k .area q i ≡ some a)) → k .area q i ≡ some a
-      go (inl (_, _, z)) = not-none none refl z
-      go (inr (_, v)) = v
+  was q i a u = upd-none (k .area) p (1 + j) q i u
 
   stays : (q i : ℕ) (a : Area) → k .area q i ≡ some a → ((q ≡ p) × (i ≡ 1 + j) → ⊥) → new q i ≡ some a
   stays q i a u n = upd-other (k .area) p (1 + j) none q i n ∙ u

@@ -2,7 +2,6 @@
 use mathlib.Core.Path.{_≡_, refl, sym, _∙_}
 use mathlib.Core.Bool.{Bool, true, false, cond, not, _&&_, _||_, true≢false}
 use mathlib.Core.List.{List}
-use mathlib.Core.Logic.{_⊎_, inl, inr}
 use Prim.Native.Nat.{ℕ, _≤_}
 use native.Mathlib.Decide.{ℕ-discrete}
 use native.Mathlib.Omega.{arith}
@@ -14,17 +13,18 @@ use Rattle.shapes.specs.declared.Board.the-variants.{V8}
 use Rattle.tables.specs.State.{Opt, none, some, Entry, K, Table, givenTo}
 use Rattle.tables.specs.Laws.State.{not-none}
 use Rattle.tables.specs.Update.{both?, upd, upd1}
-use Rattle.tables.specs.Laws.Update.{row-same, row-other, upd-same, upd-other, upd-from}
+use Rattle.tables.specs.Laws.Update.{row-same, row-other, upd-same, upd-other, upd-none}
 use Rattle.tables.specs.Write.{putRegion}
 use Rattle.tables.specs.Settle.{openAt, keep, settle}
+use Rattle.tables.specs.Laws.Kept.{keep-some}
 use Rattle.loops.specs.Laws.Count.{sum-fewer}
 use Rattle.sound.specs.Limit.{entryPieces, regionPieces, loadedPieces}
 use Rattle.sound.specs.Laws.Limit.{pieces-from, few-from, none-loaded, plain-few}
-use Rattle.sound.specs.Laws.Settled.{keep-some}
 use Rattle.sound.specs.Laws.Tests.{or-left}
 use Rattle.sound.specs.Whole.{Right, Few}
-use Rattle.rules.specs.Rules.{Result, done, refused, check, need, ownOrChild, elsewhere, ungive, recordsZero, removeK, remove, create, delete, prepare, collect, give, take, cut, merge, load, unload, switch, branch, clearOut, pack, bootOn}
+use Rattle.rules.specs.Rules.{Result, done, refused, check, need, ownOrChild, elsewhere, ungive, removeK, remove, create, delete, prepare, collect, give, take, cut, merge, load, unload, switch, branch, clearOut, pack, bootOn}
 use Rattle.rules.specs.Laws.Unloaded.{unloaded-was}
+use Rattle.rules.specs.Laws.Removed.{records-was}
 use Rattle.isolation.specs.Laws.Two.{two}
 use Rattle.isolation.specs.Ladder.{Ends}
 use Rattle.isolation.specs.Laws.Ladder.{not-done, ends}
@@ -86,13 +86,6 @@ module _ (b : Board) where
       go false (yes z) = rw (row-same (k .slot) (k .current) (λ j. ungive c (k .slot (k .current) j)) p i z, z) (ungive-needs c (k .slot (k .current) i))
       go false (no z) = rw (row-other (k .slot) (k .current) (λ j. ungive c (k .slot (k .current) j)) p i z) (omega arith)
 
-  without-was : (m : ℕ → Bool) (region : ℕ → ℕ → Opt ℕ) (q r i : ℕ) → recordsZero m (λ j. none) region q r ≡ some i → region q r ≡ some i
-  without-was m region q r i = go (m q)
-    where
-      go : (y : Bool) → cond y (λ j. none) (region q) r ≡ some i → region q r ≡ some i
-      go true u = not-none none refl u
-      go false u = u
-
   -- ── settle drops regions only ──
   settle-few : {t : Table} (k : K) (region : ℕ → ℕ → Opt ℕ) → Few b t
       → ((p r i : ℕ) → region p r ≡ some i → (t .region p r ≡ some i) × (entryPieces b (k .slot p i) ≤ entryPieces b (t .k .slot p i)))
@@ -119,7 +112,7 @@ module _ (b : Board) where
     switch-few p x = let (_, z) = switch-done h p x in rw z (stays-few _ (λ p i. refl))
 
     remove-few : (c : ℕ) (m : ℕ → Bool) → Few b (remove t c m)
-    remove-few c m = settle-few (removeK (t .k) c m) _ few (λ p r i u. (without-was m (t .region) p r i u, remove-needs (t .k) c m p i))
+    remove-few c m = settle-few (removeK (t .k) c m) _ few (λ p r i u. (records-was m (t .region) p r u .0, remove-needs (t .k) c m p i))
 
     pub delete-few : (p : ℕ) {v w : ℕ} {t′ : Table} → delete t p ≡ done v w t′ → Few b t′
     delete-few p x = let (_, z) = delete-done h p x in rw z (remove-few p (λ q. eqb q p))
@@ -180,11 +173,7 @@ module _ (b : Board) where
     pub unload-few : (p r : ℕ) {v w : ℕ} {t′ : Table} → unload t p r ≡ done v w t′ → Few b t′
     unload-few p r x =
         let (_, _, z) = unload-done h p r x in
-        rw z (settle-few (t .k) _ few (λ q m i u. (was q m i (upd-from (t .region) p r none q m u), omega arith)))
-      where
-        was : (q m i : ℕ) → ((q ≡ p) × (m ≡ r) × (none ≡ some i)) ⊎ (((q ≡ p) × (m ≡ r) → ⊥) × (t .region q m ≡ some i)) → t .region q m ≡ some i
-        was q m i (inl (_, _, z)) = not-none none refl z
-        was q m i (inr (_, u)) = u
+        rw z (settle-few (t .k) _ few (λ q m i u. (upd-none (t .region) p r q m u, omega arith)))
 
     -- regions follow their entries: what each names needs the same pieces
     pub pack-few : (p : ℕ) {v w : ℕ} {t′ : Table} → pack t p ≡ done v w t′ → Few b t′

@@ -1,31 +1,34 @@
 -- A right table fits its words: it is read back from them, and they are sound words of 64 bits.
-use mathlib.Core.Path.{_≡_, refl, sym, _∙_}
+use mathlib.Core.Path.{_≡_, sym, _∙_}
 use mathlib.Core.List.{List}
-use Prim.Native.Nat.{ℕ, _+_, _-_, _/_, _^_, _<_}
+use Prim.Native.Nat.{ℕ, _-_, _^_, _<_}
 use native.Mathlib.Omega.{arith}
 use native.Mathlib.Decide.{ℕ-discrete}
 use Rattle.shapes.specs.declared.Board.{Board}
-use Rattle.tables.specs.State.{Opt, none, some, Entry, Area, nowhere, K, Table}
+use Rattle.tables.specs.State.{some, Entry, Area, nowhere, K, Table}
 use Rattle.tables.specs.Laws.State.{some-inj, sameA}
-use Rattle.tables.specs.Encode.{encode}
+use Rattle.tables.specs.View.{view}
+use Rattle.tables.specs.Encode.{encode, Canon}
 use Rattle.tables.specs.Laws.Back.{Fit, view-encode, fit-canon}
 use Rattle.tables.specs.Fitting.{Words}
 use Rattle.tables.specs.Laws.SmallWords.{encode-small}
 use Rattle.sound.specs.Sound.{Rooted, Sound}
 use Rattle.sound.specs.Core.{Core}
+use Rattle.sound.specs.Laws.Canonical.{sound-canon}
+use Rattle.sound.specs.Laws.Core.{parent-range}
+use Rattle.sound.specs.Laws.Found.{in-table}
 use Rattle.sound.specs.Laws.Properties.{held-range}
 use Rattle.sound.specs.Whole.{Right, Few}
-use Rattle.sound.specs.Laws.Whole.{right-sound}
+use Rattle.sound.specs.Laws.Whole.{right-sound, sound-right}
 
 module _ {k : K} (h : Core k) (b : k .stop < 2 ^ 27) where
   -- the root holds the last line of each entry
   slot-fits : (p i : ℕ) (e : Entry) → k .slot p i ≡ some e → (p < 16) × (i < 32) × (e .given < 16) × (e .start < 2 ^ 27) × (e .stop < 2 ^ 27)
   slot-fits p i e u =
       let r = h .s5-range p i e u in
-      let (a, v) = h .s5 p i e u in
-      let (x, y) = h .s2-range p (1 + i / 8) a v in
+      let (x, y) = in-table h p i e u in
       let (m, n) = held-range h {p = p} {l = e .stop - 1} (record { i = i; e = e; at = u; holds = omega arith }) in
-      (x, omega arith, go (ℕ-discrete (e .given) 0), omega arith, omega arith)
+      (x, y, go (ℕ-discrete (e .given) 0), omega arith, omega arith)
     where
       go : Dec (e .given ≡ 0) → e .given < 16
       go (yes z) = omega arith
@@ -53,13 +56,6 @@ module _ {k : K} (h : Core k) (b : k .stop < 2 ^ 27) where
       go (yes z) (no _) (yes y) = is (rw (z, y) (h .s2-root .1))
       go (yes z) (no m) (no n) = by (λ r. let y = r .1 in n (omega arith))
 
-  parent-fits : (p : ℕ) → k .parent p < 16
-  parent-fits p = go (k .area p 0) refl
-    where
-      go : (o : Opt Area) → k .area p 0 ≡ o → k .parent p < 16
-      go none u = omega (arith, h .s2-parent p u)
-      go (some a) u = let (c, v) = h .s2-up p (a, u) in h .s2-range (k .parent p) 0 c v .0
-
 pub right-fit : {t : Table} → Right t → Fit t
 right-fit {t} h =
     let c = h .core in
@@ -68,7 +64,7 @@ right-fit {t} h =
       base = omega (arith, c .s1);
       stop = b;
       current = let (a, u) = c .s1-current in c .s2-range (t .k .current) 0 a u .0;
-      parent = parent-fits c b;
+      parent = parent-range c;
       orphan = c .s2-parent;
       area = area-fits c b;
       slot = slot-fits c b;
@@ -89,3 +85,10 @@ pub right-good : (board : Board) {t : Table} → Right t → Few board t → Goo
 right-good board {t} h few =
     let f = right-fit h in
     record { small = encode-small f; sound = right-sound board (fit-canon f) (rw (view-encode t f) h) (rw (view-encode t f) few) }
+
+-- .. are the words of the table that they are seen as, and it is right
+pub good-canon : {board : Board} {l : List ℕ} → Good board l → Canon l
+good-canon g = sound-canon (g .small) (g .sound)
+
+pub good-right : {board : Board} {l : List ℕ} → Good board l → Right (view l)
+good-right g = sound-right (good-canon g) (g .sound)

@@ -2,21 +2,21 @@
 use mathlib.Core.Path.{_≡_, refl, ap, sym, _∙_}
 use mathlib.Core.Bool.{false≢true}
 use mathlib.Core.List.{List, [], _∷_}
-use Prim.Native.Nat.{ℕ, zero, suc, _+_, _/_, _≤_, _<_}
+use Prim.Native.Nat.{ℕ, zero, suc, _≤_}
 use native.Mathlib.Omega.{arith}
 use Rattle.tables.specs.State.{Opt, none, some, Entry, K, Table}
 use Rattle.tables.specs.Laws.State.{not-none, none-of}
 use Rattle.tables.specs.Laws.Update.{upd1-same, row-other}
 use Rattle.tables.specs.Write.{withSlot}
 use Rattle.tables.specs.Search.{lowest, isSome, free, holdsAt, lookedAt, lookFor}
-use Rattle.tables.specs.Laws.Search.{lowest-some, lowest-none}
+use Rattle.tables.specs.Laws.Search.{lowest-some}
 use Rattle.tables.specs.WayUp.{wayUp}
-use Rattle.tables.specs.Lines.{In}
 use Rattle.tables.specs.Settle.{openAt}
 use Rattle.sound.specs.Laws.MeansEntries.{holds-means}
 use Rattle.sound.specs.Core.{Core}
 use Rattle.sound.specs.Whole.{Right}
 use Rattle.sound.specs.Holders.{receiver, givenBy, heir, deepest, trail, holdersOf, sumOver, looksOf}
+use Rattle.sound.specs.Laws.Found.{in-table, line-found}
 use Rattle.rules.specs.Pack.{usable, packingOf, packed}
 use Rattle.rules.specs.Laws.Pack.{Lowered, packed-follows, packed-loaded}
 use Rattle.rules.specs.Rules.{done, packK, packRegion, pack}
@@ -26,20 +26,7 @@ use Rattle.isolation.specs.Laws.PackOrder.{packed-order}
 use Rattle.isolation.specs.Laws.Pack.{pack-lowered, pack-core, pack-settled, pack-done, pack-tight}
 
 -- ── the search for a line ──
-slot-small : {k : K} → Core k → (q i : ℕ) (e : Entry) → k .slot q i ≡ some e → i < 32
-slot-small h q i e u = let (a, v) = h .s5 q i e u in omega (arith, h .s2-range q (1 + i / 8) a v .1)
-
--- the slot that has it is the one found
-found-at : {k : K} → Core k → (q i : ℕ) (e : Entry) (l : ℕ) → k .slot q i ≡ some e → In l e → lowest 32 (holdsAt k q l) ≡ some i
-found-at {k} h q i e l u x = go (lowest 32 (holdsAt k q l)) refl
-  where
-    go : (o : Opt ℕ) → lowest 32 (holdsAt k q l) ≡ o → o ≡ some i
-    go none z = absurd (false≢true (sym (lowest-none 32 (holdsAt k q l) z i (slot-small h q i e u)) ∙ holds-means l (k .slot q i) .1 (e, u, x)))
-    go (some m) z =
-        let (f, v, y) = holds-means l (k .slot q m) .0 (lowest-some 32 (holdsAt k q l) m z .holds) in
-        ap some (h .s6 q m i f e l v u y x)
-
--- and whom its entry is given to is the heir
+-- whom the entry of the slot that is found is given to is the heir
 heir-found : (k : K) (q i l : ℕ) (e : Entry) → lowest 32 (holdsAt k q l) ≡ some i → k .slot q i ≡ some e → heir k l q ≡ e .given
 unfolding heir givenBy receiver
 heir-found k q i l e z u = rw (z, u) refl
@@ -68,14 +55,14 @@ module _ {k : K} {new : ℕ → ℕ → Opt Entry} (h : Core k) (g : Core (withS
       none-later z (some m) y =
           let (e, u, x) = holds-means l (new q m) .0 (lowest-some 32 (holdsAt later q l) m y .holds) in
           let (n, _, v) = rows q .was m e u in
-          not-none (lowest 32 (holdsAt k q l)) z (found-at h q n e l v x)
+          not-none (lowest 32 (holdsAt k q l)) z (line-found h q n l e v x)
 
       go : (o : Opt ℕ) → lowest 32 (holdsAt k q l) ≡ o → Nearer q
       go none z = let y = none-later z (lowest 32 (holdsAt later q l)) refl in record { heir-is = rw (y, z) refl; count = rw (y, z) (omega arith) }
       go (some i) z =
           let (e, u, x) = holds-means l (k .slot q i) .0 (lowest-some 32 (holdsAt k q l) i z .holds) in
           let (m, b, v) = rows q .now i e u in
-          let y = found-at g q m e l v x in
+          let y = line-found g q m l e v x in
           record { heir-is = heir-found later q m l e y v ∙ sym (heir-found k q i l e z u); count = rw (y, z) (omega arith) }
 
   pub deepest-same : (p n : ℕ) → deepest later l p n ≡ deepest k l p n
@@ -103,7 +90,7 @@ module _ {t : Table} (h : Right t) (p : ℕ) where
       let region = upd1-same (t .region) p (packed t p .region) p refl in
       record {
         order = rw slot (packed-order can s);
-        lowest = λ i j e u b f. absurd (false≢true (sym (pack-tight h p .below i j e (slot-small (pack-core h p) p i e u) u b) ∙ free-means (packK t p) p j .1 f));
+        lowest = λ i j e u b f. absurd (false≢true (sym (pack-tight h p .below i j e (in-table (pack-core h p) p i e u .1) u b) ∙ free-means (packK t p) p j .1 f));
         follow = λ r i e u v. rw (slot, region) (packed-follows can s r i e u v);
         unloaded = λ r u. rw region (none-of (packed t p .region r) (λ a v. none-is r u a v));
         slots = λ q i n. row-other (t .k .slot) p (packed t p .slot) q i n;

@@ -1,15 +1,14 @@
 -- Load and unload keep a table sound, read region changes nothing; each answers by its conditions.
 use mathlib.Core.Path.{_≡_, refl}
 use mathlib.Core.Bool.{Bool, true, not, _&&_}
-use mathlib.Core.Logic.{_⊎_, inl, inr, _↔_}
+use mathlib.Core.Logic.{_↔_}
 use Prim.Native.Nat.{ℕ, _≤_, _<_}
 use lib.Dec.{eqb}
 use Rattle.loops.specs.Laws.Every.{any-at, any-of}
 use Rattle.shapes.specs.declared.Board.{Board}
 use Rattle.tables.specs.State.{none, some, Entry, Table}
-use Rattle.tables.specs.Laws.State.{not-none}
 use Rattle.tables.specs.Update.{upd}
-use Rattle.tables.specs.Laws.Update.{upd-from}
+use Rattle.tables.specs.Laws.Update.{upd-none}
 use Rattle.tables.specs.Lines.{Clear}
 use Rattle.tables.specs.Settle.{settle}
 use Rattle.sound.specs.Limit.{loadedPieces}
@@ -90,11 +89,7 @@ module _ {t : Table} (h : Right t) (p r : ℕ) where
   pub unload-right : {v w : ℕ} {t′ : Table} → unload t p r ≡ done v w t′ → Right t′
   unload-right x =
       let (_, _, z) = unload-done x in
-      rw z (settle-right (h .core) (h .stop) (loads-fewer (right-loads h) (λ q m i u. was q m i (upd-from (t .region) p r none q m u))))
-    where
-      was : (q m i : ℕ) → ((q ≡ p) × (m ≡ r) × (none ≡ some i)) ⊎ (((q ≡ p) × (m ≡ r) → ⊥) × (t .region q m ≡ some i)) → t .region q m ≡ some i
-      was q m i (inl (_, _, z)) = not-none none refl z
-      was q m i (inr (_, u)) = u
+      rw z (settle-right (h .core) (h .stop) (loads-fewer (right-loads h) (λ q m i u. upd-none (t .region) p r q m u)))
 
 -- ── read region ──
 module _ {t : Table} (h : Right t) (p r : ℕ) where

@@ -18,6 +18,7 @@ use Rattle.sound.specs.Core.{Inside, Whole, Backed, Core}
 use Rattle.sound.specs.Properties.{Child}
 use Rattle.sound.specs.Whole.{Right}
 use Rattle.rules.specs.Rules.{ungive, recordsZero, removeK, remove}
+use Rattle.rules.specs.Laws.Removed.{records-was}
 use Rattle.isolation.specs.Laws.Keep.{entry-present, Has, still, inside-at, backed-at}
 use Rattle.isolation.specs.Laws.Settled.{right-loads, settle-right, loads-fewer}
 
@@ -30,6 +31,10 @@ pub record Goes (k : K) (c : ℕ) (m : ℕ → Bool) : Type 0 where
   pub up : (q : ℕ) → m q ≡ true → (q ≡ c) ⊎ (m (k .parent q) ≡ true)
   pub down : (p q : ℕ) → Child k p q → m p ≡ true → m q ≡ true
 
+-- present, and stays
+abbrev pub Remains : K → (ℕ → Bool) → ℕ → Type 0
+Remains k m q = Present k q × (m q ≡ false)
+
 -- ── records are zeroed ──
 module _ {A : Type 0} (m : ℕ → Bool) (f : ℕ → ℕ → Opt A) (q i : ℕ) where
   abbrev without : ℕ → ℕ → Opt A
@@ -37,13 +42,6 @@ module _ {A : Type 0} (m : ℕ → Bool) (f : ℕ → ℕ → Opt A) (q i : ℕ)
 
   without-stays : m q ≡ false → without q i ≡ f q i
   without-stays n = rw n refl
-
-  without-some : {a : A} → without q i ≡ some a → (f q i ≡ some a) × (m q ≡ false)
-  without-some {a} u = go (m q) refl u
-    where
-      go : (b : Bool) → m q ≡ b → cond b (λ j. none) (f q) i ≡ some a → (f q i ≡ some a) × (m q ≡ false)
-      go true z u = not-none none refl u
-      go false z u = (u, z)
 
 -- ── what was given is given to nobody ──
 ungive-yes : (c : ℕ) (e : Entry) → e .given ≡ c → ungive c (some e) ≡ some (givenTo e 0)
@@ -114,7 +112,7 @@ module _ {k : K} {c : ℕ} {m : ℕ → Bool} (h : Core k) (ok : Goes k c m) whe
   half-other p i n = ap (λ (g : ℕ → Opt Entry). g i) (upd1-other (k .slot) (k .current) _ p n)
 
   inv : (p i : ℕ) (a : Entry) → new p i ≡ some a → Was k m p i a
-  inv p i a u = let (v, n) = without-some m half p i u in go n v (ℕ-discrete p (k .current))
+  inv p i a u = let (v, n) = records-was m half p i u in go n v (ℕ-discrete p (k .current))
     where
       alike : m p ≡ false → k .slot p i ≡ some a → (a .given ≡ c → ⊥) → Was k m p i a
       alike n v g = record { e = a; at = v; start = refl; stop = refl; rights = refl; whole = refl; free = λ z. z; stayed = n; given = λ _. (v, kept-given p i a v n g) }
@@ -173,26 +171,22 @@ module _ {k : K} {c : ℕ} {m : ℕ → Bool} (h : Core k) (ok : Goes k c m) whe
   remove-holds p l = (new-holds p l, λ u. holds-new p l (u .0) (u .1))
 
   area-was : (q i : ℕ) (a : Area) → removeK k c m .area q i ≡ some a → (k .area q i ≡ some a) × (m q ≡ false)
-  area-was q i a u = without-some m (k .area) q i u
+  area-was q i a u = records-was m (k .area) q i u
 
   area-stays : (q i : ℕ) (a : Area) → k .area q i ≡ some a → m q ≡ false → removeK k c m .area q i ≡ some a
   area-stays q i a u n = without-stays m (k .area) q i n ∙ u
 
-  -- present, and stays
-  abbrev Left : ℕ → Type 0
-  Left q = Present k q × (m q ≡ false)
-
-  left : (q : ℕ) → Present (removeK k c m) q → Left q
+  left : (q : ℕ) → Present (removeK k c m) q → Remains k m q
   left q (a, u) = let (v, n) = area-was q 0 a u in ((a, v), n)
 
-  keep : (q : ℕ) → Left q → Present (removeK k c m) q
+  keep : (q : ℕ) → Remains k m q → Present (removeK k c m) q
   keep q ((a, u), n) = (a, area-stays q 0 a u n)
 
   up-same : (q : ℕ) → m q ≡ false → removeK k c m .parent q ≡ k .parent q
   up-same q n = rw n refl
 
-  up-left : (q : ℕ) → Left q → Left (k .parent q)
-  up-left q (u, n) = (h .s2-up q u, up-stays q u n)
+  pub parent-remains : (q : ℕ) → Remains k m q → Remains k m (k .parent q)
+  parent-remains q (u, n) = (h .s2-up q u, up-stays q u n)
 
   orphan : (q : ℕ) → removeK k c m .area q 0 ≡ none → removeK k c m .parent q ≡ 0
   orphan q z = go (m q) refl
@@ -255,8 +249,8 @@ module _ {k : K} {c : ℕ} {m : ℕ → Bool} (h : Core k) (ok : Goes k c m) whe
     s2-range = λ q i a u. h .s2-range q i a (area-was q i a u .0);
     s2-absent = λ q i a u. let (v, n) = area-was q i a u in keep q (h .s2-absent q i a v, n);
     s2-parent = orphan;
-    s2-up = λ q u. let v = left q u in rw (up-same q (v .1)) (keep (k .parent q) (up-left q v));
-    s2-climb = λ q u. let v = left q u in reaches-same Left (λ p w. up-same p (w .1)) up-left v (h .s2-climb q (v .0));
+    s2-up = λ q u. let v = left q u in rw (up-same q (v .1)) (keep (k .parent q) (parent-remains q v));
+    s2-climb = λ q u. let v = left q u in reaches-same (Remains k m) (λ p w. up-same p (w .1)) parent-remains v (h .s2-climb q (v .0));
     s4 = λ q i a u. h .s4 q i a (area-was q i a u .0);
     s5 = λ p i a u.
         let o = inv p i a u in
@@ -287,4 +281,4 @@ module _ {k : K} {c : ℕ} {m : ℕ → Bool} (h : Core k) (ok : Goes k c m) whe
 -- .. and with its open bits and regions the table is right again
 pub remove-right : {t : Table} {c : ℕ} {m : ℕ → Bool} → Right t → Goes (t .k) c m → Right (remove t c m)
 remove-right {t} {m = m} h ok =
-    settle-right (remove-core (h .core) ok) (h .stop) (loads-fewer (right-loads h) (λ q r i u. without-some m (t .region) q r u .0))
+    settle-right (remove-core (h .core) ok) (h .stop) (loads-fewer (right-loads h) (λ q r i u. records-was m (t .region) q r u .0))

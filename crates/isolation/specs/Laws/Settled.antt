@@ -7,12 +7,13 @@ use Rattle.tables.specs.State.{Opt, none, some, Entry, Area, K, Table}
 use Rattle.tables.specs.Update.{upd}
 use Rattle.tables.specs.Laws.Update.{upd-from}
 use Rattle.tables.specs.Settle.{openBit, openAt, keep, settle}
+use Rattle.tables.specs.Laws.Kept.{keep-some}
 use Rattle.sound.specs.Laws.Meets.{open-clear}
 use Rattle.sound.specs.Core.{Core}
 use Rattle.rules.specs.Rules.{unloaded}
 use Rattle.rules.specs.Laws.Unloaded.{unloaded-was}
 use Rattle.sound.specs.Whole.{Right}
-use Rattle.sound.specs.Laws.Settled.{keep-some, settled-same as same, right-settled}
+use Rattle.sound.specs.Laws.Settled.{settled-same as same, right-settled}
 
 -- ── regions ──
 -- eight regions, and no slot twice in a partition

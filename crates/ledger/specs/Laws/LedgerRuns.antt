@@ -19,7 +19,7 @@ use Rattle.rules.specs.Rules.{done, bootOn}
 use Rattle.isolation.specs.Whole.{afterAll, from-boot-sound}
 use Rattle.runs.specs.declared.Run.{Run}
 use Rattle.runs.specs.Runs.{deepestAt, runOf, runsOf, nthRun, On, Chain, Longest, RunsListed}
-use Rattle.runs.specs.Laws.RunLaws.{run-within, runs-longest, same-trail}
+use Rattle.runs.specs.Laws.RunLaws.{runs-longest, same-trail, line-within}
 use Rattle.runs.specs.Laws.OneList.{longest-one}
 use Rattle.runs.specs.Laws.Meaning.{Told, RunsRefused, done-told, short-told}
 use Rattle.ledger.specs.Ledger.{Ledger, opening, keptOn}
@@ -89,18 +89,14 @@ module _ {board : Board} {base end : ℕ} {g : Ledger} {t : List ℕ} (h : Sound
     same-holders : SameNames g l m → holdersOf k l ≡ holdersOf k m
     same-holders q = one-list (lists-same (λ p. (λ x. sym (q p) ∙ x, λ x. q p ∙ x)) (lists l (a .0) (a .1))) (lists m (b .0) (b .1))
 
-  -- a line of a record of a chain
-  in-memory : {rs : List Run} → Chain base end rs → (i l : ℕ) → i < length rs → On (nthRun rs i) l → (base ≤ l) × (l < end)
-  in-memory c i l b o = let w = run-within c i b in (omega arith, omega arith)
-
   ledger-runs : LedgerRuns base end g (runsOf k)
   ledger-runs =
       let w = runs-longest k (sound-core t h .s1) in
       let c : Chain base end (runsOf k) = rw (s .base-is, s .end-is) at (w .chain) in
       record {
         chain = c;
-        same = λ i l m b o p. same-names l m (in-memory c i l b o) (in-memory c i m b p) (w .same i l b o ∙ sym (w .same i m b p));
-        differ = λ i l m b o p q. w .differ i l m b o p (same-holders l m (in-memory c i l (omega arith) o) (in-memory c (suc i) m b p) q);
+        same = λ i l m b o p. same-names l m (line-within c i l b o) (line-within c i m b p) (w .same i l b o ∙ sym (w .same i m b p));
+        differ = λ i l m b o p q. w .differ i l m b o p (same-holders l m (line-within c i l (omega arith) o) (line-within c (suc i) m b p) q);
       }
 
   -- the deepest holders written in, the runs of the ledger are the longest runs of the table
@@ -132,12 +128,12 @@ module _ {board : Board} {base end : ℕ} {g : Ledger} {t : List ℕ} (h : Sound
           let q = start-on i c in
           let e = w .same i l (nthRun rs i .start .0) c p q in
           rw (named-at k rs i c)
-          (same-holders l (nthRun rs i .start .0) (in-memory (w .chain) i l c p) (in-memory (w .chain) i (nthRun rs i .start .0) c q) e ∙ same-trail k (nthRun rs i .start .0) _ refl);
+          (same-holders l (nthRun rs i .start .0) (line-within (w .chain) i l c p) (line-within (w .chain) i (nthRun rs i .start .0) c q) e ∙ same-trail k (nthRun rs i .start .0) _ refl);
       differ = λ i l m b o p q.
           let c = low (suc i) b in
           let x = named-on i l (omega arith) o in
           let y = named-on (suc i) m b p in
-          w .differ i l m c x y (same-names l m (in-memory (w .chain) i l (omega arith) x) (in-memory (w .chain) (suc i) m c y) q);
+          w .differ i l m c x y (same-names l m (line-within (w .chain) i l (omega arith) x) (line-within (w .chain) (suc i) m c y) q);
     }
 
     ledger-number : length rs ≡ length (runsOf k)

@@ -1,9 +1,9 @@
 -- What holders lists of a sound table: exactly the holders of the line, root first, each the parent of the next, each once.
 use mathlib.Core.Path.{_≡_, refl, ap, sym, _∙_}
-use mathlib.Core.Bool.{true, cond, false≢true}
+use mathlib.Core.Bool.{cond}
 use mathlib.Core.List.{List, [], _∷_, _++_}
 use mathlib.Core.Logic.{_↔_}
-use Prim.Native.Nat.{ℕ, zero, suc, _+_, _-_, _/_, _≤_, _<_}
+use Prim.Native.Nat.{ℕ, zero, suc, _+_, _-_, _≤_, _<_}
 use native.Mathlib.Decide.{ℕ-discrete}
 use native.Mathlib.Omega.{arith}
 use lib.Dec.{eqb}
@@ -11,14 +11,12 @@ use lib.ListN.{length, length-append, List·getD-append}
 use lib.Seq.{getD-append-seam}
 use borrow.Author.Tests.{eq-eqb, ne-eqb}
 use Rattle.loops.specs.Laws.Climb.{climb-root, climb-suc, Steps, no-step, one-step, steps-one, reaches→steps}
-use Rattle.tables.specs.State.{Opt, none, some, K}
-use Rattle.tables.specs.Search.{lowest, holdsAt}
-use Rattle.tables.specs.Laws.Search.{lowest-some, lowest-none}
+use Rattle.tables.specs.State.{K}
 use Rattle.tables.specs.Lines.{Holds}
-use Rattle.sound.specs.Laws.MeansEntries.{holds-means}
 use Rattle.sound.specs.Core.{Core}
 use Rattle.sound.specs.Laws.Properties.{parent-holds, siblings-one, holder-present}
-use Rattle.sound.specs.Holders.{receiver, givenBy, heir, deepest, trail, holdersOf}
+use Rattle.sound.specs.Holders.{heir, deepest, trail, holdersOf}
+use Rattle.sound.specs.Laws.Found.{heir-is, heir-holds}
 use Rattle.ledger.specs.Lists.{nthName, Lists}
 
 -- the list is a way down from the root, each the parent of the next, m steps to p
@@ -81,38 +79,13 @@ pub record Deepest (k : K) (l p : ℕ) : Type 0 where
   pub keeps : heir k l p ≡ 0
 
 module _ {k : K} (h : Core k) (l : ℕ) where
-  -- only one entry of p holds the line: it says who the heir is
-  heir-is : {p : ℕ} (u : Holds (k .slot) p l) → heir k l p ≡ u .e .given
-  unfolding heir givenBy receiver
-  heir-is {p} u = go (lowest 32 (holdsAt k p l)) refl
-    where
-      at : holdsAt k p l (u .i) ≡ true
-      at = holds-means l (k .slot p (u .i)) .1 (u .e, u .at, u .holds)
-
-      go : (o : Opt ℕ) → lowest 32 (holdsAt k p l) ≡ o → givenBy k p o ≡ u .e .given
-      go none q =
-          let (a, v) = h .s5 p (u .i) (u .e) (u .at) in
-          let (_, b) = h .s2-range p (1 + u .i / 8) a v in
-          absurd (false≢true (sym (lowest-none 32 (holdsAt k p l) q (u .i) (omega arith)) ∙ at))
-      go (some j) q =
-          let (e, v, x) = holds-means l (k .slot p j) .0 (lowest-some 32 (holdsAt k p l) j q .holds) in
-          let z : j ≡ u .i = h .s6 p j (u .i) e (u .e) l v (u .at) x (u .holds) in
-          rw (z, u .at) refl
-
-  -- the heir holds the line, and p is its parent
-  heir-holds : {p : ℕ} → Holds (k .slot) p l → (heir k l p ≡ 0 → ⊥) → Holds (k .slot) (heir k l p) l × (k .parent (heir k l p) ≡ p)
-  heir-holds {p} u n =
-      let q = heir-is u in
-      let m : u .e .given ≡ 0 → ⊥ = λ z. n (q ∙ z) in
-      rw q (h .s7-cover p (u .i) (u .e) l (u .at) m (u .holds), h .s7-given p (u .i) (u .e) (u .at) m .1)
-
   -- nobody holds a line more than 15 steps from the root
   shallow : {m p : ℕ} → Holds (k .slot) p l → Steps (k .parent) m p → m ≤ 15
   shallow {m} {p} u s = let (j, b, t) = reaches→steps (h .s2-climb p (holder-present h u)) in omega (arith, steps-one s t)
 
   -- the heir is one step further from the root
   heir-deeper : {m p : ℕ} → Holds (k .slot) p l → Steps (k .parent) m p → (heir k l p ≡ 0 → ⊥) → Steps (k .parent) (suc m) (heir k l p)
-  heir-deeper {m} u s n = one-step {n = m} n (rw (heir-holds u n .1) s)
+  heir-deeper {m} u s n = one-step {n = m} n (rw (heir-holds h u n .1) s)
 
   -- so the descent from p, m steps from the root, ends at who gave the line to nobody
   descent : (n m p : ℕ) → m + n ≡ 15 → Steps (k .parent) m p → Holds (k .slot) p l → Deepest k l (deepest k l p n)
@@ -121,13 +94,13 @@ module _ {k : K} (h : Core k) (l : ℕ) where
     where
       go : Dec (heir k l p ≡ 0) → Deepest k l p
       go (yes z) = record { holds = u; keeps = z }
-      go (no z) = absurd (omega (arith, shallow (heir-holds u z .0) (heir-deeper u s z)))
+      go (no z) = absurd (omega (arith, shallow (heir-holds h u z .0) (heir-deeper u s z)))
   descent (suc n) m p b s u = go (ℕ-discrete (heir k l p) 0) (descent n (suc m) (heir k l p) (omega arith))
     where
       go : Dec (heir k l p ≡ 0) → (Steps (k .parent) (suc m) (heir k l p) → Holds (k .slot) (heir k l p) l → Deepest k l (deepest k l (heir k l p) n))
           → Deepest k l (cond (eqb (heir k l p) 0) p (deepest k l (heir k l p) n))
       go (yes z) _ = rw (eq-eqb (heir k l p) 0 z) (record { holds = u; keeps = z })
-      go (no z) f = rw (ne-eqb (heir k l p) 0 z) (f (heir-deeper u s z) (heir-holds u z .0))
+      go (no z) f = rw (ne-eqb (heir k l p) 0 z) (f (heir-deeper u s z) (heir-holds h u z .0))
 
   -- all on the way to a holder hold the line
   way-up : {m d : ℕ} {hs : List ℕ} → WayDown (k .parent) m d hs → (i : ℕ) → i < m → Holds (k .slot) (nthName hs (suc i)) l → Holds (k .slot) (nthName hs i) l
@@ -151,7 +124,7 @@ module _ {k : K} (h : Core k) (l : ℕ) where
           let o = h .s7-in p (u .i) (u .e) (u .at) z in
           let r : k .parent p ≡ d = sym q ∙ ap (nthName hs) y ∙ w .last in
           let v : Holds (k .slot) d l = record { i = o .i; e = o .f; at = rw (← r) (o .at); holds = omega arith } in
-          absurd (z (sym (o .given) ∙ sym (heir-is v) ∙ x .keeps))
+          absurd (z (sym (o .given) ∙ sym (heir-is h v) ∙ x .keeps))
       go (b, q) (no y) =
           let r : k .parent (nthName hs (suc a)) ≡ k .parent p = w .next a (omega arith) ∙ q in
           (omega arith, siblings-one h (below-top (w .depth (suc a) (omega arith))) z r (held (suc a) (omega arith)) u)

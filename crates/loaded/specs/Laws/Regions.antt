@@ -3,14 +3,13 @@ use mathlib.Core.Path.{_≡_, refl, ap, ap₂, sym, _∙_}
 use mathlib.Core.Bool.{Bool, true, false, cond, not, _&&_, _||_, or-true, or-false, false≢true, Bool·not-not}
 use mathlib.Core.List.{List}
 use Prim.Native.Nat.{ℕ, zero, suc, _+_, _-_, _^_, _≤_, _<_}
-use native.Mathlib.Decide.{ℕ-discrete}
 use native.Mathlib.Omega.{arith}
 use lib.Bits.{bitOr}
 use lib.Dec.{leb, eqb}
 use borrow.Author.Tests.{not-true, leb-true, le-leb}
-use Rattle.loops.specs.Loops.{sum, carried, all, names}
+use Rattle.loops.specs.Loops.{sum, all, names}
 use Rattle.loops.specs.Laws.Mask.{names-none, names-or, names-one}
-use Rattle.loops.specs.Laws.Count.{Summing, sum-start, sum-on, sum-end, sum-ext}
+use Rattle.loops.specs.Laws.Count.{Summing, sum-start, sum-on, sum-end, sum-ext, sum-at}
 use Rattle.loops.specs.Laws.Every.{all-at, all-of, fail-at, all-ext, all-true, all-zero, all-more}
 use Rattle.words.specs.declared.regions_word.Region.{Region}
 use Rattle.words.specs.declared.regions_word.RegionsFields.{RegionsFields}
@@ -18,6 +17,7 @@ use Rattle.shapes.specs.declared.Board.{Board}
 use Rattle.tables.specs.State.{Table}
 use Rattle.tables.specs.View.{nthRegion, named, view}
 use Rattle.tables.specs.Seen.{SeenRegions}
+use Rattle.tables.specs.Laws.Seen.{see-region}
 use Rattle.sound.specs.Clauses.{when, s10Names, s10Once, s10}
 use Rattle.sound.specs.Limit.{entryPieces, regionPieces, loadedPieces}
 use Rattle.sound.specs.Laws.Limit.{none-loaded}
@@ -57,21 +57,18 @@ regionRight t p r = s10Names t p r && all r (s10Once t p r)
 
 -- region r, which the code read as x
 module _ {l : List ℕ} {p r : ℕ} {f : RegionsFields} {x : Region} (v : SeenRegions l p f) (h : r < 8) (e : x ≡ nthRegion f r) where
-  read : view l .region p r ≡ named x
-  read = v .region r h ∙ ap named (sym e)
-
   region-none : x .loaded ≡ false → true ≡ regionRight (view l) p r
   unfolding regionRight s10Names s10Once when named
-  region-none q = rw (read, q) (sym (all-true r))
+  region-none q = rw (see-region v h e, q) (sym (all-true r))
 
   module _ (q : x .loaded ≡ true) where
     region-closed : isOpen (view l) p (x .slot .0) ≡ false → false ≡ regionRight (view l) p r
     unfolding regionRight s10Names when named isOpen
-    region-closed o = rw (read, q, o) refl
+    region-closed o = rw (see-region v h e, q, o) refl
 
     region-open : isOpen (view l) p (x .slot .0) ≡ true → others f r (x .slot .0) ≡ regionRight (view l) p r
     unfolding regionRight s10Names s10Once when named isOpen other others
-    region-open o = rw (read, q, o) (all-ext r _ _ (λ j b. ap (when (λ i. not (eqb (x .slot .0) i))) (sym (v .region j (omega arith)))))
+    region-open o = rw (see-region v h e, q, o) (all-ext r _ _ (λ j b. ap (when (λ i. not (eqb (x .slot .0) i))) (sym (v .region j (omega arith)))))
 
 -- what it weighs then
 unfoldable pub weightAt : Board → Table → ℕ → ℕ → ℕ
@@ -109,22 +106,13 @@ module _ (b : Board) {l : List ℕ} {p r : ℕ} {f : RegionsFields} {x : Region}
 
       loaded : x .loaded ≡ true → (o : Bool) → isOpen (view l) p (x .slot .0) ≡ o → weight b (view l) p m x ≡ weightAt b (view l) p r
       loaded q false o = rw (q, o, ← (region-closed v h e q o)) refl
-      loaded q true o = rw (q, o, marks (x .slot .0), ← (region-open v h e q o), read v h e) (both (others f r (x .slot .0)) (region-counted b _ x q refl))
+      loaded q true o = rw (q, o, marks (x .slot .0), ← (region-open v h e q o), see-region v h e) (both (others f r (x .slot .0)) (region-counted b _ x q refl))
 
       go : (y : Bool) → x .loaded ≡ y → weight b (view l) p m x ≡ weightAt b (view l) p r
       go true q = loaded q (isOpen (view l) p (x .slot .0)) refl
-      go false q = rw (q, ← (region-none v h e q), read v h e) (region-empty b _ x q)
+      go false q = rw (q, ← (region-none v h e q), see-region v h e) (region-empty b _ x q)
 
 -- ── all of them ──
-sum-has : (n k : ℕ) (f : ℕ → ℕ) → k < n → f k ≤ sum n f
-unfolding sum carried
-sum-has zero k f h = absurd (omega arith)
-sum-has (suc n) k f h = go (ℕ-discrete k n) (sum-has n k f)
-  where
-    go : Dec (k ≡ n) → (k < n → f k ≤ sum n f) → f k ≤ sum (suc n) f
-    go (yes z) on = omega (arith, ap f z)
-    go (no z) on = omega (arith, on (omega arith))
-
 s10-each : (board : Board) (t : Table) (p : ℕ) → all 8 (regionRight t p) && leb (loadedPieces board (t .k .slot) (t .region) p) 8 ≡ s10 board t p
 unfolding s10 regionRight
 s10-each board t p = ap (λ (x : Bool). x && leb (loadedPieces board (t .k .slot) (t .region) p) 8) (all-and 8 (s10Names t p) (λ r. all r (s10Once t p r)))
@@ -141,7 +129,7 @@ s10-weighed b t p = go (all 8 (regionRight t p)) refl
     go false q =
         let (k, h, w) = fail-at 8 (regionRight t p) q in
         let nine : weightAt b t p k ≡ 9 = rw w refl in
-        sym (never (leb (sum 8 (weightAt b t p)) 8) (λ u. omega (arith, leb-true (sum 8 (weightAt b t p)) 8 u, sum-has 8 k (weightAt b t p) h))) ∙ rw (← (s10-each b t p), q) refl
+        sym (never (leb (sum 8 (weightAt b t p)) 8) (λ u. omega (arith, leb-true (sum 8 (weightAt b t p)) 8 u, sum-at 8 (weightAt b t p) k h))) ∙ rw (← (s10-each b t p), q) refl
 
 -- the loop: n is what the regions before r weigh, and the mask has the slots that they name
 pub record Weighing (b : Board) (t : Table) (p : ℕ) (f : RegionsFields) (m n r : ℕ) : Type 0 where

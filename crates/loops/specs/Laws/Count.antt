@@ -101,6 +101,16 @@ unfolding sum carried
 sum-fewer zero f g h = omega arith
 sum-fewer (suc n) f g h = omega (arith, sum-fewer n f g (λ k b. h k (omega arith)), h n (omega arith))
 
+-- a sum is no less than one of its numbers
+pub sum-at : (n : ℕ) (f : ℕ → ℕ) (x : ℕ) → x < n → f x ≤ sum n f
+unfolding sum carried
+sum-at zero f x b = omega arith
+sum-at (suc n) f x b = go (ℕ-discrete x n) (sum-at n f x)
+  where
+    go : Dec (x ≡ n) → (x < n → f x ≤ sum n f) → f x ≤ sum (suc n) f
+    go (yes q) h = rw q (omega arith)
+    go (no q) h = omega (arith, h (omega (arith, q)))
+
 -- of fewer numbers
 pub count-fewer : (n : ℕ) (f g : ℕ → Bool) → ((k : ℕ) → f k ≡ true → g k ≡ true) → count n f ≤ count n g
 count-fewer n f g h = sum-fewer n _ _ (λ k b. bits (f k) (g k) (h k))

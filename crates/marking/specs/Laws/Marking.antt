@@ -17,7 +17,7 @@ use Rattle.words.specs.declared.header_word.HeaderFields.{HeaderFields}
 use Rattle.words.specs.declared.structure_word.StructureFields.{StructureFields}
 use Rattle.tables.specs.View.{headerArea, structureArea, view}
 use Rattle.tables.specs.Seen.{SeenHeader, SeenStructure}
-use Rattle.tables.specs.Laws.View.{slot-bounds, area-bounds}
+use Rattle.tables.specs.Laws.View.{slot-bounds}
 use Rattle.tables.specs.Laws.Spelling.{zero-areas}
 use Rattle.tables.specs.Laws.ZeroWord.{no-area}
 use Rattle.tables.specs.Laws.ZeroRecord.{zero-record-means}
@@ -28,6 +28,7 @@ use Rattle.tables.specs.Laws.Top.{top-area}
 use Rattle.loops.specs.Laws.Scan.{Sought, seek-law}
 use Rattle.sound.specs.Sound.{Rooted, Equals}
 use Rattle.sound.specs.Clauses.{has, rooted}
+use Rattle.sound.specs.Laws.Core.{apart-both}
 use Rattle.sound.specs.Laws.Tests.{and-says, and-true}
 use Rattle.sound.specs.Laws.MeansAreas.{rooted-means}
 use Rattle.sound.specs.Laws.Local.{EqualAt, MarkedOnce}
@@ -55,14 +56,6 @@ backs-says k q i a w = go (k .slot q i) refl w
 -- the number of an area tells it
 number-one : {p j q i : ℕ} → j < 5 → i < 5 → 5 * p + j ≡ 5 * q + i → (p ≡ q) × (j ≡ i)
 number-one h g z = (omega arith, omega arith)
-
--- S8 says it of two owners in order
-apart-both : (l : List ℕ) → EachS8 (view l .k) → (p j q i : ℕ) (a b : Area) (n : ℕ) → view l .k .area p j ≡ some a → view l .k .area q i ≡ some b → InA n a → InA n b → (p ≡ q) × (j ≡ i)
-apart-both l s p j q i a b n u v x y = go (decLt q p)
-  where
-    go : Dec (q < p) → (p ≡ q) × (j ≡ i)
-    go (yes z) = let (c, d) = s q (area-bounds l q i b v .0) .apart i p j b a n (omega arith) v u y x in (sym c, sym d)
-    go (no z) = s p (area-bounds l p j a u .0) .apart j q i a b n (omega arith) u v x y
 
 module _ {k : K} where
   mark-start : {m : List ℕ} → length m ≡ 16 → ((x : ℕ) → slotMarked m x ≡ false) → MarkedTo k 0 m

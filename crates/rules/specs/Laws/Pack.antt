@@ -14,7 +14,7 @@ use Rattle.tables.specs.Laws.State.{some-inj, not-none}
 use Rattle.tables.specs.Update.{upd1}
 use Rattle.tables.specs.Laws.Update.{upd1-same, upd1-other, upd1-from}
 use Rattle.tables.specs.Search.{lowest, Lowest, isSome, isNone}
-use Rattle.tables.specs.Laws.Search.{lowest-some, lowest-none}
+use Rattle.tables.specs.Laws.Search.{lowest-some, lowest-none, none-is}
 use Rattle.tables.specs.Lines.{In}
 use Rattle.tables.specs.Settle.{openBit, openAt}
 use Rattle.sound.specs.Laws.Tests.{and-says}
@@ -57,10 +57,6 @@ now-one (there _ x) (there _ y) = x ∙ sym y
 now-one (there n _) (moved y _) = absurd (n y)
 now-one (moved y _) (there n _) = absurd (n y)
 now-one (moved _ x) (moved _ y) = x ∙ sym y
-
-none-is : {A : Type 0} (o : Opt A) → isNone o ≡ true → o ≡ none
-none-is none h = refl
-none-is (some a) h = absurd (false≢true h)
 
 module _ {can : ℕ → Bool} {slot : ℕ → Opt Entry} {i j : ℕ} {e : Entry} (h : Moves can slot i j e) where
   pub to-usable : can j ≡ true

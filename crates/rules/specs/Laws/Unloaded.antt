@@ -6,7 +6,7 @@ use native.Mathlib.Decide.{ℕ-discrete}
 use borrow.Author.Tests.{not-true}
 use Rattle.tables.specs.State.{Opt, some}
 use Rattle.tables.specs.Laws.Update.{row-same, row-other}
-use Rattle.sound.specs.Laws.Settled.{keep-some}
+use Rattle.tables.specs.Laws.Kept.{keep-some}
 use Rattle.rules.specs.Rules.{unloaded}
 
 pub unloaded-was : (region : ℕ → ℕ → Opt ℕ) (c : ℕ) (m : ℕ → Bool) (q r i : ℕ) → unloaded region c m q r ≡ some i → (region q r ≡ some i) × (q ≡ c → m i ≡ false)

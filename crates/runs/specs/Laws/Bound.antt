@@ -17,7 +17,7 @@ use Rattle.sound.specs.Holders.{heir, deepest}
 use Rattle.runs.specs.declared.Run.{Run}
 use Rattle.runs.specs.Runs.{deepestAt, runsOf, nthRun}
 use Rattle.runs.specs.Laws.RunLaws.{run-within, Runs, runs-to}
-use Rattle.runs.specs.Laws.Pieces.{in-table, heir-is, heir-holds}
+use Rattle.sound.specs.Laws.Found.{in-table, heir-is, heir-holds}
 
 -- an entry starts at line l
 pub record Starts (k : K) (l : ℕ) : Type 0 where
@@ -57,7 +57,7 @@ module _ {k : K} (h : Core k) where
           → ((q m : ℕ) → Holds (k .slot) q m → Holds (k .slot) q (m + 1) → (deepest k m q n ≡ deepest k (m + 1) q n → ⊥) → Starts k (m + 1)) → Starts k (l + 1)
       on x (yes z) f = absurd (d (rw (← x, eq-eqb (heir k l p) 0 z) refl))
       on x (no z) f =
-          f (heir k l p) l (heir-holds h u z) (rw (← x) at (heir-holds h v (λ y. z (x ∙ y))))
+          f (heir k l p) l (heir-holds h u z .0) (rw (← x) at (heir-holds h v (λ y. z (x ∙ y)) .0))
           (λ y. d (rw (← x, ne-eqb (heir k l p) 0 z) y))
 
       go : Dec (u .i ≡ v .i)

@@ -1,23 +1,24 @@
 -- All lines of a piece have the same deepest holder, and a piece has a line and ends within the memory; and the exits of the descent that finds it.
 use mathlib.Core.Path.{_≡_, refl, ap, sym, _∙_}
 use mathlib.Core.List.{List}
-use mathlib.Core.Bool.{Bool, true, false, cond, false≢true}
-use Prim.Native.Nat.{ℕ, zero, suc, _+_, _-_, _/_, _^_, _≤_, _<_, min}
+use mathlib.Core.Bool.{Bool, true, false, cond}
+use Prim.Native.Nat.{ℕ, zero, suc, _-_, _^_, _≤_, _<_, min}
 use native.Mathlib.Decide.{ℕ-discrete}
 use native.Mathlib.Omega.{arith}
 use lib.Dec.{eqb}
 use borrow.Author.Tests.{eq-eqb, ne-eqb}
 use Rattle.words.specs.declared.slot_word.SlotFields.{SlotFields}
-use Rattle.tables.specs.State.{Opt, none, some, Entry, K}
+use Rattle.tables.specs.State.{Opt, none, some, K}
 use Rattle.tables.specs.View.{entryOf, view}
 use Rattle.tables.specs.Laws.Seen.{see-first}
-use Rattle.tables.specs.Lines.{In, Holds}
+use Rattle.tables.specs.Lines.{Holds}
 use Rattle.tables.specs.Search.{lowest, holdsAt}
-use Rattle.tables.specs.Laws.Search.{lowest-some, lowest-none}
+use Rattle.tables.specs.Laws.Search.{lowest-some}
 use Rattle.sound.specs.Core.{Core}
 use Rattle.sound.specs.Laws.MeansEntries.{holds-means}
 use Rattle.sound.specs.Holders.{receiver, givenBy, heir, deepest}
 use Rattle.sound.specs.Laws.Holders.{deepest-here, deepest-last, deepest-down}
+use Rattle.sound.specs.Laws.Found.{in-table, line-found, heir-holds}
 use Rattle.runs.specs.declared.pieces.Hop.{Hop}
 use Rattle.runs.specs.Runs.{deepestAt}
 use Rattle.runs.specs.Pieces.{endOf, endBy, endAt, nearest, pieceEnd, Hopped, Descent}
@@ -57,22 +58,6 @@ module _ (k : K) (l : ℕ) where
 
 -- ── the lines of a piece ──
 module _ {k : K} (h : Core k) where
-  pub in-table : (p i : ℕ) (e : Entry) → k .slot p i ≡ some e → (p < 16) × (i < 32)
-  in-table p i e u =
-      let (a, v) = h .s5 p i e u in
-      let r = h .s2-range p (1 + i / 8) a v in
-      (r .0, omega (arith, r .1))
-
-  -- the slot that holds line m is found: no other does
-  pub found : (p i m : ℕ) (e : Entry) → i < 32 → k .slot p i ≡ some e → In m e → lowest 32 (holdsAt k p m) ≡ some i
-  found p i m e b x y = go (lowest 32 (holdsAt k p m)) refl
-    where
-      go : (o : Opt ℕ) → lowest 32 (holdsAt k p m) ≡ o → o ≡ some i
-      go none r = absurd (false≢true (sym (lowest-none 32 (holdsAt k p m) r i b) ∙ holds-means m (k .slot p i) .1 (e, x, y)))
-      go (some j) r =
-          let (f, s, t) = holds-means m (k .slot p j) .0 (lowest-some 32 (holdsAt k p m) j r .holds) in
-          ap some (h .s6 p j i f e m s x t y)
-
   -- p's slot that holds l holds every line m up to its end
   same-slot : (p l m : ℕ) → l ≤ m → m < endAt k l p → lowest 32 (holdsAt k p m) ≡ lowest 32 (holdsAt k p l)
   unfolding endAt endBy endOf
@@ -84,7 +69,7 @@ module _ {k : K} (h : Core k) where
           let f = lowest-some 32 (holdsAt k p l) i q in
           let (e, x, y) = holds-means l (k .slot p i) .0 (f .holds) in
           let z : m < e .stop = rw x at w in
-          found p i m e (f .below) x (record { from = omega (arith, y .from); to = z })
+          line-found h p i m e x (record { from = omega (arith, y .from); to = z })
 
   -- .. and ends where it ends
   pub same-end : (p l m : ℕ) → l ≤ m → m < endAt k l p → endAt k m p ≡ endAt k l p
@@ -117,14 +102,6 @@ module _ {k : K} (h : Core k) where
           let x = nearest-le k l n (heir k l p) (min b (endAt k l p)) in
           rw (same-heir p l m u (omega arith), ne-eqb (heir k l p) 0 z) (f w)
 
-  -- what p gave, the heir holds
-  pub heir-is : {p l : ℕ} (u : Holds (k .slot) p l) → heir k l p ≡ u .e .given
-  unfolding heir givenBy receiver
-  heir-is {p} {l} u = rw (found p (u .i) l (u .e) (in-table p (u .i) (u .e) (u .at) .1) (u .at) (u .holds), u .at) refl
-
-  pub heir-holds : {p l : ℕ} (u : Holds (k .slot) p l) → (heir k l p ≡ 0 → ⊥) → Holds (k .slot) (heir k l p) l
-  heir-holds {p} {l} u n = rw (heir-is u) (h .s7-cover p (u .i) (u .e) l (u .at) (λ z. n (heir-is u ∙ z)) (u .holds))
-
 module _ {k : K} (h : Core k) (l : ℕ) where
   pub piece-same : (m : ℕ) → l ≤ m → m < pieceEnd k l → deepestAt k m ≡ deepestAt k l
   piece-same m u v = same-deepest h 15 0 (k .stop) l m u v
@@ -154,7 +131,7 @@ deepest-small {k} {l} h u v = go 15 0 (h .s7-root l .1 (u, v))
       where
         on : Dec (heir k l p ≡ 0) → (Holds (k .slot) (heir k l p) l → deepest k l (heir k l p) n < 16) → cond (eqb (heir k l p) 0) p (deepest k l (heir k l p) n) < 16
         on (yes z) f = rw (eq-eqb (heir k l p) 0 z) (holder-small h w)
-        on (no z) f = rw (ne-eqb (heir k l p) 0 z) (f (heir-holds h w z))
+        on (no z) f = rw (ne-eqb (heir k l p) 0 z) (f (heir-holds h w z .0))
 
 -- two results are equal
 pub hopped-one : {k : K} {l p : ℕ} {r s : Hop} → Hopped k l p r → Hopped k l p s → r ≡ s
@@ -201,7 +178,7 @@ module _ {k : K} {l p b n : ℕ} (inv : Descent k l p b n) where
 
   pub descent-down : Core k → (heir k l p ≡ 0 → ⊥) → 0 < n → Descent k l (heir k l p) (min b (endAt k l p)) (n - 1)
   descent-down c z h = record {
-    holds = heir-holds c (inv .holds) z;
+    holds = heir-holds c (inv .holds) z .0;
     low = omega (arith, inv .low);
     comes = deepest-down k l p n (λ v. omega arith) z ∙ inv .comes;
     ends = sym (nearest-down z h) ∙ inv .ends;

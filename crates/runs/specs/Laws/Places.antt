@@ -15,9 +15,10 @@ use Rattle.tables.specs.Lines.{Holds}
 use Rattle.tables.specs.Search.{present}
 use Rattle.settling.specs.Rising.{lowOf, highOf}
 use Rattle.sound.specs.Core.{Core}
+use Rattle.sound.specs.Laws.Found.{in-table, line-found}
 use Rattle.ordering.specs.Order.{linesOf, linesAt, placed, Rows}
 use Rattle.ordering.specs.Laws.Order.{lines-of}
-use Rattle.runs.specs.Laws.Pieces.{in-table, found, hop-found}
+use Rattle.runs.specs.Laws.Pieces.{hop-found}
 use Rattle.runs.specs.Pieces.{Hopped}
 use Rattle.runs.specs.Places.{AllInOrder, EndsBy, Passed}
 
@@ -119,7 +120,7 @@ module _ {k : K} {o : List ℕ} (h : Core k) (w : AllInOrder k o) {p l : ℕ} (u
 
     -- it does not: then it holds the line, for it starts no later than the one that does
     pub pass-here : l < f .end .0 → f .given .0 < 16 → Hopped k l p (record { heir = f .given; end = f .end })
-    pass-here b g = hop-found k l p (placed o p a) f (found h p (placed o p a) l (entryOf f) (pass-in inv .2) is (record { from = start; to = b })) is g
+    pass-here b g = hop-found k l p (placed o p a) f (line-found h p (placed o p a) l (entryOf f) is (record { from = start; to = b })) is g
       where
         start : f .start .0 ≤ l
         start = let q = ahead inv in go q (decLt a (q .b))

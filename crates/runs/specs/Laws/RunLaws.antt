@@ -86,6 +86,10 @@ run-within {l} {m} {rs} c i b = (up i b, down (length rs - 1 - i) i (omega arith
     down zero i e b = let z : i ≡ length rs - 1 = omega arith in rw z (omega (arith, c .to))
     down (suc n) i e b = omega (arith, down n (suc i) (omega arith) (omega arith), c .next i (omega arith), c .long (suc i) (omega arith))
 
+-- so does each of its lines
+pub line-within : {l m : ℕ} {rs : List Run} → Chain l m rs → (i n : ℕ) → i < length rs → On (nthRun rs i) n → (l ≤ n) × (n < m)
+line-within c i n b o = let w = run-within c i b in (omega arith, omega arith)
+
 -- ── runs, by the deepest holder ──
 -- the runs of the lines l to m: what `Longest` says, of the deepest holder alone
 pub record Runs (k : K) (l m : ℕ) (rs : List Run) : Type 0 where

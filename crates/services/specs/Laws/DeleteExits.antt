@@ -18,6 +18,7 @@ use Rattle.tables.specs.Encode.{encode, Canon, Is}
 use Rattle.tables.specs.Laws.Encode.{canon-is}
 use Rattle.tables.specs.Laws.Back.{Fit}
 use Rattle.tables.specs.Seen.{Seen}
+use Rattle.tables.specs.Laws.Seen.{entry-none, entry-there}
 use Rattle.tables.specs.Write.{withSlot, putSlot, clearRecord}
 use Rattle.writing.specs.Laws.Stored.{is-then}
 use Rattle.tables.specs.Search.{child, hasChild}
@@ -29,7 +30,6 @@ use Rattle.services.specs.Zeroed.{zeroRecords}
 use Rattle.services.specs.Laws.Zeroed.{zero-one}
 use Rattle.rules.specs.Ran.{Ran}
 use Rattle.rules.specs.Laws.Ran.{ran-refused, ran-done, pass, fail}
-use Rattle.blocks.specs.Laws.RegionExits.{entry-none, entry-there}
 use Rattle.blocks.specs.Laws.GiveExits.{child-now}
 use Rattle.services.specs.DeleteExits.{ungiveAt, ungiven}
 

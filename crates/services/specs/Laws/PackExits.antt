@@ -23,6 +23,7 @@ use Rattle.tables.specs.Encode.{Canon, Is}
 use Rattle.tables.specs.Laws.Encode.{canon-is, is-canon}
 use Rattle.tables.specs.Laws.Back.{Fit}
 use Rattle.tables.specs.Seen.{Seen, SeenRegions}
+use Rattle.tables.specs.Laws.Seen.{entry-none, entry-there}
 use Rattle.tables.specs.Write.{withSlot, putRegion}
 use Rattle.tables.specs.Search.{lowest, isSome, free}
 use Rattle.tables.specs.Laws.Search.{lowest-some, lowest-none}
@@ -35,7 +36,7 @@ use Rattle.rules.specs.Laws.Pack.{packed-few, packed-open}
 use Rattle.rules.specs.Rules.{ownOrChild, pack}
 use Rattle.rules.specs.Ran.{Ran}
 use Rattle.rules.specs.Laws.Ran.{ran-done, pass}
-use Rattle.blocks.specs.Laws.RegionExits.{region-none, region-some, entry-none, entry-there}
+use Rattle.services.specs.Laws.RegionExits.{region-none, region-some}
 use Rattle.services.specs.PackExits.{renameAt, renamed, movedTo, packTable, CanPack, Turned}
 
 -- ── one region ──

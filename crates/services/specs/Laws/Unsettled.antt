@@ -1,6 +1,6 @@
 -- What is left to settle of a right table after each change of areas that a service makes.
 use mathlib.Core.Path.{_≡_, refl, ap, sym, subst, _∙_}
-use mathlib.Core.Bool.{Bool, true, false, cond, not, _&&_, and-false, false≢true}
+use mathlib.Core.Bool.{Bool, true, false, cond, not, _&&_, and-false}
 use mathlib.Core.List.{List}
 use mathlib.Core.Logic.{⊎-elim}
 use Prim.Native.Nat.{ℕ, _+_, _*_, _/_, _%_, _≤_, _<_}
@@ -13,12 +13,12 @@ use Rattle.words.specs.declared.Line.{Line}
 use Rattle.tables.specs.State.{Opt, none, some, Entry, Area, Table, givenTo}
 use Rattle.tables.specs.Laws.State.{not-none, some-inj, sameA}
 use Rattle.tables.specs.Update.{both?, upd, upd1}
-use Rattle.tables.specs.Laws.Update.{upd-same, upd-other, upd-from, row-same, row-other}
+use Rattle.tables.specs.Laws.Update.{upd-same, upd-other, upd-from, row-same, row-other, upd-none}
 use Rattle.tables.specs.View.{view}
 use Rattle.tables.specs.Encode.{Is}
 use Rattle.tables.specs.Write.{withArea, putHeader, putStructure, clearRecord}
 use Rattle.tables.specs.Search.{isSome, isNone, lowest, absent, absentChild, noStructure}
-use Rattle.tables.specs.Laws.Search.{lowest-some}
+use Rattle.tables.specs.Laws.Search.{lowest-some, none-is}
 use Rattle.tables.specs.Settle.{meets, clear, openBit, openAt}
 use Rattle.writing.specs.Stored.{span}
 use Rattle.settling.specs.Areas.{off}
@@ -29,6 +29,7 @@ use Rattle.sound.specs.Laws.Tests.{and-says}
 use Rattle.sound.specs.Laws.Meets.{meets-not, clear-means}
 use Rattle.sound.specs.Laws.Settled.{entry-clear, right-settled}
 use Rattle.rules.specs.Rules.{ungive, vacant}
+use Rattle.rules.specs.Laws.Removed.{records-was}
 use Rattle.services.specs.DeleteExits.{ungiven}
 use Rattle.services.specs.ClearExits.{branchOf, Cleared}
 use Rattle.services.specs.Zeroed.{zeroRecords}
@@ -98,24 +99,20 @@ module _ {t : Table} (h : Right t) (n j : ℕ) (x : Area) (hn : n < 16) (hj : j 
           clear-more (t .k .area) n j x hn hj free (e .start) (e .stop) hx (h .core .s5-range p i e u)
           ∙ ap (λ (b : Bool). b && off (x .lo) (x .hi) (e .start) (e .stop)) (entry-clear (right-settled h) u)
 
-nobody : {A : Type 0} (o : Opt A) → isNone o ≡ true → o ≡ none
-nobody none q = refl
-nobody (some a) q = absurd (false≢true q)
-
 module _ (l : List ℕ) {m : List ℕ} {a b : Line} (h : Right (view l)) (long : a .0 + 16 ≤ b .0) where
   pub came-header : {n : ℕ} (c : ℕ) → lowest 16 (absentChild (view l .k)) ≡ some n → Is m (putHeader (view l) n c (some (span a b))) → Came (a .0) (b .0) (view m)
   unfolding absentChild absent
   came-header {n} c q is =
       let z = lowest-some 16 (absentChild (view l .k)) n q in
       subst (Came (a .0) (b .0)) (sym (is .viewed))
-      (came h n 0 (span a b) (z .below) (omega arith) (nobody _ (and-says (not (eqb n 0)) (isNone (view l .k .area n 0)) (z .holds) .1)) (omega arith) (upd1 (view l .k .parent) n c))
+      (came h n 0 (span a b) (z .below) (omega arith) (none-is _ (and-says (not (eqb n 0)) (isNone (view l .k .area n 0)) (z .holds) .1)) (omega arith) (upd1 (view l .k .parent) n c))
 
   pub came-structure : {p j : ℕ} → p < 16 → lowest 4 (noStructure (view l .k) p) ≡ some j → Is m (putStructure (view l) p j (some (span a b))) → Came (a .0) (b .0) (view m)
   unfolding noStructure
   came-structure {p} {j} hp q is =
       let z = lowest-some 4 (noStructure (view l .k) p) j q in
       subst (Came (a .0) (b .0)) (sym (is .viewed))
-      (came h p (1 + j) (span a b) hp (omega (arith, z .below)) (nobody _ (z .holds)) (omega arith) (view l .k .parent))
+      (came h p (1 + j) (span a b) hp (omega (arith, z .below)) (none-is _ (z .holds)) (omega arith) (view l .k .parent))
 
 -- ── areas that go ──
 pub right-gone : {t : Table} → Right t → Gone t
@@ -139,12 +136,12 @@ module _ {t : Table} (h : Gone t) where
       new = upd (t .k .area) n (1 + j) none
 
       old : (p i : ℕ) (x : Area) → new p i ≡ some x → t .k .area p i ≡ some x
-      old p i x u = ⊎-elim (λ s. not-none none refl (s .2)) (λ s. s .1) (upd-from (t .k .area) n (1 + j) none p i u)
+      old p i x u = upd-none (t .k .area) n (1 + j) p i u
 
       house : (p i : ℕ) (e : Entry) (a : Area) → t .k .slot p i ≡ some e → t .k .area p (1 + i / 8) ≡ some a → Dec ((p ≡ n) × (1 + i / 8 ≡ 1 + j)) → (a : Area) × (new p (1 + i / 8) ≡ some a)
       house p i e a u w (yes z) =
           let s : 8 * j + i % 8 ≡ i = omega (arith, z .1) in
-          not-none {a = e} (t .k .slot n i) (rw s at (nobody (t .k .slot n (8 * j + i % 8)) (all-at 8 (λ i. not (isSome (t .k .slot n (8 * j + i)))) empty (i % 8) (omega arith)))) (rw (← (z .0)) u)
+          not-none {a = e} (t .k .slot n i) (rw s at (none-is (t .k .slot n (8 * j + i % 8)) (all-at 8 (λ i. not (isSome (t .k .slot n (8 * j + i)))) empty (i % 8) (omega arith)))) (rw (← (z .0)) u)
       house p i e a u w (no z) = (a, upd-other (t .k .area) n (1 + j) none p (1 + i / 8) z ∙ w)
 
   -- what c gave to p is given to nobody
@@ -188,11 +185,7 @@ module _ {t : Table} (h : Gone t) where
       new p = cond (m p) (λ j. none) (t .k .area p)
 
       old : (p j : ℕ) (x : Area) → new p j ≡ some x → t .k .area p j ≡ some x
-      old p j x = go (m p)
-        where
-          go : (b : Bool) → cond b (λ j. none) (t .k .area p) j ≡ some x → t .k .area p j ≡ some x
-          go true u = not-none none refl u
-          go false u = u
+      old p j x u = records-was m (t .k .area) p j u .0
 
       house : (p i : ℕ) (e : Entry) (b : Bool) → cond b (λ i. none) (t .k .slot p) i ≡ some e → (a : Area) × (cond b (λ j. none) (t .k .area p) (1 + i / 8) ≡ some a)
       house p i e true u = not-none none refl u

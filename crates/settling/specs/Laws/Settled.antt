@@ -16,7 +16,7 @@ use Rattle.tables.specs.State.{Opt, none, some, K, Table}
 use Rattle.tables.specs.Laws.State.{some-inj, not-none, none-of, same as same-entry}
 use Rattle.tables.specs.Update.{both?, upd, upd1}
 use Rattle.tables.specs.Laws.Update.{upd-same, upd-other, upd1-same, upd1-other, row-same, row-other, upd1-keep, upd-keep}
-use Rattle.tables.specs.View.{slotPlace, entryOf, entryIn, structureArea, view}
+use Rattle.tables.specs.View.{slotPlace, entryOf, structureArea, view}
 use Rattle.tables.specs.Encode.{slotFor, slotWord, encode, Canon, Is}
 use Rattle.tables.specs.Laws.Encode.{is-one, is-canon, canon-is}
 use Rattle.tables.specs.Laws.Back.{Fit, view-encode}
@@ -24,11 +24,12 @@ use Rattle.tables.specs.Laws.FitView.{fit-view}
 use Rattle.tables.specs.Write.{withSlot, putSlot}
 use Rattle.tables.specs.Laws.Writes.{is-fit, FitEntry, slot-put}
 use Rattle.tables.specs.Seen.{Seen, SeenStructure}
+use Rattle.tables.specs.Laws.Seen.{entry-there, entry-none}
 use Rattle.tables.specs.Store.{stored}
 use Rattle.tables.specs.Laws.Store.{store-word}
 use Rattle.tables.specs.Settle.{openBit, openAt, keep, settle, settled}
 use Rattle.tables.specs.Kept.{keepRegions}
-use Rattle.tables.specs.Laws.Kept.{kept-some}
+use Rattle.tables.specs.Laws.Kept.{keep-same, keep-some}
 use Rattle.settling.specs.Areas.{AreasOf, off, clearOf}
 use Rattle.settling.specs.Laws.Areas.{clear-quick}
 use Rattle.settling.specs.Settled.{Housed, RegionsNamed, UsedEnd, offEntry, Came, Gone, settleSlot, settleRecord, Fixed, Nearer, SlotDone, RecordDone}
@@ -83,20 +84,6 @@ ends-empty {k} {p} h x i a b = none-of (k .slot p i) (λ e u.
     let (y, v) = h .at p i e u in not-none (k .area p (1 + i / 8)) (x .gone (i / 8) (omega (arith, x .is)) (omega arith)) v)
 
 -- ── what is kept of a region ──
-keep-open : (o : ℕ → Bool) (x : Opt ℕ) (i : ℕ) → keep o x ≡ some i → o i ≡ true
-unfolding keep
-keep-open o none i q = not-none none refl q
-keep-open o (some j) i q = go (o j) refl q
-  where
-    go : (b : Bool) → o j ≡ b → cond b (some j) none ≡ some i → o i ≡ true
-    go true u v = rw (← (some-inj v)) u
-    go false u v = not-none none refl v
-
-keep-same : (o : ℕ → Bool) (x : Opt ℕ) → ((i : ℕ) → x ≡ some i → o i ≡ true) → keep o x ≡ x
-unfolding keep
-keep-same o none f = refl
-keep-same o (some i) f = rw (f i refl) refl
-
 -- what is dropped first is dropped in any case
 keep-twice : (o n : ℕ → Bool) (x : Opt ℕ) → ((i : ℕ) → x ≡ some i → o i ≡ true → n i ≡ true) → keep o (keep n x) ≡ keep o x
 unfolding keep
@@ -119,16 +106,11 @@ withOpened f o = record { present = f .present; opened = o; rights = f .rights; 
 module _ {l : List ℕ} {p i : ℕ} {f : SlotFields} (c : Canon l) (v : Seen l p i f) where
   -- an open bit is that of an entry
   open-present : f .opened ≡ true → f .present ≡ true
-  unfolding entryIn
   open-present q = go (f .present) refl
     where
       go : (b : Bool) → f .present ≡ b → b ≡ true
       go true u = refl
-      go false u = sym (fit-view c .closed p i (v .slot ∙ rw u refl)) ∙ v .opened ∙ q
-
-  entry-at : f .present ≡ true → view l .k .slot p i ≡ some (entryOf f)
-  unfolding entryIn
-  entry-at h = v .slot ∙ rw h refl
+      go false u = sym (fit-view c .closed p i (entry-none v u)) ∙ v .opened ∙ q
 
   -- a present slot is written with its new open bit
   bit-put : (o : Bool) {w : Written} → p < 16 → i < 32 → f .present ≡ true → w ≡ writing slot (withOpened f o) → Is (stored l (slotPlace p i) w) (bitTo (view l) p i o)
@@ -148,7 +130,7 @@ module _ {l : List ℕ} {p i : ℕ} {f : SlotFields} (c : Canon l) (v : Seen l p
       fits = record { range = λ e z. let s = same-entry (some-inj z) in (omega (arith, v .given-small, s .given), omega (arith, v .start-small, s .start), omega (arith, v .end-small, s .stop)); closed = λ z. not-none none refl (sym z) }
 
       same-table : putSlot (view l) p i (some (entryOf f)) o ≡ bitTo (view l) p i o
-      same-table = λ x. record { k = withSlot (view l .k) ((ap (upd (view l .k .slot) p i) (sym (entry-at h)) ∙ upd-keep (view l .k .slot) p i) x); opened = upd (view l .opened) p i o; region = view l .region }
+      same-table = λ x. record { k = withSlot (view l .k) ((ap (upd (view l .k .slot) p i) (sym (entry-there v h)) ∙ upd-keep (view l .k .slot) p i) x); opened = upd (view l .opened) p i o; region = view l .region }
 
 -- ── a slot is settled ──
 -- what is not there is fixed
@@ -180,7 +162,7 @@ module _ (t : Table) (p i : ℕ) where
     slot-named = record { at = λ q r j u. name q r j u (ℕ-discrete q p) }
       where
         name : (q r j : ℕ) → upd1 (t .region) p regionsThen q r ≡ some j → Dec (q ≡ p) → bitsThen q j ≡ true
-        name q r j u (yes z) = rw z (keep-open (bitsThen p) (t .region p r) j (sym (row-same (t .region) p regionsThen q r z) ∙ u))
+        name q r j u (yes z) = rw z (keep-some (bitsThen p) (t .region p r) j (sym (row-same (t .region) p regionsThen q r z) ∙ u) .1)
         name q r j u (no z) = upd-other (t .opened) p i (openAt (t .k) p i) q j (λ w. z (w .0)) ∙ h .at q r j (sym (row-other (t .region) p regionsThen q r z) ∙ u)
 
     slot-same : settled (settleSlot t p i) ≡ settled t
@@ -251,7 +233,7 @@ module _ {l : List ℕ} {p i a b : ℕ} {f : SlotFields} (c : Canon l) (h : Came
   -- S9, where an entry is open
   by-lines : f .opened ≡ true → openAt (view l .k) p i ≡ off a b (f .start .0) (f .end .0)
   unfolding offEntry
-  by-lines q = h .bits p i ∙ rw (v .opened, q, entry-at c v (open-present c v q)) refl
+  by-lines q = h .bits p i ∙ rw (v .opened, q, entry-there v (open-present c v q)) refl
 
   -- it is closed; or it is open, and ends before the area or starts behind it
   pub stays-closed : f .opened ≡ false → SlotDone (Came a b) p i l l
@@ -297,8 +279,7 @@ module _ {l : List ℕ} {p i : ℕ} {f : SlotFields} (c : Canon l) (h : Gone (vi
   gone-done = slot-done p i (h .named) (slot-gone h p i)
 
   pub stays-empty : f .present ≡ false → SlotDone Gone p i l l
-  unfolding entryIn
-  stays-empty q = gone-done (slot-stays p i c (h .named) (no-entry c p i (v .slot ∙ rw q refl)))
+  stays-empty q = gone-done (slot-stays p i c (h .named) (no-entry c p i (entry-none v q)))
 
   pub open-stays : f .opened ≡ true → SlotDone Gone p i l l
   open-stays q = gone-done (slot-stays p i c (h .named) (h .stays p i (v .opened ∙ q) ∙ sym (v .opened ∙ q)))
@@ -309,7 +290,7 @@ module _ {l : List ℕ} {p i : ℕ} {f : SlotFields} (c : Canon l) (h : Gone (vi
   opens {m} {o = o} {w} hp hi g q z u y = gone-done (rw y (subst (Is (stored l (slotPlace p i) w)) (ap (bitTo (view l) p i) bit ∙ only-bit h p i) (bit-put c v o hp hi q u)))
     where
       bit : o ≡ openAt (view l .k) p i
-      bit = z ∙ clear-quick (view l .k) g (f .start .0) (f .end .0) ∙ rw (entry-at c v q) refl
+      bit = z ∙ clear-quick (view l .k) g (f .start .0) (f .end .0) ∙ rw (entry-there v q) refl
 
 -- ── steps ──
 module _ {P : Table → Type 0} where
@@ -438,7 +419,7 @@ fit-settled t h = record {
   area = h .area;
   slot = h .slot;
   closed = λ p i q. rw q refl;
-  region = λ p r i u. h .region p r i (kept-some (openAt (t .k) p) (t .region p r) i u);
+  region = λ p r i u. h .region p r i (keep-some (openAt (t .k) p) (t .region p r) i u .0);
 }
 
 pub settled-is : {l m : List ℕ} {t : Table} → Is l t → m ≡ encode (settled (view l)) → Is m (settled t)

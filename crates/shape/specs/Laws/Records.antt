@@ -26,6 +26,11 @@ unfoldable pub recordTest : List ℕ → K → ℕ → Bool
 recordTest l k p = headerTest l k p && all 4 (structureTest l k p) && s3Regions l p && zeroBlanks l p && all 32 (s5Slot l k p)
 
 -- ── they are S3, S4 and S5 ──
+-- a test of the header's area, and of that of each structure, is one of all five
+pub each-area : (f : ℕ → Bool) → f 0 ≡ true → ((j : ℕ) → j < 4 → f (1 + j) ≡ true) → (j : ℕ) → j < 5 → f j ≡ true
+each-area f h s zero b = h
+each-area f h s (suc j) b = let q : 1 + j ≡ suc j = omega arith in rw q at (s j (omega arith))
+
 module _ (l : List ℕ) (k : K) (p : ℕ) where
   -- what both ask
   record Asked : Type 0 where
@@ -75,7 +80,7 @@ module _ (l : List ℕ) (k : K) (p : ℕ) where
           structure = λ j b. structure-asks j (structures j b) .0;
           regions = r;
           blank = b;
-          area = each-area (head .1) (λ j b. structure-asks j (structures j b) .1);
+          area = each-area (s4Area k p) (head .1) (λ j b. structure-asks j (structures j b) .1);
           absent = λ j b. structure-asks j (structures j b) .2;
           entry = all-at 32 (s5Slot l k p) e;
         },
@@ -90,10 +95,6 @@ module _ (l : List ℕ) (k : K) (p : ℕ) where
         (h .blank))
         (all-of 32 (s5Slot l k p) (h .entry)),
   )
-    where
-      each-area : s4Area k p 0 ≡ true → ((j : ℕ) → j < 4 → s4Area k p (1 + j) ≡ true) → (j : ℕ) → j < 5 → s4Area k p j ≡ true
-      each-area h s zero b = h
-      each-area h s (suc j) b = let q : 1 + j ≡ suc j = omega arith in rw q at (s j (omega arith))
 
   pub record-is : recordTest l k p ≡ s3 l p && s4 l k p && s5 l k p
   record-is = bool-ext _ _ (λ q. clauses-ask .1 (tests-ask .0 q)) (λ q. tests-ask .1 (clauses-ask .0 q))

@@ -1,6 +1,6 @@
 -- The largest piece at a line: what the tests say, that there is one such size, and the loop that doubles up to it.
 use mathlib.Core.Path.{_≡_, refl, ap, sym, subst, _∙_}
-use mathlib.Core.Bool.{Bool, true, false, cond, _&&_, false≢true}
+use mathlib.Core.Bool.{Bool, true, false, cond, false≢true, and-eq-true-iff}
 use Prim.Native.Nat.{ℕ, zero, suc, _+_, _-_, _*_, _/_, _%_, _^_, _≤_, _<_}
 use native.Mathlib.Decide.{decLt}
 use native.Mathlib.Nat.{pow-suc, mul-assoc}
@@ -22,14 +22,10 @@ pub record Widest (s b j : ℕ) : Type 0 where
   pub no-more : FitsAt s b (suc j) → ⊥
 
 -- ── the test says it ──
-and-both : (a b : Bool) → a && b ≡ true → (a ≡ true) × (b ≡ true)
-and-both true b q = (refl, q)
-and-both false b q = absurd (false≢true q)
-
 fits-says : (s b j : ℕ) → fits s b j ≡ true → FitsAt s b j
 unfolding fits
 fits-says s b j q =
-    let (x, y) = and-both (eqb (s % 2 ^ j) 0) (leb (s + 2 ^ j) b) q in
+    let (x, y) = and-eq-true-iff (eqb (s % 2 ^ j) 0) (leb (s + 2 ^ j) b) .0 q in
     let z = eqb-true (s % 2 ^ j) 0 x in
     record { times = s / 2 ^ j; multiple = omega (arith, split s j, z); within = leb-true (s + 2 ^ j) b y }
 

@@ -1,6 +1,6 @@
 -- A partition whose record an accepted call leaves as it was has the same children then. All else in its two words of the sheet is of its own record.
 use mathlib.Core.Path.{_≡_, refl, ap, sym, subst, _∙_}
-use mathlib.Core.Bool.{Bool, true, false, cond, false≢true}
+use mathlib.Core.Bool.{Bool, true, false, false≢true}
 use mathlib.Core.Logic.{_⊎_, inl, inr}
 use Prim.Native.Nat.{ℕ, _+_, _<_}
 use native.Mathlib.Decide.{ℕ-discrete}
@@ -8,7 +8,7 @@ use native.Mathlib.Omega.{arith}
 use Rattle.loops.specs.Laws.Every.{bool-ext}
 use Rattle.words.specs.declared.call_word.CallFields.{CallFields}
 use Rattle.shapes.specs.declared.Board.{Board}
-use Rattle.tables.specs.State.{Opt, none, some, Entry, Area, K, Table}
+use Rattle.tables.specs.State.{Opt, some, Entry, Area, K, Table}
 use Rattle.tables.specs.Laws.State.{not-none}
 use Rattle.tables.specs.Update.{upd}
 use Rattle.tables.specs.Laws.Update.{upd-same, upd-other, upd1-same, upd1-other}
@@ -20,6 +20,7 @@ use Rattle.sound.specs.Properties.{Child}
 use Rattle.sound.specs.Whole.{Right}
 use Rattle.rules.specs.Rules.{done, createK, removeK, remove, serve, areaOf}
 use Rattle.rules.specs.Laws.Each.{done-each}
+use Rattle.rules.specs.Laws.Removed.{records-was}
 use Rattle.isolation.specs.Laws.Checks.{is-child-means}
 use Rattle.isolation.specs.Laws.Remove.{Goes, remove-right}
 use Rattle.isolation.specs.Laws.Create.{CreateOk, create-done, create-right}
@@ -96,11 +97,7 @@ module _ {t : Table} {c : ℕ} {m : ℕ → Bool} (h : Right t) (ok : Goes (t .k
   right = remove-right h ok
 
   area-was : (q j : ℕ) (a : Area) → removeK (t .k) c m .area q j ≡ some a → (t .k .area q j ≡ some a) × (m q ≡ false)
-  area-was q j a u = go (m q) refl u
-    where
-      go : (b : Bool) → m q ≡ b → cond b (λ j. none) (t .k .area q) j ≡ some a → (t .k .area q j ≡ some a) × (m q ≡ false)
-      go true z u = not-none none refl u
-      go false z u = (u, z)
+  area-was q j a u = records-was m (t .k .area) q j u
 
   opens : Stays t new (t .k .current) → ⊥
   unfolding settle

@@ -1,7 +1,7 @@
 -- The lines that a partition holds, added up entry by entry, are at most end less base, so the field of 27 bits has room; the root's are exactly that.
 use mathlib.Core.Path.{_≡_, refl, sym}
 use mathlib.Core.Bool.{Bool, true, false, _&&_, _||_}
-use Prim.Native.Nat.{ℕ, zero, suc, _+_, _-_, _/_, _≤_, _<_, min}
+use Prim.Native.Nat.{ℕ, zero, suc, _+_, _-_, _≤_, _<_, min}
 use native.Mathlib.Decide.{decLt}
 use native.Mathlib.Omega.{arith}
 use lib.Dec.{leb, ltb}
@@ -14,6 +14,7 @@ use Rattle.tables.specs.Search.{holds}
 use Rattle.sound.specs.Laws.Tests.{and-says}
 use Rattle.sound.specs.Laws.MeansEntries.{holds-means}
 use Rattle.sound.specs.Core.{Core}
+use Rattle.sound.specs.Laws.Found.{in-table}
 use Rattle.sound.specs.Laws.Properties.{held-range}
 use Rattle.sheet.specs.Sheet.{numberOfLines, heldLines}
 
@@ -107,6 +108,4 @@ root-lines {k} h =
     same l b = bool-ext (inFirst h 0 32 l) (leb (k .base) l && ltb l (k .stop)) (in-range h 0 l) (λ q.
         let (x, _) = and-says (leb (k .base) l) (ltb l (k .stop)) q in
         let u = h .s7-root l .1 (leb-true (k .base) l x, b) in
-        let (a, v) = h .s5 0 (u .i) (u .e) (u .at) in
-        let (_, j) = h .s2-range 0 (1 + u .i / 8) a v in
-        any-of 32 (λ i. holds l (k .slot 0 i)) (u .i) (omega arith) (holds-means l (k .slot 0 (u .i)) .1 (u .e, u .at, u .holds)))
+        any-of 32 (λ i. holds l (k .slot 0 i)) (u .i) (in-table h 0 (u .i) (u .e) (u .at) .1) (holds-means l (k .slot 0 (u .i)) .1 (u .e, u .at, u .holds)))

@@ -3,13 +3,12 @@ use mathlib.Core.Path.{_≡_, refl, ap, sym, subst, _∙_}
 use mathlib.Core.Bool.{Bool, true, false, cond, true≢false}
 use mathlib.Core.Logic.{_⊎_, inl, inr}
 use Prim.Native.Nat.{ℕ, _+_, _<_}
-use native.Mathlib.Decide.{ℕ-discrete}
 use native.Mathlib.Omega.{arith}
 use Rattle.loops.specs.Laws.Every.{bool-ext}
 use Rattle.tables.specs.State.{Opt, none, some, Entry, Area, K, Table}
 use Rattle.tables.specs.Laws.State.{some-inj, not-none, sameA}
 use Rattle.tables.specs.Update.{upd}
-use Rattle.tables.specs.Laws.Update.{upd-other, upd-from, upd1-same, upd1-other, row-other}
+use Rattle.tables.specs.Laws.Update.{upd-other, upd-from, upd1-same, upd1-other, row-other, upd-none}
 use Rattle.tables.specs.Lines.{InA, Holds}
 use Rattle.tables.specs.Laws.Stays.{Stays}
 use Rattle.sound.specs.Sound.{Present}
@@ -17,13 +16,14 @@ use Rattle.sound.specs.Properties.{Above, itself, higher}
 use Rattle.sound.specs.Whole.{Right}
 use Rattle.sound.specs.Laws.Chain.{holder-above}
 use Rattle.rules.specs.Rules.{areaOf, createK, prepareK, collectK, removeK}
+use Rattle.rules.specs.Laws.Removed.{records-was}
 use Rattle.isolation.specs.Ladders.{OwnOrChild}
 use Rattle.isolation.specs.Laws.Checks.{FreeArea}
 use Rattle.isolation.specs.Laws.NewArea.{area-stays}
 use Rattle.isolation.specs.Laws.Create.{CreateOk}
 use Rattle.isolation.specs.Laws.Prepare.{PrepareOk}
 use Rattle.isolation.specs.Laws.Collect.{CollectOk}
-use Rattle.isolation.specs.Laws.Remove.{Goes}
+use Rattle.isolation.specs.Laws.Remove.{Goes, Remains, parent-remains}
 
 -- q is above x by other parents, too, that are the same on the way
 way-same : {up now : ℕ → ℕ} (P : ℕ → Type 0) → ((x : ℕ) → P x → now x ≡ up x) → ((x : ℕ) → P x → P (up x)) → {q x : ℕ} → P x → Above up q x → Above now q x
@@ -102,7 +102,7 @@ module _ {t new : Table} (h : Right t) (g : Right new) where
     area = λ i. areas q i ∙ upd-other (t .k .area) p (1 + j) none q i (λ z. out (itself (sym (z .0))));
     slot = slots;
     opened = opened-stays slots
-        (λ r i l a x u v. was r i a (upd-from (t .k .area) p (1 + j) none r i (sym (areas r i) ∙ v)))
+        (λ r i l a x u v. upd-none (t .k .area) p (1 + j) r i (sym (areas r i) ∙ v))
         (λ r i l a x u v. areas r i ∙ upd-other (t .k .area) p (1 + j) none r i (λ z. held a x u (rw (z .0, z .1) at v)) ∙ v);
   }
     where
@@ -115,10 +115,6 @@ module _ {t new : Table} (h : Right t) (g : Right new) where
       slots : (i : ℕ) → new .k .slot q i ≡ t .k .slot q i
       slots i = ap (λ (k : K). k .slot q i) is
 
-      was : (r i : ℕ) (a : Area) → ((r ≡ p) × (i ≡ 1 + j) × (none ≡ some a)) ⊎ (((r ≡ p) × (i ≡ 1 + j) → ⊥) × (t .k .area r i ≡ some a)) → t .k .area r i ≡ some a
-      was r i a (inl (_, _, z)) = not-none none refl z
-      was r i a (inr (_, v)) = v
-
       held : (a : Area) {l : ℕ} → InA l a → Holds (t .k .slot) q l → t .k .area p (1 + j) ≡ some a → ⊥
       held a x u v = go (lent-above v (λ z. ok .other (z .0, omega (arith, z .1))) x u)
         where
@@ -128,17 +124,6 @@ module _ {t new : Table} (h : Right t) (g : Right new) where
 
   -- removal: who stays and is not above the caller
   module _ {c : ℕ} {m : ℕ → Bool} (ok : Goes (t .k) c m) (is : new .k ≡ removeK (t .k) c m) where
-    abbrev Left : ℕ → Type 0
-    Left x = Present (t .k) x × (m x ≡ false)
-
-    up-left : (x : ℕ) → Left x → Left (t .k .parent x)
-    up-left x (v, n) = (h .core .s2-up x v, go (ℕ-discrete x 0) (m (t .k .parent x)) refl)
-      where
-        go : Dec (x ≡ 0) → (b : Bool) → m (t .k .parent x) ≡ b → b ≡ false
-        go d false z = refl
-        go (yes y) true z = sym z ∙ ap m (ap (t .k .parent) y ∙ h .core .s2-root .2) ∙ ok .root
-        go (no y) true z = sym (ok .down (t .k .parent x) x (record { present = v; other = y; parent = refl }) z) ∙ n
-
     -- above one who goes are who go, and who is above the caller
     above-gone : {q x : ℕ} → m x ≡ true → Above (t .k .parent) q x → (m q ≡ true) ⊎ Above (t .k .parent) q (t .k .current)
     above-gone v (itself z) = inl (ap m (sym z) ∙ v)
@@ -152,15 +137,11 @@ module _ {t new : Table} (h : Right t) (g : Right new) where
     removal-stays {q} here far = record {
       area = λ j. areas q j ∙ rw stays refl;
       slot = slots;
-      opened = opened-stays slots (λ r j l a x u v. was r j a (m r) refl (sym (areas r j) ∙ v)) (λ r j l a x u v. areas r j ∙ kept r j l a x u v (m r) refl);
+      opened = opened-stays slots (λ r j l a x u v. records-was m (t .k .area) r j (sym (areas r j) ∙ v) .0) (λ r j l a x u v. areas r j ∙ kept r j l a x u v (m r) refl);
     }
       where
         areas : (r j : ℕ) → new .k .area r j ≡ cond (m r) (λ j. none) (t .k .area r) j
         areas r j = ap (λ (k : K). k .area r j) is
-
-        was : (r j : ℕ) (a : Area) (b : Bool) → m r ≡ b → cond (m r) (λ j. none) (t .k .area r) j ≡ some a → t .k .area r j ≡ some a
-        was r j a true z v = not-none none refl (rw z at v)
-        was r j a false z v = rw z at v
 
         stays : m q ≡ false
         stays = go (m q) refl
@@ -170,7 +151,7 @@ module _ {t new : Table} (h : Right t) (g : Right new) where
             go true z = not-none none refl (rw z at (sym (areas q 0) ∙ here .1))
 
         out : Above (t .k .parent) q (t .k .current) → ⊥
-        out a = far (way-same Left (λ x v. ap (λ (k : K). k .parent x) is ∙ rw (v .1) refl) up-left (h .core .s1-current, ok .caller) a)
+        out a = far (way-same (Remains (t .k) m) (λ x v. ap (λ (k : K). k .parent x) is ∙ rw (v .1) refl) (parent-remains (h .core) ok) (h .core .s1-current, ok .caller) a)
 
         slots : (i : ℕ) → new .k .slot q i ≡ t .k .slot q i
         slots i = ap (λ (k : K). k .slot q i) is ∙ rw stays (row-other (t .k .slot) (t .k .current) _ q i (λ z. out (itself (sym z))))

@@ -15,6 +15,7 @@ use Rattle.tables.specs.View.{entryOf, entryIn, view}
 use Rattle.tables.specs.Search.{isSome}
 use Rattle.tables.specs.Laws.Search.{entry-some}
 use Rattle.tables.specs.Seen.{Seen}
+use Rattle.tables.specs.Laws.Seen.{entry-there}
 use Rattle.sound.specs.Whole.{Right}
 use Rattle.sheet.specs.Sheet.{occupied, structured, numberOfLines, heldLines, openLines}
 use Rattle.sheet.specs.Sums.{Ending, Adding}
@@ -102,8 +103,7 @@ with-nothing {a = a} {b} {c} z =
 
 -- an entry ends behind its start
 pub entry-range : {l : List ℕ} {p i : ℕ} {f : SlotFields} → Right (view l) → Seen l p i f → f .present ≡ true → (f .present ≡ true) × (f .start .0 < f .end .0)
-unfolding entryIn
-entry-range {p = p} {i} {f} h seen q = (q, h .core .s5-range p i (entryOf f) (seen .slot ∙ rw q refl))
+entry-range {p = p} {i} {f} h seen q = (q, h .core .s5-range p i (entryOf f) (entry-there seen q))
 
 -- slot i - 1 joins
 module _ {l : List ℕ} {p i : ℕ} {x : Sums} {f : SlotFields} (seen : Seen l p (i - 1) f) (inv : Adding (view l) p i x) (h : 0 < i) where

@@ -15,6 +15,7 @@ use Rattle.tables.specs.State.{Opt, none, some, Area, K, Table}
 use Rattle.tables.specs.Search.{isSome, isNone, present, absent}
 use Rattle.memory.specs.Bytes.{byteOf}
 use Rattle.sound.specs.Core.{Core}
+use Rattle.sound.specs.Laws.Core.{parent-range}
 use Rattle.sound.specs.Whole.{Right}
 use Rattle.sound.specs.Properties.{Above, itself, higher}
 use Rattle.sound.specs.Laws.Grants.{root-above}
@@ -31,13 +32,6 @@ use Rattle.sheet.specs.Laws.Words.{with-children}
 
 -- ── who is above a partition ──
 module _ {k : K} (h : Core k) where
-  parent-small : (q : ℕ) → k .parent q < 16
-  parent-small q = go (k .area q 0) refl
-    where
-      go : (o : Opt Area) → k .area q 0 ≡ o → k .parent q < 16
-      go none z = rw (h .s2-parent q z) (omega arith)
-      go (some a) z = let (b, u) = h .s2-up q (a, z) in h .s2-range (k .parent q) 0 b u .0
-
   -- every walk gets to the root: the parent of who is absent is 0
   pub all-climb : (p : ℕ) → Reaches (k .parent) 15 p
   all-climb p = go (k .area p 0) refl
@@ -73,7 +67,7 @@ module _ {k : K} (h : Core k) where
 
       back : Dec (q ≡ 0) → Above (k .parent) q p → eqb q 0 || branch (k .parent) q p ≡ true
       back (yes z) a = rw (eq-eqb q 0 z) refl
-      back (no z) a = rw (ne-eqb q 0 z, branch-of (k .parent) q z parent-small b (above-under z a)) refl
+      back (no z) a = rw (ne-eqb q 0 z, branch-of (k .parent) q z (parent-range h) b (above-under z a)) refl
 
   -- who is not above p is not
   pub above-not : {p q : ℕ} → p < 16 → above k p q ≡ false → Above (k .parent) q p → ⊥
@@ -192,7 +186,7 @@ module _ {t : Table} (h : Core (t .k)) {p : ℕ} (b : p < 16) {s : List ℕ} whe
     rise-on z {r} e =
         let (m, d, c) = step (inv .climbs) in
         record {
-          small = rw (← e) (parent-small h q);
+          small = rw (← e) (parent-range h q);
           steps = m;
           turns = omega (arith, inv .turns, d);
           climbs = rw (← e) c;

@@ -19,6 +19,15 @@ use Rattle.sound.specs.Sound.{Present, Rooted, Granted, Equals, S1, S2, 
 use Rattle.sound.specs.Core.{Inside, Whole, Backed, Core}
 use Rattle.sound.specs.Laws.Sound.{s1-of, s2-of, s4-of, s5-of, s6-of, s7-of, s8-of, s9-of, s11-of}
 
+-- two areas with a line in common are one; S8 says it of two owners in order
+pub apart-both : (l : List ℕ) → ((p : ℕ) → p < 16 → S8 (view l .k) p) → (p j q i : ℕ) (a b : Area) (n : ℕ)
+    → view l .k .area p j ≡ some a → view l .k .area q i ≡ some b → InA n a → InA n b → (p ≡ q) × (j ≡ i)
+apart-both l s p j q i a b n u v x y = go (decLt q p)
+  where
+    go : Dec (q < p) → (p ≡ q) × (j ≡ i)
+    go (yes z) = let (c, d) = s q (area-bounds l q i b v .0) .apart i p j b a n (omega arith) v u y x in (sym c, sym d)
+    go (no z) = s p (area-bounds l p j a u .0) .apart j q i a b n (omega arith) u v x y
+
 -- ── from a sound table ──
 module _ {board : Board} (l : List ℕ) (h : Sound board l) where
   -- the words of an absent partition are zero: it has no area ..
@@ -96,14 +105,6 @@ module _ {board : Board} (l : List ℕ) (h : Sound board l) where
           let s = s8-of h p (area-bounds l p (suc j) a u .0) .structure j a (rw e u) (λ r. n (r .0, omega arith)) in
           ⊎-elim (by p (inr (refl, omega arith))) (by (view l .k .parent p) (inl refl)) s
 
-  -- S8 says it of two owners in order
-  apart : (p j q i : ℕ) (a b : Area) (n : ℕ) → view l .k .area p j ≡ some a → view l .k .area q i ≡ some b → InA n a → InA n b → (p ≡ q) × (j ≡ i)
-  apart p j q i a b n u v x y = go (decLt q p)
-    where
-      go : Dec (q < p) → (p ≡ q) × (j ≡ i)
-      go (yes z) = let (s, t) = s8-of h q (area-bounds l q i b v .0) .apart i p j b a n (omega arith) v u y x in (sym s, sym t)
-      go (no z) = s8-of h p (area-bounds l p j a u .0) .apart j q i a b n (omega arith) u v x y
-
   pub sound-core : Core (view l .k)
   sound-core =
       let root = s2-of h 0 (omega arith) .root refl in
@@ -126,7 +127,7 @@ module _ {board : Board} (l : List ℕ) (h : Sound board l) where
         s7-cover = cover;
         s7-whole = whole;
         s8 = backed;
-        s8-apart = apart;
+        s8-apart = apart-both l (s8-of h);
         s11 = s11-of h 0 (omega arith) .root refl;
         s11-equal = equal;
       }
@@ -218,3 +219,11 @@ module _ {k : K} (h : Core k) where
     s8 = core-s8;
     s11 = core-s11;
   }
+
+-- every parent is one of the 16: that of a present partition is present, that of an absent one the root
+pub parent-range : {k : K} → Core k → (q : ℕ) → k .parent q < 16
+parent-range {k} h q = go (k .area q 0) refl
+  where
+    go : (o : Opt Area) → k .area q 0 ≡ o → k .parent q < 16
+    go none z = rw (h .s2-parent q z) (omega arith)
+    go (some a) z = let (b, u) = h .s2-up q (a, z) in h .s2-range (k .parent q) 0 b u .0

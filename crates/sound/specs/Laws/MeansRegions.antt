@@ -13,7 +13,7 @@ use Rattle.loops.specs.Laws.Every.{all-at, all-of, bool-ext}
 use Rattle.words.specs.declared.Rights.{Rights}
 use Rattle.shapes.specs.declared.Board.{Board}
 use Rattle.tables.specs.State.{Opt, none, some, Entry, K, allRights}
-use Rattle.tables.specs.Laws.State.{not-none, same-at}
+use Rattle.tables.specs.Laws.State.{same-at}
 use Rattle.tables.specs.View.{view}
 use Rattle.tables.specs.Laws.View.{slot-bounds, area-bounds, region-bounds}
 use Rattle.tables.specs.Laws.ZeroWord.{not-open}
@@ -24,7 +24,7 @@ use Rattle.sound.specs.Limit.{loadedPieces}
 use Rattle.sound.specs.Sound.{Granted, OneGrant, Sub, S5, S9, S10, S11}
 use Rattle.sound.specs.Clauses.{when, grants, full, within, s9, s10Names, s10Once, s10, s11Within, oneGrant, sameRights, s11Equal, s11}
 use Rattle.sound.specs.Laws.Means.{and-means, le-means}
-use Rattle.sound.specs.Laws.MeansEntries.{root-or-means, grants-means, Slots32, every-means, one-grant-means, slots32}
+use Rattle.sound.specs.Laws.MeansEntries.{root-or-means, grants-means, Slots32, every-means, one-grant-means, slots32, is-some-means}
 use Rattle.sound.specs.Laws.Tests.{and-says, and-true, then-says, then-true, not-says, not-of, when-says, when-true, every-says, every-true}
 use Rattle.sound.specs.Laws.Meets.{open-clear}
 
@@ -59,17 +59,13 @@ s9-means l s p hp = (to, λ h. all-of 32 f (λ i b. same i .1 (back h i b (view 
     back h i b (some e) u = bool-ext (view l .opened p i) (openBit (view l .k .area) (some e)) (λ x. clear e .1 (h i e u .0 x)) (λ x. h i e u .1 (clear e .0 x))
 
 -- ── S10 ──
-there : {A : Type 0} (o : Opt A) → (isSome o ≡ true) ↔ ((a : A) × (o ≡ some a))
-there none = (λ q. absurd (false≢true q), λ w. not-none none refl (w .1))
-there (some a) = (λ q. (a, refl), λ w. refl)
-
 module _ (l : List ℕ) (p : ℕ) where
   names-means : (all 8 (s10Names (view l) p) ≡ true)
       ↔ ((r i : ℕ) → view l .region p r ≡ some i → ((e : Entry) × (view l .k .slot p i ≡ some e)) × (view l .opened p i ≡ true))
   unfolding s10Names
   names-means = (
-    λ q r i u. let (a, b) = and-says _ _ (every-says 8 f (view l .region p) q r i (region-bounds l p r i u .1) u) in (there (view l .k .slot p i) .0 a, b),
-    λ h. every-true 8 f (view l .region p) (λ r i b u. let w = h r i u in and-true _ _ (there (view l .k .slot p i) .1 (w .0)) (w .1)),
+    λ q r i u. let (a, b) = and-says _ _ (every-says 8 f (view l .region p) q r i (region-bounds l p r i u .1) u) in (is-some-means (view l .k .slot p i) .0 a, b),
+    λ h. every-true 8 f (view l .region p) (λ r i b u. let w = h r i u in and-true _ _ (is-some-means (view l .k .slot p i) .1 (w .0)) (w .1)),
   )
     where
       f : ℕ → ℕ → Bool

@@ -1,6 +1,6 @@
 -- A right table is settled. So is it after a call that changes nothing but which partition is current, a region that then names an open slot or none, or an entry that stays open.
 use mathlib.Core.Path.{_≡_, refl, ap, sym, subst, _∙_}
-use mathlib.Core.Bool.{Bool, true, false, cond}
+use mathlib.Core.Bool.{Bool, true, false}
 use mathlib.Core.List.{List}
 use mathlib.Core.Logic.{_⊎_, inl, inr}
 use Prim.Native.Nat.{ℕ, _/_, _%_, _≤_, _<_}
@@ -17,6 +17,7 @@ use Rattle.tables.specs.View.{view}
 use Rattle.tables.specs.Encode.{encode, Is}
 use Rattle.tables.specs.Write.{putSlot, putRegion, putCurrent}
 use Rattle.tables.specs.Kept.{keepRegions}
+use Rattle.tables.specs.Laws.Kept.{keep-same, keep-some}
 use Rattle.tables.specs.Lines.{InA}
 use Rattle.tables.specs.Settle.{clear, openBit, openAt, keep, settle, settled}
 use Rattle.sound.specs.Laws.Meets.{clear-means, open-clear}
@@ -40,21 +41,6 @@ module _ (area : ℕ → ℕ → Opt Area) where
 pub record Settled (t : Table) : Type 0 where
   pub bits : (p i : ℕ) → openAt (t .k) p i ≡ t .opened p i
   pub names : (p r i : ℕ) → t .region p r ≡ some i → t .opened p i ≡ true
-
-keep-same : (o : ℕ → Bool) (x : Opt ℕ) → ((i : ℕ) → x ≡ some i → o i ≡ true) → keep o x ≡ x
-unfolding keep
-keep-same o none f = refl
-keep-same o (some i) f = rw (f i refl) refl
-
--- a region that is kept was loaded, with an open slot
-pub keep-some : (o : ℕ → Bool) (x : Opt ℕ) (i : ℕ) → keep o x ≡ some i → (x ≡ some i) × (o i ≡ true)
-unfolding keep
-keep-some o none i q = not-none none refl q
-keep-some o (some j) i q = go (o j) refl q
-  where
-    go : (b : Bool) → o j ≡ b → cond b (some j) none ≡ some i → (some j ≡ some i) × (o i ≡ true)
-    go true u v = (v, rw (← (some-inj v)) u)
-    go false u v = not-none none refl v
 
 pub settled-same : {t : Table} → Settled t → settled t ≡ t
 unfolding settle

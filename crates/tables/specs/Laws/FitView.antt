@@ -43,6 +43,15 @@ area-small j w a q = go (eqb j 0) q
     go true q = let s = sameA (when-is (fieldsIn header w .present) _ a q) in let f = header-small w in (omega arith, omega arith)
     go false q = let s = sameA (when-is (fieldsIn structure w .present) _ a q) in let f = structure-small w in (omega arith, omega arith)
 
+-- every parent is one of the 16, whatever the words are
+pub parents-small : (l : List ℕ) (p : ℕ) → view l .k .parent p < 16
+unfolding view viewK parentAt
+parents-small l p = go (ltb p 16)
+  where
+    go : (x : Bool) → cond x (headerAt l p .parent .0) 0 < 16
+    go true = header-small (areaWordAt l p 0) .parent
+    go false = omega arith
+
 module _ {l : List ℕ} (c : Canon l) where
   -- ── an absent thing is a zero word ──
   pub zero-slot : (p i : ℕ) → p < 16 → i < 32 → view l .k .slot p i ≡ none → slotWordAt l p i ≡ 0
@@ -57,21 +66,13 @@ module _ {l : List ℕ} (c : Canon l) where
   unfolding structureWord
   zero-structure p j hp h g q = canon-spells c .at p hp .structure j h g ∙ rw q refl
 
-  parents : (p : ℕ) → view l .k .parent p < 16
-  unfolding view viewK parentAt
-  parents p = go (ltb p 16)
-    where
-      go : (x : Bool) → cond x (headerAt l p .parent .0) 0 < 16
-      go true = header-small (areaWordAt l p 0) .parent
-      go false = omega arith
-
   pub fit-view : Fit (view l)
   unfolding view viewK entryIn named
   fit-view = record {
     base = first-small (firstWord l) .base;
     stop = first-small (firstWord l) .stop;
     current = first-small (firstWord l) .current;
-    parent = parents;
+    parent = parents-small l;
     orphan = λ p q. no-parent l p (λ h. zero-header p h q);
     area = λ p j a u.
         let s = inside-some 16 5 (areaAt l) p j a u in

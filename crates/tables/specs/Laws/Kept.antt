@@ -14,7 +14,7 @@ use Rattle.words.specs.declared.Written.{Written}
 use Rattle.words.specs.declared.regions_word.Region.{Region}
 use Rattle.words.specs.declared.regions_word.RegionsFields.{RegionsFields}
 use Rattle.tables.specs.State.{Opt, none, some, Table}
-use Rattle.tables.specs.Laws.State.{not-none}
+use Rattle.tables.specs.Laws.State.{not-none, some-inj}
 use Rattle.tables.specs.Update.{upd1}
 use Rattle.tables.specs.Laws.Update.{upd1-same, upd1-other, row-same, row-other}
 use Rattle.tables.specs.View.{regionsPlace, nthRegion, named, view}
@@ -34,14 +34,21 @@ pub keep-none : (o : ℕ → Bool) (x : Opt ℕ) → x ≡ none → x ≡ keep o
 unfolding keep
 keep-none o x q = rw q refl
 
-pub kept-some : (o : ℕ → Bool) (x : Opt ℕ) (i : ℕ) → keep o x ≡ some i → x ≡ some i
+-- all, where each that is loaded names an open slot
+pub keep-same : (o : ℕ → Bool) (x : Opt ℕ) → ((i : ℕ) → x ≡ some i → o i ≡ true) → keep o x ≡ x
 unfolding keep
-kept-some o none i q = q
-kept-some o (some j) i q = go (o j) q
+keep-same o none f = refl
+keep-same o (some i) f = rw (f i refl) refl
+
+-- a region that is kept was loaded, with an open slot
+pub keep-some : (o : ℕ → Bool) (x : Opt ℕ) (i : ℕ) → keep o x ≡ some i → (x ≡ some i) × (o i ≡ true)
+unfolding keep
+keep-some o none i q = not-none none refl q
+keep-some o (some j) i q = go (o j) refl q
   where
-    go : (b : Bool) → cond b (some j) none ≡ some i → some j ≡ some i
-    go true q = q
-    go false q = not-none none refl q
+    go : (b : Bool) → o j ≡ b → cond b (some j) none ≡ some i → (some j ≡ some i) × (o i ≡ true)
+    go true u v = (v, rw (← (some-inj v)) u)
+    go false u v = not-none none refl v
 
 -- a loaded region whose slot is open
 pub region-kept : (o : ℕ → Bool) (r : Region) → r .loaded ≡ true → o (r .slot .0) ≡ true → r ≡ regionFor (keep o (named r))
@@ -114,4 +121,4 @@ regions-settled {l} {p} c hp e =
     kept r = keep (view l .opened p) (view l .region p r)
 
     small : (r i : ℕ) → kept r ≡ some i → (r < 8) × (i < 32)
-    small r i u = let b = fit-view c .region p r i (kept-some (view l .opened p) (view l .region p r) i u) in (b .1, b .2)
+    small r i u = let b = fit-view c .region p r i (keep-some (view l .opened p) (view l .region p r) i u .0) in (b .1, b .2)

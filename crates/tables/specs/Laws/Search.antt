@@ -1,6 +1,6 @@
 -- The lowest number that passes is found, or none passes; what was read is there where its present bit is set; and which slots of a structure are free.
 use mathlib.Core.Path.{_≡_, refl, sym, _∙_}
-use mathlib.Core.Bool.{Bool, true, false, cond, not}
+use mathlib.Core.Bool.{Bool, true, false, cond, not, false≢true}
 use mathlib.Core.Logic.{inl, inr}
 use Prim.Native.Nat.{ℕ, _+_, _*_, _/_, _<_}
 use native.Mathlib.Omega.{arith}
@@ -11,7 +11,7 @@ use Rattle.loops.specs.Laws.Map.{map-none}
 use Rattle.words.specs.declared.header_word.HeaderFields.{HeaderFields}
 use Rattle.words.specs.declared.slot_word.SlotFields.{SlotFields}
 use Rattle.words.specs.declared.structure_word.StructureFields.{StructureFields}
-use Rattle.tables.specs.State.{none, some, K}
+use Rattle.tables.specs.State.{none, some, K, Opt}
 use Rattle.tables.specs.Laws.State.{some-inj, not-none}
 use Rattle.tables.specs.View.{entryIn, headerArea, structureArea}
 use Rattle.tables.specs.Search.{isSome, isNone, lowest, Lowest, present, absent, absentChild, free, holds}
@@ -31,6 +31,11 @@ lowest-none n f e = go (seek-law f some none n)
     go : Sought f some none n (seek f some none n) → NoneBelow f n
     go (inl (j, h)) = not-none none refl (sym e ∙ h .is)
     go (inr h) = h .none
+
+-- what passes the test for nothing is none
+pub none-is : {A : Type 0} (o : Opt A) → isNone o ≡ true → o ≡ none
+none-is none h = refl
+none-is (some a) h = absurd (false≢true h)
 
 -- ── what was read is there where its present bit is set ──
 some-if : {A : Type 0} (b : Bool) (a : A) → isSome (cond b (some a) none) ≡ b

@@ -1,6 +1,6 @@
 -- What each reader reads is what the table has there; and two results are equal.
 use mathlib.Core.Path.{_≡_, refl, ap, sym, _∙_}
-use mathlib.Core.Bool.{false}
+use mathlib.Core.Bool.{true, false}
 use mathlib.Core.List.{List}
 use borrow.Author.Tests.{lt-ltb, eq-eqb, ne-eqb}
 use Prim.Native.Nat.{ℕ, _+_, _-_, _<_}
@@ -8,11 +8,12 @@ use native.Mathlib.Omega.{arith}
 use Rattle.words.specs.Laws.Fields.{first-small, header-small, structure-small, slot-small}
 use Rattle.words.specs.declared.first_word.FirstFields.{FirstFields}
 use Rattle.words.specs.declared.header_word.HeaderFields.{HeaderFields}
+use Rattle.words.specs.declared.regions_word.Region.{Region}
 use Rattle.words.specs.declared.regions_word.RegionsFields.{RegionsFields}
 use Rattle.words.specs.declared.slot_word.SlotFields.{SlotFields}
 use Rattle.words.specs.declared.structure_word.StructureFields.{StructureFields}
-use Rattle.tables.specs.State.{none}
-use Rattle.tables.specs.View.{firstWord, areaWordAt, regionsWordAt, slotWordAt, entryIn, headerArea, structureArea, areaIn, nthRegion, named, firstAt, slotAt, headerAt, structureAt, regionsAt, areaAt, regionAt, parentAt, viewK, view}
+use Rattle.tables.specs.State.{none, some}
+use Rattle.tables.specs.View.{firstWord, areaWordAt, regionsWordAt, slotWordAt, entryOf, entryIn, headerArea, structureArea, areaIn, nthRegion, named, firstAt, slotAt, headerAt, structureAt, regionsAt, areaAt, regionAt, parentAt, viewK, view}
 use Rattle.tables.specs.Laws.View.{inside-in}
 use Rattle.tables.specs.Encode.{slotWord}
 use Rattle.tables.specs.Laws.Spelling.{canon-spells}
@@ -59,6 +60,16 @@ see l p i f hp hi e =
 pub seen-one : {l : List ℕ} {p i : ℕ} {f g : SlotFields} → Seen l p i f → Seen l p i g → f ≡ g
 seen-one x y = x .is ∙ sym (y .is)
 
+-- what is there of an entry f that was read
+module _ {l : List ℕ} {p i : ℕ} {f : SlotFields} (v : Seen l p i f) where
+  pub entry-none : f .present ≡ false → view l .k .slot p i ≡ none
+  unfolding entryIn
+  entry-none q = v .slot ∙ rw q refl
+
+  pub entry-there : f .present ≡ true → view l .k .slot p i ≡ some (entryOf f)
+  unfolding entryIn
+  entry-there q = v .slot ∙ rw q refl
+
 -- ── the header of p ──
 pub see-header : (l : List ℕ) (p : ℕ) (f : HeaderFields) → p < 16 → f ≡ headerAt l p → SeenHeader l p f
 unfolding view viewK parentAt areaIn
@@ -99,6 +110,10 @@ see-regions l p f hp e = record {
   region = λ r h. inside-in none 16 8 (regionAt l) p r hp h ∙ ap (λ (x : RegionsFields). named (nthRegion x r)) (sym e);
   small = λ r. rw e (region-small (regionsWordAt l p) r);
 }
+
+-- region r, taken out of them
+pub see-region : {l : List ℕ} {p r : ℕ} {f : RegionsFields} {x : Region} → SeenRegions l p f → r < 8 → x ≡ nthRegion f r → view l .region p r ≡ named x
+see-region {r = r} v h e = v .region r h ∙ ap named (sym e)
 
 pub seen-regions-one : {l : List ℕ} {p : ℕ} {f g : RegionsFields} → SeenRegions l p f → SeenRegions l p g → f ≡ g
 seen-regions-one x y = x .is ∙ sym (y .is)

@@ -3,6 +3,8 @@ use mathlib.Core.Path.{_≡_, refl, ap, ap₂, sym, _∙_}
 use mathlib.Core.Logic.{_⊎_, inl, inr}
 use Prim.Native.Nat.{ℕ}
 use native.Mathlib.Decide.{ℕ-discrete}
+use Rattle.tables.specs.State.{Opt, none, some}
+use Rattle.tables.specs.Laws.State.{not-none}
 use Rattle.tables.specs.Update.{pick, upd1, both?, upd}
 
 pub pick-yes : {P A : Type 0} (d : Dec P) (a b : A) → P → pick d a b ≡ a
@@ -57,6 +59,14 @@ module _ {A : Type 0} (f : ℕ → ℕ → A) (p i : ℕ) (a : A) (q j : ℕ) wh
       go : Dec ((q ≡ p) × (j ≡ i)) → ((q ≡ p) × (j ≡ i) × (a ≡ b)) ⊎ (((q ≡ p) × (j ≡ i) → ⊥) × (f q j ≡ b))
       go (yes z) = inl (z .0, z .1, sym (upd-same z) ∙ h)
       go (no z) = inr (z, sym (upd-other z) ∙ h)
+
+-- what is there where something was taken away was there
+pub upd-none : {A : Type 0} (f : ℕ → ℕ → Opt A) (p i q j : ℕ) {a : A} → upd f p i none q j ≡ some a → f q j ≡ some a
+upd-none f p i q j {a} u = go (upd-from f p i none q j u)
+  where
+    go : ((q ≡ p) × (j ≡ i) × (none ≡ some a)) ⊎ (((q ≡ p) × (j ≡ i) → ⊥) × (f q j ≡ some a)) → f q j ≡ some a
+    go (inl (_, _, z)) = not-none none refl z
+    go (inr (_, v)) = v
 
 -- ── a function with the value that it has ──
 pub upd1-keep : {A : Type 0} (f : ℕ → A) (p : ℕ) → upd1 f p (f p) ≡ f

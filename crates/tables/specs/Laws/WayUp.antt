@@ -13,8 +13,8 @@ use native.Mathlib.Decide.{ℕ-discrete}
 use native.Mathlib.Omega.{arith}
 use Rattle.loops.specs.Loops.{climb}
 use Rattle.loops.specs.Laws.Climb.{climb-root, climb-lost, climb-step, climb-suc}
-use Rattle.tables.specs.View.{headerAt, view}
-use Rattle.tables.specs.Laws.Seen.{see-header}
+use Rattle.tables.specs.View.{view}
+use Rattle.tables.specs.Laws.FitView.{parents-small}
 use Rattle.tables.specs.WayUp.{wayUp, digits, digitsOf, wayIn, namesOver, HasRoom, WentUp, WayWritten}
 
 -- ── what the climb asks and promises ──
@@ -217,9 +217,6 @@ way-few up (suc n) p = go (eqb p 0) (way-few up n (up p))
 way-back : {hs : List ℕ} → Topped hs → length hs ≤ 16 → wayIn (digits hs 0) ≡ hs
 way-back {hs} t h = rw (t .whole) (digits-back 16 (t .small) (omega (arith, ap length (t .whole))) (t .others))
 
-parent-small : (l : List ℕ) (p : ℕ) → p < 16 → view l .k .parent p < 16
-parent-small l p h = let s = see-header l p (headerAt l p) h refl in omega (arith, s .parent, s .parent-small)
-
 -- the number of a way of at most 15 steps up a table
 pub way-told : (l : List ℕ) (n p : ℕ) → p < 16 → 0 < n → n ≤ 15 → wayIn (digits (wayUp (view l .k .parent) n p) 0) ≡ wayUp (view l .k .parent) n p
-way-told l n p b z h = way-back (way-topped (parent-small l) n p b (λ y. absurd (omega arith))) (omega (arith, way-few (view l .k .parent) n p))
+way-told l n p b z h = way-back (way-topped (λ q _. parents-small l q) n p b (λ y. absurd (omega arith))) (omega (arith, way-few (view l .k .parent) n p))

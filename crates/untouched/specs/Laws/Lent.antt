@@ -17,9 +17,7 @@ use Rattle.tables.specs.Settle.{settle}
 use Rattle.sound.specs.Clauses.{sound}
 use Rattle.sound.specs.Laws.List.{sound-means}
 use Rattle.sound.specs.Properties.{Child}
-use Rattle.sound.specs.Laws.Canonical.{sound-canon}
 use Rattle.sound.specs.Whole.{Right}
-use Rattle.sound.specs.Laws.Whole.{sound-right}
 use Rattle.rules.specs.Branch.{Under, itself as is-top, below}
 use Rattle.rules.specs.Laws.Branch.{under-parent}
 use Rattle.rules.specs.Rules.{Result, done, refused, callOn, wordsAfter}
@@ -27,8 +25,8 @@ use Rattle.rules.specs.Laws.Calls.{call-as}
 use Rattle.rules.specs.Laws.Each.{serve-done, perform-at}
 use Rattle.rules.specs.Laws.Ran.{check-done}
 use Rattle.isolation.specs.Lent.{LentWhole}
-use Rattle.isolation.specs.Whole.{served, afterAll, after-good, call-right}
-use Rattle.isolation.specs.Laws.Fits.{Good, right-fit}
+use Rattle.isolation.specs.Whole.{served, afterAll, after-good, call-right, next-good}
+use Rattle.isolation.specs.Laws.Fits.{Good, right-fit, good-right}
 use Rattle.isolation.specs.Laws.Give.{give-done}
 use Rattle.isolation.specs.Laws.Keep.{given-child, Has}
 use Rattle.isolation.specs.Laws.Lent.{own-stays, take-whole-done}
@@ -38,14 +36,6 @@ use Rattle.isolation.specs.Laws.Written.{first-at}
 use Rattle.untouched.specs.Untouched.{Within, Outside}
 use Rattle.untouched.specs.Lent.{LentBack}
 use Rattle.untouched.specs.Laws.Theorem.{up-present, call-left, after-left}
-
-good-right : {board : Board} {l : List ℕ} → Good board l → Right (view l)
-good-right g = sound-right (sound-canon (g .small) (g .sound)) (g .sound)
-
--- the words after a call that is done, or refused, are good
-call-good : {board : Board} {l : List ℕ} → Good board l → (w : ℕ) → Good board (wordsAfter l (callOn board l w))
-unfolding afterAll
-call-good g w = after-good g (w ∷ [])
 
 -- who is in the branch of c, and not c, is in that of a child of c
 module _ {up : ℕ → ℕ} {c : ℕ} where
@@ -87,7 +77,7 @@ module _ (c : ℕ) (a : Entry) (whole : a .whole ≡ true) where
   calls-kept : {board : Board} {l : List ℕ} → Good board l → (ws : List ℕ) → Within board c l ws → Kept l → Kept (afterAll board l ws)
   unfolding Within afterAll
   calls-kept g [] _ k = k
-  calls-kept g (w ∷ ws) (u, h) k = calls-kept (call-good g w) ws h (call-kept g w u k)
+  calls-kept g (w ∷ ws) (u, h) k = calls-kept (next-good g w) ws h (call-kept g w u k)
 
 -- ── so does what is lent whole ──
 -- the giver's slot is outside the branch
@@ -160,8 +150,8 @@ lent-back = record {
   back = λ board l give switch take ws small five marked y turn within again z e.
       let g = good-of board l give small y in
       let b = give-lends g give five marked y in
-      let one = call-good g give in
-      let two = call-good one switch in
+      let one = next-good g give in
+      let two = next-good one switch in
       let c = switch-kept one switch turn b in
       let d = lent-kept two c ws within in
       let good = after-good two ws in

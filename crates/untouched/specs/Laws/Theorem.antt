@@ -1,7 +1,6 @@
 -- WHAT A BRANCH CAN'T TOUCH (02, 112): after any list of calls, each made while b or a descendant of it is current, the records of those who were present and are
 -- neither in the branch of b nor above b are bit for bit the same, and those above b differ at most in open bits and region bytes.
 use mathlib.Core.Path.{_≡_, refl, ap, sym, subst, _∙_}
-use mathlib.Core.Bool.{Bool, true}
 use mathlib.Core.List.{List, [], _∷_}
 use Prim.Native.Nat.{ℕ, _+_, _<_}
 use native.Mathlib.Decide.{ℕ-discrete}
@@ -10,23 +9,21 @@ use Rattle.loops.specs.Loops.{Reaches, at-root, by-step}
 use Rattle.words.specs.Kind.{fieldsIn}
 use Rattle.words.specs.Words.{call}
 use Rattle.shapes.specs.declared.Board.{Board}
-use Rattle.tables.specs.State.{Opt, none, some, Entry, K, Table}
+use Rattle.tables.specs.State.{Opt, Entry, K, Table}
 use Rattle.tables.specs.View.{recordWord, view}
-use Rattle.tables.specs.Encode.{slotWord, partWord, Canon}
+use Rattle.tables.specs.Encode.{slotWord, partWord}
 use Rattle.tables.specs.Laws.Encode.{part-ext, part-low}
 use Rattle.tables.specs.Laws.Spelling.{area-word, blank-word, slot-word, canon-record, canon-slot}
 use Rattle.tables.specs.Laws.Back.{view-encode}
-use Rattle.tables.specs.Settle.{keep}
+use Rattle.tables.specs.Laws.Kept.{keep-same}
 use Rattle.sound.specs.Sound.{Present}
 use Rattle.sound.specs.Core.{Core}
-use Rattle.sound.specs.Laws.Canonical.{sound-canon}
 use Rattle.sound.specs.Properties.{Above, itself, higher}
 use Rattle.sound.specs.Whole.{Right}
-use Rattle.sound.specs.Laws.Whole.{sound-right}
 use Rattle.rules.specs.Branch.{Under, itself as is-top, below}
 use Rattle.rules.specs.Rules.{Result, done, refused, callOn, wordsAfter}
-use Rattle.isolation.specs.Laws.Fits.{Good, right-fit}
-use Rattle.isolation.specs.Whole.{served, afterAll, after-good, call-right, call-good}
+use Rattle.isolation.specs.Laws.Fits.{Good, right-fit, good-canon, good-right}
+use Rattle.isolation.specs.Whole.{served, afterAll, after-good, call-right, next-good}
 use Rattle.untouched.specs.Untouched.{Within, Outside, Beside, Higher, Untouched}
 use Rattle.untouched.specs.Laws.Frame.{Alike, above-outside, outside-stays, beside-stays, opened-same}
 use Rattle.untouched.specs.Laws.Served.{Step, serve-step}
@@ -43,11 +40,6 @@ pub record Left (b : ℕ) (t new : Table) : Type 0 where
   pub beside : (p : ℕ) → Beside (t .k) b p → Beside (new .k) b p × SameRecord t new p
 
 -- ── one call ──
-keep-all : (o : ℕ → Bool) (x : Opt ℕ) → ((i : ℕ) → x ≡ some i → o i ≡ true) → keep o x ≡ x
-unfolding keep
-keep-all o none f = refl
-keep-all o (some i) f = rw (f i refl) refl
-
 step-left : {b : ℕ} {t new : Table} → Right t → Right new → (b ≡ 0 → ⊥) → Present (t .k) b → Step b t new → Left b t new
 step-left {b} {t} {new} h g other home s = record {
   outside = λ p o. (outside-stays (h .core) other home (s .frame) o, s .frame .alike p o);
@@ -56,7 +48,7 @@ step-left {b} {t} {new} h g other home s = record {
     record {
       alike = s .frame .alike p (q .outside);
       opened = bits p q;
-      region = λ r. s .regions p r (q .outside) ∙ keep-all (new .opened p) (t .region p r) (λ i u. bits p q i ∙ h .s10 p .names r i u .1);
+      region = λ r. s .regions p r (q .outside) ∙ keep-same (new .opened p) (t .region p r) (λ i u. bits p q i ∙ h .s10 p .names r i u .1);
     },
   );
 }
@@ -114,7 +106,7 @@ module _ {b : ℕ} where
   call-left {board} {l} g w u = one (callOn board l w) refl (ℕ-discrete b 0)
     where
       right : Right (view l)
-      right = sound-right (sound-canon (g .small) (g .sound)) (g .sound)
+      right = good-right g
 
       one : (r : Result) → callOn board l w ≡ r → Dec (b ≡ 0) → Left b (view l) (view (wordsAfter l r))
       one (refused n) z d = left-same
@@ -126,25 +118,11 @@ module _ {b : ℕ} where
 
   -- THE THEOREM, of the tables
   pub after-left : {board : Board} {l : List ℕ} → Good board l → (ws : List ℕ) → Within board b l ws → Left b (view l) (view (afterAll board l ws))
-  unfolding Within afterAll wordsAfter
+  unfolding Within afterAll
   after-left g [] h = left-same
-  after-left {board} {l} g (w ∷ ws) (u, h) = left-on (call-left g w u) (after-left (next (callOn board l w) refl) ws h)
-    where
-      next : (r : Result) → callOn board l w ≡ r → Good board (wordsAfter l r)
-      next (done v x new) z = call-good board l w (g .small) z
-      next (refused n) z = g
+  after-left g (w ∷ ws) (u, h) = left-on (call-left g w u) (after-left (next-good g w) ws h)
 
 -- ── of the words ──
-module _ {board : Board} {l : List ℕ} (g : Good board l) where
-  canon : Canon l
-  canon = sound-canon (g .small) (g .sound)
-
-  word-of : (p o : ℕ) → p < 16 → o < 40 → recordWord l p o ≡ partWord (view l) p o
-  word-of p o hp ho = canon-record canon p o hp ho
-
-  slot-of : (p i : ℕ) → p < 16 → i < 32 → recordWord l p (8 + i) ≡ slotWord (view l .k .slot p i) (view l .opened p i)
-  slot-of p i hp hi = canon-slot canon p i hp hi
-
 -- a record that is the same has the same words
 same-words : {t new : Table} (p o : ℕ) → SameRecord t new p → partWord new p o ≡ partWord t p o
 same-words {t} {new} p o s = part-ext t new p o (s .alike .parent) (s .alike .area) (λ x r. s .region r x) (s .alike .slot) (s .opened)
@@ -165,7 +143,7 @@ module _ {board : Board} (l ws : List ℕ) (b : ℕ) (g : Good board l) (calls :
   higher-alike p q = go ws calls left
     where
       right : Right (view l)
-      right = sound-right (sound-canon (g .small) (g .sound)) (g .sound)
+      right = good-right g
 
       outside : Under (view l .k .parent) b (view l .k .current) → Dec (b ≡ 0) → Outside (view l .k) b p
       outside u (yes z) = absurd (q .other (top-only (right .core .s2-root .2) z (q .above) ∙ sym z))
@@ -179,22 +157,22 @@ module _ {board : Board} (l ws : List ℕ) (b : ℕ) (g : Good board l) (calls :
   low : (p o : ℕ) → p < 16 → o < 8 → (o ≡ 5 → ⊥) → Higher (view l .k) b p → {v w : ℕ} → recordWord (afterAll board l ws) p o ≡ v → recordWord l p o ≡ w → v ≡ w
   low p o hp ho n q x y =
       sym x
-      ∙ word-of good-after p o hp (omega arith)
+      ∙ canon-record (good-canon good-after) p o hp (omega arith)
       ∙ part-low (view l) (view (afterAll board l ws)) p o (higher-alike p q .parent) (higher-alike p q .area) ho n
-      ∙ sym (word-of g p o hp (omega arith))
+      ∙ sym (canon-record (good-canon g) p o hp (omega arith))
       ∙ y
 
   -- THE THEOREM, of the words
   pub untouched : Untouched b l (afterAll board l ws)
   untouched = record {
-    beside = λ p o hp ho q. word-of good-after p o hp ho ∙ same-words p o (beside-same p q) ∙ sym (word-of g p o hp ho);
+    beside = λ p o hp ho q. canon-record (good-canon good-after) p o hp ho ∙ same-words p o (beside-same p q) ∙ sym (canon-record (good-canon g) p o hp ho);
     higher-areas = λ p j hp hj q. low p j hp (omega arith) (λ z. omega arith) q (area-word (afterAll board l ws) p j) (area-word l p j);
     higher-blanks = λ p o hp ho q. low p (6 + o) hp (omega arith) (λ z. omega arith) q (blank-word (afterAll board l ws) p o) (blank-word l p o);
     higher-slots = λ p i hp hi q. record {
       entry = view l .k .slot p i;
       was = view l .opened p i;
       is = view (afterAll board l ws) .opened p i;
-      before-is = sym (slot-word l p i) ∙ slot-of g p i hp hi;
-      after-is = sym (slot-word (afterAll board l ws) p i) ∙ slot-of good-after p i hp hi ∙ ap (λ (x : Opt Entry). slotWord x (view (afterAll board l ws) .opened p i)) (higher-alike p q .slot i);
+      before-is = sym (slot-word l p i) ∙ canon-slot (good-canon g) p i hp hi;
+      after-is = sym (slot-word (afterAll board l ws) p i) ∙ canon-slot (good-canon good-after) p i hp hi ∙ ap (λ (x : Opt Entry). slotWord x (view (afterAll board l ws) .opened p i)) (higher-alike p q .slot i);
     };
   }

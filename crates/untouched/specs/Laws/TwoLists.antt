@@ -19,17 +19,15 @@ use Rattle.tables.specs.Search.{lowest, holds, holdsAt}
 use Rattle.tables.specs.declared.Outcome.the-variants.{Done}
 use Rattle.sound.specs.Sound.{Present}
 use Rattle.sound.specs.Clauses.{sound}
-use Rattle.sound.specs.Laws.Canonical.{sound-canon}
 use Rattle.sound.specs.Whole.{Right}
 use Rattle.sound.specs.Laws.List.{sound-means}
-use Rattle.sound.specs.Laws.Whole.{sound-right}
 use Rattle.rules.specs.Rules.{Result, check, need, ownOrChild, regionWord, readRegion, find, known, perform, serve, callOn}
 use Rattle.rules.specs.Ran.{outcomeOf}
 use Rattle.rules.specs.Calls.{callerOf}
 use Rattle.rules.specs.Laws.Calls.{call-as}
 use Rattle.rules.specs.Laws.Each.{perform-at}
 use Rattle.sound.specs.Laws.Sound.{few-all}
-use Rattle.isolation.specs.Laws.Fits.{Good, right-fit, right-good}
+use Rattle.isolation.specs.Laws.Fits.{Good, right-fit, right-good, good-right}
 use Rattle.isolation.specs.Whole.{Reads, afterAll, after-good}
 use Rattle.untouched.specs.Untouched.{Within, Beside, turnedTo, SameAnswers, BranchWords}
 use Rattle.untouched.specs.Laws.Theorem.{untouched, beside-same}
@@ -128,7 +126,7 @@ module _ {t u : Table} {p : ℕ} (s : Sees t u p) where
 -- so are the words of a table in which p is made current, and p is their caller
 module _ {board : Board} {l : List ℕ} (p : ℕ) (g : Good board l) (v : Present (view l .k) p) where
   pub turned : Right (putCurrent (view l) p)
-  turned = turned-right (sound-right (sound-canon (g .small) (g .sound)) (g .sound)) v
+  turned = turned-right (good-right g) v
 
   -- .. which keeps the limit of pieces: neither slots nor regions change
   pub turned-good : Good board (turnedTo p l)

@@ -10,6 +10,7 @@ use Rattle.words.specs.declared.slot_word.SlotFields.{SlotFields}
 use Rattle.tables.specs.State.{Opt, none, some, Entry, Table}
 use Rattle.tables.specs.View.{entryIn, view}
 use Rattle.tables.specs.Seen.{Seen}
+use Rattle.tables.specs.Laws.Seen.{entry-none}
 use Rattle.tables.specs.Search.{child}
 use Rattle.tables.specs.Settle.{openBit, openAt}
 use Rattle.settling.specs.Areas.{AreasOf, clearOf}
@@ -49,10 +50,8 @@ given-empty h i a b = rw (h .empty i a b) refl
 -- ── open bits ──
 module _ {l : List ℕ} {p i : ℕ} {f : SlotFields} (v : Seen l p i f) where
   pub open-empty : Shaped l → p < 16 → i < 32 → f .present ≡ false → true ≡ openSlot (view l) p i
-  unfolding openSlot openAt openBit entryIn
-  open-empty shaped a b u =
-      let w : view l .k .slot p i ≡ none = v .slot ∙ rw u refl in
-      rw (w, empty-closed shaped a i b w) refl
+  unfolding openSlot openAt openBit
+  open-empty shaped a b u = let w = entry-none v u in rw (w, empty-closed shaped a i b w) refl
 
   pub open-there : {n : ℕ} {s e : List ℕ} {x : Bool} → AreasOf (view l .k) n s e → f .present ≡ true → x ≡ clearOf n s e (f .start .0) (f .end .0) → Bool·beq (f .opened) x ≡ openSlot (view l) p i
   unfolding openSlot openAt openBit entryIn

@@ -2,7 +2,7 @@
 use mathlib.Core.Path.{_≡_, refl, sym, _∙_}
 use mathlib.Core.Bool.{Bool, true, false, not, _&&_}
 use mathlib.Core.List.{List}
-use Prim.Native.Nat.{ℕ, zero, suc, _+_, _<_}
+use Prim.Native.Nat.{ℕ, zero, _+_, _<_}
 use native.Mathlib.Omega.{arith}
 use borrow.Author.Tests.{not-true, not-false}
 use Rattle.loops.specs.Loops.{all}
@@ -14,6 +14,7 @@ use Rattle.tables.specs.View.{areaWordAt}
 use Rattle.sound.specs.Clauses.{s3, s4Area, s4Absent, s4}
 use Rattle.sound.specs.Laws.Tests.{and-says, and-true}
 use Rattle.shape.specs.Records.{headerTest, structureTest}
+use Rattle.shape.specs.Laws.Records.{each-area}
 
 module _ (l : List ℕ) (k : K) (p : ℕ) (clean : s3 l p ≡ true) where
   -- no zero bit is set in the header and in the structures
@@ -39,7 +40,7 @@ module _ (l : List ℕ) (k : K) (p : ℕ) (clean : s3 l p ≡ true) where
       let (uv, w) = and-says (zeroed structure (areaWordAt l p (1 + j)) && s4Area k p (1 + j)) (s4Absent l k p j) (all-at 4 (structureTest l k p) y j b) in
       (and-says (zeroed structure (areaWordAt l p (1 + j))) (s4Area k p (1 + j)) uv .1, w) in
       and-true _ _
-      (all-of 5 (s4Area k p) (area (and-says (zeroed header (areaWordAt l p 0)) (s4Area k p 0) x .1) (λ j b. at j b .0)))
+      (all-of 5 (s4Area k p) (each-area (s4Area k p) (and-says (zeroed header (areaWordAt l p 0)) (s4Area k p 0) x .1) (λ j b. at j b .0)))
       (all-of 4 (s4Absent l k p) (λ j b. at j b .1)))
       (λ q.
       let (x, y) = and-says (all 5 (s4Area k p)) (all 4 (s4Absent l k p)) q in
@@ -47,10 +48,6 @@ module _ (l : List ℕ) (k : K) (p : ℕ) (clean : s3 l p ≡ true) where
       (and-true _ _ (bits .head) (all-at 5 (s4Area k p) x 0 (omega arith)))
       (all-of 4 (structureTest l k p) (λ j b.
       and-true _ _ (and-true _ _ (bits .each j b) (all-at 5 (s4Area k p) x (1 + j) (omega arith))) (all-at 4 (s4Absent l k p) y j b))))
-    where
-      area : s4Area k p 0 ≡ true → ((j : ℕ) → j < 4 → s4Area k p (1 + j) ≡ true) → (j : ℕ) → j < 5 → s4Area k p j ≡ true
-      area h s zero b = h
-      area h s (suc j) b = let q : 1 + j ≡ suc j = omega arith in rw q at (s j (omega arith))
 
   -- ── S4, the header's test first ──
   module _ {h : Bool} (e : h ≡ headerTest l k p) where

@@ -1,4 +1,4 @@
--- One number of a sum, and the tests of `canWrite`.
+-- A sum of zeros but for one number, and the tests of `canWrite`.
 use mathlib.Core.Path.{_≡_, refl, sym}
 use mathlib.Core.Bool.{Bool, true, false, cond, true≢false}
 use Prim.Native.Nat.{ℕ, zero, suc, _≤_, _<_}
@@ -6,17 +6,7 @@ use native.Mathlib.Decide.{ℕ-discrete}
 use native.Mathlib.Omega.{arith}
 use Rattle.loops.specs.Loops.{carried, sum}
 
--- a sum is no less than one of its numbers
-pub sum-at : (n : ℕ) (f : ℕ → ℕ) (x : ℕ) → x < n → f x ≤ sum n f
-unfolding sum carried
-sum-at zero f x b = omega arith
-sum-at (suc n) f x b = go (ℕ-discrete x n) (sum-at n f x)
-  where
-    go : Dec (x ≡ n) → (x < n → f x ≤ sum n f) → f x ≤ sum (suc n) f
-    go (yes q) h = rw q (omega arith)
-    go (no q) h = omega (arith, h (omega (arith, q)))
-
--- of zeros
+-- a sum of zeros
 sum-zero : (n : ℕ) (f : ℕ → ℕ) → ((k : ℕ) → k < n → f k ≡ 0) → sum n f ≡ 0
 unfolding sum carried
 sum-zero zero f h = refl

@@ -1,6 +1,6 @@
 -- src/region_services.rt, in_another: b ≡ inAnother (view t) (p .0) (s .0) r q
 use borrow.Author.Tests.{not-true, not-false}
-use Rattle.blocks.specs.Laws.RegionExits.{region-none, region-some, another-same, another-none, another-some}
+use Rattle.services.specs.Laws.RegionExits.{region-none, region-some, another-same, another-none, another-some}
 use borrow.Author.Needs.{needs}
 use Rattle.services.proofs.region_services.in_another.Statement.{statement}
 use Rattle.services.proofs.region_services.in_another.Tie as tie

@@ -1,10 +1,11 @@
 -- src/region_services.rt, load: Ran (load board (view t) (p .0) (s .0) r) t o t′
 use mathlib.Core.Path.{sym, _∙_}
 use borrow.Author.Tests.{not-true, not-false}
+use Rattle.tables.specs.Laws.Seen.{entry-none, entry-there}
 use Rattle.sound.specs.Laws.Settled.{load-settled, settled-words}
 use Rattle.rules.specs.Rules.{load}
 use Rattle.rules.specs.Laws.Ran.{ran-refused, ran-done, pass, fail, there, missing}
-use Rattle.blocks.specs.Laws.RegionExits.{entry-none, entry-there, load-high, load-twice, load-many, load-done}
+use Rattle.services.specs.Laws.RegionExits.{load-high, load-twice, load-many, load-done}
 use native.Mathlib.Omega.{arith}
 use Rattle.services.proofs.region_services.load.Statement.{statement}
 use Rattle.services.proofs.region_services.load.Tie as tie

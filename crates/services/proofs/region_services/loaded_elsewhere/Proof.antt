@@ -5,7 +5,7 @@ use Rattle.loops.specs.Laws.Every.{Missing}
 use Rattle.loops.specs.Laws.Scan.{seek-start, seek-hit, seek-on, seek-end}
 use Rattle.tables.specs.View.{view}
 use Rattle.rules.specs.Rules.{elsewhere}
-use Rattle.blocks.specs.RegionExits.{inAnother}
+use Rattle.services.specs.RegionExits.{inAnother}
 use native.Mathlib.Omega.{arith}
 use borrow.Author.Needs.{needs}
 use Rattle.services.proofs.region_services.loaded_elsewhere.Statement.{statement}

@@ -4,7 +4,7 @@ use borrow.Author.Tests.{not-true, not-false}
 use Rattle.sound.specs.Laws.Settled.{unload-settled, settled-words}
 use Rattle.rules.specs.Rules.{unload}
 use Rattle.rules.specs.Laws.Ran.{ran-refused, ran-done, pass, fail}
-use Rattle.blocks.specs.Laws.RegionExits.{region-high, region-low}
+use Rattle.services.specs.Laws.RegionExits.{region-high, region-low}
 use native.Mathlib.Omega.{arith}
 use borrow.Author.Needs.{needs}
 use Rattle.services.proofs.region_services.unload.Statement.{statement}

@@ -1,5 +1,5 @@
--- The services of regions: the region and the entry that were read are those of the table; and the exits of load.
-use mathlib.Core.Path.{_≡_, refl, ap, sym, _∙_}
+-- The services of regions: the region that was read is that of the table; and the exits of load.
+use mathlib.Core.Path.{_≡_, refl, sym, _∙_}
 use mathlib.Core.Bool.{true, false, not, _&&_}
 use mathlib.Core.List.{List}
 use Prim.Native.Nat.{ℕ, _≤_, _<_}
@@ -11,16 +11,17 @@ use Rattle.words.specs.declared.regions_word.RegionsFields.{RegionsFields}
 use Rattle.words.specs.declared.slot_word.SlotFields.{SlotFields}
 use Rattle.shapes.specs.declared.Board.{Board}
 use Rattle.tables.specs.State.{none, some, Table}
-use Rattle.tables.specs.View.{view, nthRegion, named, entryOf, entryIn}
+use Rattle.tables.specs.View.{view, nthRegion, named}
 use Rattle.tables.specs.Update.{upd}
 use Rattle.tables.specs.Encode.{slotWord}
 use Rattle.tables.specs.Seen.{Seen, SeenRegions}
+use Rattle.tables.specs.Laws.Seen.{entry-there, see-region}
 use Rattle.tables.specs.Settle.{settle}
 use Rattle.sound.specs.Limit.{loadedPieces}
 use Rattle.sound.specs.Clauses.{has}
 use Rattle.rules.specs.Rules.{Result, done, refused, check, ownOrChild, elsewhere, load, regionWord}
 use Rattle.rules.specs.Laws.Ran.{pass, fail, there}
-use Rattle.blocks.specs.RegionExits.{inAnother}
+use Rattle.services.specs.RegionExits.{inAnother}
 
 -- ── the number of a region ──
 pub region-high : (r : ℕ) → 7 < r → ltb r 8 ≡ false
@@ -34,16 +35,13 @@ module _ {l : List ℕ} {p : ℕ} {f : RegionsFields} {x : Region} (v : SeenRegi
   pub region-small : x .slot .0 < 32
   region-small = rw is (v .small r)
 
-  seen : view l .region p r ≡ named x
-  seen = v .region r h ∙ ap named (sym is)
-
   pub region-none : x .loaded ≡ false → view l .region p r ≡ none
   unfolding named
-  region-none q = seen ∙ rw q refl
+  region-none q = see-region v h is ∙ rw q refl
 
   pub region-some : x .loaded ≡ true → view l .region p r ≡ some (x .slot .0)
   unfolding named
-  region-some q = seen ∙ rw q refl
+  region-some q = see-region v h is ∙ rw q refl
 
   pub word-none : x .loaded ≡ false → regionWord (view l) p (view l .region p r) ≡ 0
   unfolding regionWord
@@ -65,16 +63,6 @@ another-none t p s r q z e = rw (ne-eqb q r z, e) refl
 pub another-some : (t : Table) (p s r q : ℕ) {i : ℕ} → (q ≡ r → ⊥) → t .region p q ≡ some i → eqb i s ≡ inAnother t p s r q
 unfolding inAnother has
 another-some t p s r q z e = rw (ne-eqb q r z, e) refl
-
--- ── the entry f that was read ──
-module _ {l : List ℕ} {p s : ℕ} {f : SlotFields} (v : Seen l p s f) where
-  pub entry-none : f .present ≡ false → view l .k .slot p s ≡ none
-  unfolding entryIn
-  entry-none q = v .slot ∙ rw q refl
-
-  pub entry-there : f .present ≡ true → view l .k .slot p s ≡ some (entryOf f)
-  unfolding entryIn
-  entry-there q = v .slot ∙ rw q refl
 
 -- ── load: the checks before 16 pass ──
 module _ (board : Board) {l : List ℕ} {p s : ℕ} {f : SlotFields} (own : ownOrChild (view l .k) p ≡ true) (v : Seen l p s f) (q : f .present ≡ true) (o : f .opened ≡ true) (r : ℕ) where
