@@ -12,7 +12,7 @@ use Rattle.sound.specs.Clauses.{sound}
 use Rattle.sound.specs.Sound.{Present}
 use Rattle.face.specs.Face.{handed}
 use Rattle.pairs.specs.Pair.{Readable, writes}
-use Rattle.pairs.specs.Exactly.{registers, Written}
+use Rattle.pairs.specs.Exactly.{registers, WrittenByEntry}
 use Rattle.pairs.specs.declared.PairWritten.the-variants.{Pair}
 use Rattle.board8.specs.Regions.{WriteLent, ReadLent}
 
@@ -31,7 +31,7 @@ pub record Writing (bytes : List ℕ) (p s rbar rlar r rbar′ rlar′ : ℕ) : 
 
 -- reading back: 22 exactly where no readable entry writes the pair, and then nothing is written; else the word of the entry that does
 pub record Reading (rbar rlar word r word′ : ℕ) : Type 0 where
-  pub refused : (r ≡ 22) ↔ (Written rbar rlar → ⊥)
+  pub refused : (r ≡ 22) ↔ (WrittenByEntry rbar rlar → ⊥)
   pub stays : r ≡ 22 → word′ ≡ word
   pub told : (r ≡ 22 → ⊥) → (r ≡ 0) × ((e : Entry) × Readable e × (e .given ≡ 0) × (e .whole ≡ false) × (word′ ≡ slotWord (some e) true) × (writes e ≡ Pair (registers rbar rlar)))
 

@@ -153,7 +153,7 @@ pub data LooksAt (t : List ℕ) (m p : ℕ) : ℕ → Type 0 where
   not-found : ((i : ℕ) → i < 32 → (e : Entry) × (view t .k .slot p i ≡ some e) × In m e → ⊥) → LooksAt t m p 32
 
 -- the sum of such searches, one for each of these names
-pub record Looked (t : List ℕ) (m : ℕ) (names : List ℕ) (sum : ℕ) : Type 0 where
+pub record LooksSummed (t : List ℕ) (m : ℕ) (names : List ℕ) (sum : ℕ) : Type 0 where
   pub words : ℕ → ℕ
   pub looks : (p : ℕ) → LooksAt t m p (words p)
   pub sum-is : sum ≡ sumOver words names
@@ -167,7 +167,7 @@ pub record HoldersWritten (t : List ℕ) (m : ℕ) (Holder : ℕ → Type 0) (up
   pub only : (hs : List ℕ) → Lists Holder up hs → hs ≡ names
   pub number-is : number ≡ length names
   pub bytes : after ≡ namesOver names list
-  pub looked : Looked t m names second
+  pub looked : LooksSummed t m names second
 
 -- the runs, written into a list: likewise
 pub record RunsWritten (Runs : List Run → Type 0) (list : List Run) (number : ℕ) (after : List Run) : Type 0 where

@@ -26,7 +26,7 @@ abbrev pub IsSheet : List ℕ → List ℕ → Type 0
 IsSheet b s = s ≡ sheetBytes (sheetOf (view (handed b)))
 
 -- what C reads of partition p in the two words of a sheet: the fields, or, of an absent partition, zero words
-pub record Pair (t : Table) (p first second : ℕ) : Type 0 where
+pub record SheetPair (t : Table) (p first second : ℕ) : Type 0 where
   pub present : Present (t .k) p → (reading masks first ≡ MasksAre (masksOf (t .k) p)) × (reading lines second ≡ LinesAre (linesFor t p))
   pub absent : t .k .area p 0 ≡ none → (first ≡ 0) × (second ≡ 0)
 
@@ -68,7 +68,7 @@ pub record SheetDemand (board : Board) : Type 0 where
   pub kept : {b s : List ℕ} {w v r : ℕ} {c s′ : List ℕ} {v′ : ℕ} → Bytes b → Bytes s → CallSheetLent board b s w v r c s′ v′ → Accepted r
       → (p : ℕ) → p < 16 → ((n : ℕ) → n < 320 → recordByte c p n ≡ recordByte b p n) → (n : ℕ) → n < 16 → getD s′ (16 * p + n) 0 ≡ getD s (16 * p + n) 0
   -- what is read of each partition of a sound table
-  pub pairs : (b : List ℕ) {s : List ℕ} → Bytes b → Sound board (handed b) → IsSheet b s → (p : ℕ) → p < 16 → Pair (view (handed b)) p (wordAt s (2 * p)) (wordAt s (2 * p + 1))
+  pub pairs : (b : List ℕ) {s : List ℕ} → Bytes b → Sound board (handed b) → IsSheet b s → (p : ℕ) → p < 16 → SheetPair (view (handed b)) p (wordAt s (2 * p)) (wordAt s (2 * p + 1))
   -- after any list of calls from an accepted boot
   pub session : (base end : ℕ) {b s : List ℕ} {r : ℕ} {c s′ : List ℕ} → BootSheetLent b s base end r c s′ → Accepted r → {ws d u : List ℕ} → CalledBeside board c s′ ws d u
       → KeptBeside board base end d u

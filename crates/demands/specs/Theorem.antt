@@ -24,7 +24,7 @@ use Rattle.ledger.specs.Laws.LedgerRuns.{runs-demand}
 use Rattle.face.specs.Face.{handed, bytesAfter}
 use Rattle.demands.specs.Demands.{BootLent, firstIn, Accepted, Answered, Changed, Called, Tells, DemandOne, DemandTwo, DemandThree}
 use Rattle.demands.specs.Laws.Rising.{boot-rises}
-use Rattle.demands.specs.Laws.Results.{reads-back, answered, accepted-done}
+use Rattle.demands.specs.Laws.Results.{reads-back, result-answered, accepted-done}
 use Rattle.demands.specs.Laws.Calls.{handed-small, handed-of, changed, call-answered, call-caller, call-changed, called}
 use Rattle.demands.specs.Laws.Written.{holders-answered, holders-written, runs-answered, runs-written, tells}
 
@@ -33,7 +33,7 @@ module _ (base end : ℕ) {b : List ℕ} {r : ℕ} {c : List ℕ} (h : BootLent 
   pub boot-answered : Answered (bootLadder (handed b) base end) r (c ≡ b)
   unfolding bytesAfter
   boot-answered =
-      answered (boot-rises (handed b) base end) (omega arith) (bootOn (handed b) base end) (boot-exact (handed b) base end) (h .result)
+      result-answered (boot-rises (handed b) base end) (omega arith) (bootOn (handed b) base end) (boot-exact (handed b) base end) (h .result)
       (λ n z. h .bytes ∙ ap (bytesAfter b) z)
 
   -- an accepted one

@@ -14,8 +14,8 @@ abbrev pub registers : ℕ → ℕ → Registers
 registers rbar rlar = record { rbar = rbar; rlar = rlar }
 
 -- the pair is one that a readable entry writes
-abbrev pub Written : ℕ → ℕ → Type 0
-Written rbar rlar = (e : Entry) × Readable e × (writes e ≡ Pair (registers rbar rlar))
+abbrev pub WrittenByEntry : ℕ → ℕ → Type 0
+WrittenByEntry rbar rlar = (e : Entry) × Readable e × (writes e ≡ Pair (registers rbar rlar))
 
 pub record Pairs : Type 0 where
   -- what was written reads back: the same range and rights, and of an entry that is neither given nor whole its own word
@@ -27,6 +27,6 @@ pub record Pairs : Type 0 where
   -- writing gives "22 for an entry without the read right": an entry of a sound table has lines, below 2 ^ 27
   pub unread : (e : Entry) → e .start < e .stop → e .stop < 2 ^ 27 → (writes e ≡ Refused 22) ↔ (e .rights .read ≡ false)
   -- reading back gives "22 for exactly those pairs that no readable entry writes"
-  pub unwritten : (rbar rlar : ℕ) → rbar < 2 ^ 32 → rlar < 2 ^ 32 → (reads rbar rlar ≡ NotWritten 22) ↔ (Written rbar rlar → ⊥)
+  pub unwritten : (rbar rlar : ℕ) → rbar < 2 ^ 32 → rlar < 2 ^ 32 → (reads rbar rlar ≡ NotWritten 22) ↔ (WrittenByEntry rbar rlar → ⊥)
   -- lines 288 to 512, read and write: f000001200000400
   pub printed : writes (entry 288 512 0 (record { read = true; write = true; execute = false }) false) ≡ Pair (registers 0x2403 0x3fe1)

@@ -11,7 +11,7 @@ use words::Partition;
 // lowest partition where it fails; or "length".
 
 // A line of text with its end: the first len bytes. The longest is that of S11 at partition 15.
-pub struct Line {
+pub struct TextLine {
     pub bytes: [u8; 8],
     pub len: usize,
 }
@@ -24,29 +24,29 @@ fn digit(n: u32) -> u8
 }
 
 // S, the clause, a space and the partition: each number has a digit, or a 1 and a digit.
-fn of_clause(n: u32, p: Partition) -> Line
+fn of_clause(n: u32, p: Partition) -> TextLine
     requires { ⌜ (n < 12) × (p .0 < 16) ⌝ }
     ensures { λ r. ⌜ take (r .len) (r .bytes) ≡ printedLine (Fails n p) ⌝ }
 {
     if n < 10 {
         if p.0 < 10 {
-            return Line {
+            return TextLine {
                 bytes: [b'S', digit(n), b' ', digit(p.0), b'\n', 0, 0, 0],
                 len: 5,
             };
         }
-        return Line {
+        return TextLine {
             bytes: [b'S', digit(n), b' ', b'1', digit(p.0 - 10), b'\n', 0, 0],
             len: 6,
         };
     }
     if p.0 < 10 {
-        return Line {
+        return TextLine {
             bytes: [b'S', b'1', digit(n - 10), b' ', digit(p.0), b'\n', 0, 0],
             len: 6,
         };
     }
-    Line {
+    TextLine {
         bytes: [
             b'S',
             b'1',
@@ -61,17 +61,17 @@ fn of_clause(n: u32, p: Partition) -> Line
     }
 }
 
-pub fn of_verdict(v: Verdict) -> Line
+pub fn of_verdict(v: Verdict) -> TextLine
     requires { ⌜ ClauseNamed v ⌝ }
     ensures { λ r. ⌜ take (r .len) (r .bytes) ≡ printedLine v ⌝ }
 {
     match v {
-        Verdict::Accepted => Line {
+        Verdict::Accepted => TextLine {
             bytes: [b's', b'o', b'u', b'n', b'd', b'\n', 0, 0],
             len: 6,
         },
         Verdict::Fails(n, p) => of_clause(n, p),
-        Verdict::Length => Line {
+        Verdict::Length => TextLine {
             bytes: [b'l', b'e', b'n', b'g', b't', b'h', b'\n', 0],
             len: 7,
         },

@@ -17,11 +17,11 @@ use Rattle.runs.specs.Marks.{marksOver}
 abbrev pub refusal : ℕ → Plan
 refusal why = record { number = 0; outcome = Refused why }
 
-abbrev pub writing : K → Plan
-writing k = record { number = length (runsOf k); outcome = Done (length (runsOf k)) 0 }
+abbrev pub writingRuns : K → Plan
+writingRuns k = record { number = length (runsOf k); outcome = Done (length (runsOf k)) 0 }
 
 unfoldable pub planOf : Board → List ℕ → ℕ → Plan
-planOf b t size = cond (sound b t) (cond (leb (length (runsOf (view t .k))) size) (writing (view t .k)) (refusal 17)) (refusal 1)
+planOf b t size = cond (sound b t) (cond (leb (length (runsOf (view t .k))) size) (writingRuns (view t .k)) (refusal 17)) (refusal 1)
 
 -- the marks of a sound table, over its words
 unfoldable pub marksIn : Board → List ℕ → List ℕ

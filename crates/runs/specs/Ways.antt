@@ -7,7 +7,7 @@ use Rattle.words.specs.Kinds.{lineIn, holderIn}
 use Rattle.words.specs.declared.Written.{Written}
 use Rattle.words.specs.declared.Written.the-variants.{Word, Refused}
 use Rattle.tables.specs.State.{K}
-use Rattle.runs.specs.declared.pieces.Piece.{Piece}
+use Rattle.runs.specs.declared.pieces.PieceEnd.{PieceEnd}
 use Rattle.runs.specs.Runs.{deepestAt}
 use Rattle.runs.specs.Pieces.{pieceEnd, Descent}
 use Rattle.runs.specs.Places.{Passed}
@@ -58,7 +58,7 @@ pub record Standing (k : K) (o : List ℕ) (l d : ℕ) (s w : List ℕ) : Type 0
   pub way : Way k l d w
 
 -- after it
-pub record Pieced (k : K) (o : List ℕ) (l : ℕ) (r : Piece) (s w : List ℕ) : Type 0 where
+pub record Pieced (k : K) (o : List ℕ) (l : ℕ) (r : PieceEnd) (s w : List ℕ) : Type 0 where
   pub end : r .end .0 ≡ pieceEnd k l
   pub deepest : r .deepest .0 ≡ deepestAt k l
   pub small : r .deepest .0 < 16

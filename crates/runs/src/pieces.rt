@@ -19,7 +19,7 @@ pub struct Hop {
 }
 
 // Where a piece ends, its deepest holder, and how many steps below the root that is.
-pub struct Piece {
+pub struct PieceEnd {
     pub end: Line,
     pub deepest: Partition,
     pub depth: usize,
@@ -80,7 +80,7 @@ pub fn piece_at(
     way: &mut [u32; 16],
     depth: usize,
     l: Line,
-) -> Piece
+) -> PieceEnd
     requires { ⌜ Core (view (now t) .k) × AllInOrder (view (now t) .k) (now order) × Standing (view (now t) .k) (now order) (l .0) depth (now places) (now way) ⌝ }
     ensures { λ r. ⌜ Pieced (view (now (t .entry)) .k) (now (order .entry)) (l .0) r (now (places .exit)) (now (way .exit)) ⌝ }
 {
@@ -94,7 +94,7 @@ pub fn piece_at(
         end = lower(end, e);
         let q = h.heir;
         if q.0 == 0 {
-            return Piece {
+            return PieceEnd {
                 end: end,
                 deepest: p,
                 depth: d,
@@ -104,7 +104,7 @@ pub fn piece_at(
         d += 1;
         way[d] = mark_of(end, q);
     }
-    Piece {
+    PieceEnd {
         end: end,
         deepest: p,
         depth: d,

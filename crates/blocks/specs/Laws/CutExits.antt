@@ -66,9 +66,9 @@ module _ {l : List ℕ} {s k : ℕ} {f : SlotFields} (h : CanCut l s k f) where
     split-ruled n = ap₂ (λ (g : ℕ → ℕ → Opt Entry) (r : ℕ → ℕ → Opt ℕ). settle (withSlot (view l .k) (upd g c n (some (startingAt (entryOf f) k)))) r)
         (upd-twice (view l .k .slot) c s none (some (endingAt (entryOf f) k))) (unloaded-same (right-settled (h .right)) c s)
 
-    pub cut-done : {n : ℕ} {m : List ℕ} → lowest 32 (free (view l .k) c) ≡ some n → f .whole ≡ false → Is m (splitAt (view l) c s n k f) → Ran (cut (view l) s k) l (Done n 0) m
+    pub cut-exit-done : {n : ℕ} {m : List ℕ} → lowest 32 (free (view l .k) c) ≡ some n → f .whole ≡ false → Is m (splitAt (view l) c s n k f) → Ran (cut (view l) s k) l (Done n 0) m
     unfolding cut
-    cut-done {n} {m} z q put =
+    cut-exit-done {n} {m} z q put =
         ran-done (h .entry .rule _ ∙ pass 7 (rw (lt-ltb (f .start .0) k low) (lt-ltb k (f .end .0) high))
         (there 8 _ n (ap (λ (c : ℕ). lowest 32 (free (view l .k) c)) now ∙ z) (pass 18 (ap not q) refl)))
         (subst (λ (c : ℕ). m ≡ encode (ruled c n)) (sym now) (settled-words put (split-settled n) ∙ ap encode (split-ruled n)))

@@ -47,8 +47,8 @@ module _ {l : List ℕ} {c p s : ℕ} {f : SlotFields} (h : CanGive l c p s f) w
         let whole = free-clear (h .right) (h .entry) in
         rw (h .entry .opened) (put-settled (put-settled (right-settled (h .right)) c s (givenTo (entryOf f) p) true whole (λ _. refl)) p n (rangeOf (entryOf f) r w) true whole (λ _. refl))
 
-    pub give-done : {m : List ℕ} → within r (f .rights) ≡ true → f .whole ≡ false → Is m (handedTo (view l) c s p n r w f) → Ran (give (view l) p s r w) l (Done n 0) m
+    pub give-exit-done : {m : List ℕ} → within r (f .rights) ≡ true → f .whole ≡ false → Is m (handedTo (view l) c s p n r w f) → Ran (give (view l) p s r w) l (Done n 0) m
     unfolding give
-    give-done {m} y q put =
+    give-exit-done {m} y q put =
         ran-done (pass 3 (child-now _ _ (h .now) (h .isChild)) (h .entry .rule _ ∙ there 8 _ n z (pass 10 y (pass 18 (ap not q) refl))))
         (subst (λ (c : ℕ). m ≡ encode (settled (handedTo (view l) c s p n r w f))) (sym (h .now)) (settled-words put handed-settled))

@@ -117,7 +117,7 @@ module _ {l : List ℕ} {c s u : ℕ} {e f : SlotFields} (h : CanMerge l c s u e
               ∙ ap (λ (r : ℕ → ℕ → Opt ℕ). unloaded r c (λ i. eqb i u)) (unloaded-same (right-settled (h .right)) c s)
               ∙ unloaded-both (view l .region) c (λ i. eqb i s) (λ i. eqb i u))
 
-          pub merge-done : {r : List ℕ} → Is r (joinedAt (view l) c s u e f) → Ran (merge (view l) s u) l (Done 0 0) r
-          merge-done {r} put =
+          pub merge-exit-done : {r : List ℕ} → Is r (joinedAt (view l) c s u e f) → Ran (merge (view l) s u) l (Done 0 0) r
+          merge-exit-done {r} put =
               ran-done (from-12 (pass 12 (join-now m) refl))
               (subst (λ (c : ℕ). r ≡ encode (ruled c)) (sym (h .now)) (settled-words put (emptied-settled longer-settled c u) ∙ ap encode join-ruled))

@@ -76,8 +76,8 @@ module _ {l : List ℕ} {c s : ℕ} {f : SlotFields} (h : CanTake l c s f) where
       let was = right-settled (h .right) in
       put-settled was c s (givenTo (entryOf f) 0) (f .opened) (entry-clear was {e = entryOf f} (entry-there (h .seen) (h .present)) ∙ h .seen .opened) (λ q. sym (h .seen .opened) ∙ q)
 
-  pub take-done : {i : ℕ} {m r : List ℕ} → lowest 32 (returned (view l) (entryOf f)) ≡ some i → Is m (takenBack (view l) c s i f) → Is r (keepRegions (view m) (f .given .0)) → Ran (take (view l) s) l (Done 0 0) r
+  pub take-exit-done : {i : ℕ} {m r : List ℕ} → lowest 32 (returned (view l) (entryOf f)) ≡ some i → Is m (takenBack (view l) c s i f) → Is r (keepRegions (view m) (f .given .0)) → Ran (take (view l) s) l (Done 0 0) r
   unfolding take
-  take-done {i} {r = r} z put kept =
+  take-exit-done {i} {r = r} z put kept =
       ran-done (there 4 _ _ (entry-there (at-caller (h .now) (h .seen)) (h .present)) (pass 6 (rw (ne-eqb (f .given .0) 0 (h .is-given)) refl) (there 14 _ i z refl)))
       (subst (λ (c : ℕ). r ≡ encode (settled (takenBack (view l) c s i f))) (sym (h .now)) (empty-words own-settled (f .given .0) i put kept))

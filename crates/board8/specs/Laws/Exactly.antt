@@ -8,7 +8,7 @@ use Rattle.words.specs.declared.Written.{Written}
 use Rattle.words.specs.declared.Written.the-variants.{Word, Refused as NotRead}
 use Rattle.shapes.specs.declared.Board.the-variants.{V8}
 use Rattle.tables.specs.State.{Opt, none, some, Entry}
-use Rattle.tables.specs.Laws.State.{same, some-inj, not-none, none-of}
+use Rattle.tables.specs.Laws.State.{same, some-inj, not-none, never-some}
 use Rattle.tables.specs.View.{view, entryIn as slotEntry, slotAt}
 use Rattle.tables.specs.Laws.View.{slot-bounds}
 use Rattle.tables.specs.Laws.Seen.{see}
@@ -31,7 +31,7 @@ module _ (l : List ℕ) (p s : ℕ) (ok : sound V8 l ≡ true) where
   -- an absent partition has none
   absent-none : (Present (view l .k) p → ⊥) → view l .k .slot p s ≡ none
   absent-none n =
-      none-of (view l .k .slot p s)
+      never-some (view l .k .slot p s)
       (λ e at. let core = sound-core l (sound-means V8 l .0 ok) in let (a, u) = core .s5 p s e at in n (core .s2-absent p (1 + s / 8) a u))
 
   module _ (e : Entry) (at : view l .k .slot p s ≡ some e) where
@@ -71,7 +71,7 @@ module _ (bytes : List ℕ) (p s rbar rlar : ℕ) {r rbar′ rlar′ : ℕ} (len
   no-entry ok q = lent .answer ∙ ap writeAnswer (on-sound ok ∙ ap entryPair q)
 
   outside : sound V8 (handed bytes) ≡ true → (p < 16 → s < 32 → ⊥) → r ≡ 4
-  outside ok n = no-entry ok (none-of (view (handed bytes) .k .slot p s) (λ e u. let h = slot-bounds (handed bytes) p s e u in n (h .0) (h .1)))
+  outside ok n = no-entry ok (never-some (view (handed bytes) .k .slot p s) (λ e u. let h = slot-bounds (handed bytes) p s e u in n (h .0) (h .1)))
 
   absent : sound V8 (handed bytes) ≡ true → (Present (view (handed bytes) .k) p → ⊥) → r ≡ 4
   absent ok n = no-entry ok (absent-none (handed bytes) p s ok n)

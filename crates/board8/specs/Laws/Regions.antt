@@ -9,7 +9,7 @@ use Rattle.words.specs.declared.Written.the-variants.{Word, Refused as NotRead}
 use Rattle.words.specs.declared.slot_word.SlotFields.{SlotFields}
 use Rattle.shapes.specs.declared.Board.the-variants.{V8}
 use Rattle.memory.specs.Bytes.{wordsOf}
-use Rattle.tables.specs.Laws.State.{none-of}
+use Rattle.tables.specs.Laws.State.{never-some}
 use Rattle.tables.specs.Laws.View.{slot-bounds}
 use Rattle.tables.specs.View.{view, entryIn}
 use Rattle.tables.specs.Search.{present}
@@ -34,30 +34,30 @@ read-lent-one x y = (x .answer ∙ sym (y .answer), x .word ∙ sym (y .word))
 -- nothing past 16 partitions of 32 slots
 pub no-slot : (l : List ℕ) (p s : ℕ) → (p < 16 → s < 32 → ⊥) → Refused 4 ≡ entryPair (view l .k .slot p s)
 unfolding entryPair
-no-slot l p s n = rw (none-of (view l .k .slot p s) (λ e u. let h = slot-bounds l p s e u in n (h .0) (h .1))) refl
+no-slot l p s n = rw (never-some (view l .k .slot p s) (λ e u. let h = slot-bounds l p s e u in n (h .0) (h .1))) refl
 
 module _ {l : List ℕ} {p i : ℕ} {f : SlotFields} (seen : Seen l p i f) where
-  pub no-entry : f .present ≡ false → Refused 4 ≡ entryPair (view l .k .slot p i)
+  pub no-entry-pair : f .present ≡ false → Refused 4 ≡ entryPair (view l .k .slot p i)
   unfolding entryPair entryIn
-  no-entry q = rw (seen .slot, q) refl
+  no-entry-pair q = rw (seen .slot, q) refl
 
   -- whom it is given to is not told
-  pub is-entry : f .present ≡ true → writes (plain (f .start) (f .end) (f .rights)) ≡ entryPair (view l .k .slot p i)
+  pub is-entry-pair : f .present ≡ true → writes (plain (f .start) (f .end) (f .rights)) ≡ entryPair (view l .k .slot p i)
   unfolding entryPair entryIn writes readable
-  is-entry q = rw (seen .slot, q) refl
+  is-entry-pair q = rw (seen .slot, q) refl
 
 -- ── a table in bytes ──
 module _ (b : List ℕ) (p s : ℕ) where
-  pub not-sound : sound V8 (handed b) ≡ false → Refused 1 ≡ pairOn b p s
+  pub pair-unsound : sound V8 (handed b) ≡ false → Refused 1 ≡ pairOn b p s
   unfolding pairOn
-  not-sound q = rw q refl
+  pair-unsound q = rw q refl
 
   pub other-length : (length b ≡ 5128 → ⊥) → Refused 1 ≡ pairOn b p s
-  other-length h = not-sound (handed-unsound b h V8)
+  other-length h = pair-unsound (handed-unsound b h V8)
 
   module _ (size : length b ≡ 5128) {a : List ℕ} (load : a ≡ wordsOf b) where
     pub unsound-words : sound V8 a ≡ false → Refused 1 ≡ pairOn b p s
-    unsound-words q = not-sound (ap (sound V8) (sym (load ∙ handed-is b size)) ∙ q)
+    unsound-words q = pair-unsound (ap (sound V8) (sym (load ∙ handed-is b size)) ∙ q)
 
     pub sound-words : {r : PairWritten} → sound V8 a ≡ true → r ≡ entryPair (view a .k .slot p s) → r ≡ pairOn b p s
     unfolding pairOn
@@ -67,19 +67,19 @@ module _ (b : List ℕ) (p s : ℕ) where
 
 -- ── what is lent ──
 module _ (table : List ℕ) (p s rbar rlar : ℕ) {o : PairWritten} (e : o ≡ pairOn table p s) where
-  pub wrote : (both : Registers) → o ≡ Pair both → WriteLent table p s rbar rlar 0 (both .rbar) (both .rlar)
+  pub write-lent : (both : Registers) → o ≡ Pair both → WriteLent table p s rbar rlar 0 (both .rbar) (both .rlar)
   unfolding writeAnswer rbarAfter rlarAfter
-  wrote both q = let z = sym e ∙ q in record { answer = rw z refl; base = rw z refl; limit = rw z refl }
+  write-lent both q = let z = sym e ∙ q in record { answer = rw z refl; base = rw z refl; limit = rw z refl }
 
-  pub wrote-not : (n : ℕ) → o ≡ Refused n → WriteLent table p s rbar rlar n rbar rlar
+  pub write-lent-not : (n : ℕ) → o ≡ Refused n → WriteLent table p s rbar rlar n rbar rlar
   unfolding writeAnswer rbarAfter rlarAfter
-  wrote-not n q = let z = sym e ∙ q in record { answer = rw z refl; base = rw z refl; limit = rw z refl }
+  write-lent-not n q = let z = sym e ∙ q in record { answer = rw z refl; base = rw z refl; limit = rw z refl }
 
 module _ (rbar rlar entry : ℕ) {o : Written} (e : o ≡ reads rbar rlar) where
-  pub read : (w : ℕ) → o ≡ Word w → ReadLent rbar rlar entry 0 w
+  pub read-lent : (w : ℕ) → o ≡ Word w → ReadLent rbar rlar entry 0 w
   unfolding readAnswer entryAfter
-  read w q = let z = sym e ∙ q in record { answer = rw z refl; word = rw z refl }
+  read-lent w q = let z = sym e ∙ q in record { answer = rw z refl; word = rw z refl }
 
-  pub read-not : (n : ℕ) → o ≡ NotRead n → ReadLent rbar rlar entry n entry
+  pub read-lent-not : (n : ℕ) → o ≡ NotRead n → ReadLent rbar rlar entry n entry
   unfolding readAnswer entryAfter
-  read-not n q = let z = sym e ∙ q in record { answer = rw z refl; word = rw z refl }
+  read-lent-not n q = let z = sym e ∙ q in record { answer = rw z refl; word = rw z refl }

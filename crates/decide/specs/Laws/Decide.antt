@@ -92,13 +92,13 @@ decided-one x y = let z = x .says ∙ sym (y .says) in (z, λ q. orders-one (x .
 
 module _ (board : Board) (l : List ℕ) where
   -- the sound tables pass each part
-  pub record Parts : Type 0 where
+  pub record PartsPassed : Type 0 where
     pub first : s1 (view l .k) && s3First l ≡ true
     pub shapes : all 16 (shapeAt l) ≡ true
     pub s6 : all 16 (s6 (view l .k)) ≡ true
     pub partitions : all 16 (λ p. s2 l (view l .k) p && restAt board l p) ≡ true
 
-  pub parts : sound board l ≡ true → Parts
+  pub parts : sound board l ≡ true → PartsPassed
   unfolding atOnce shapeAt
   parts q =
       let (r, _) = and-says _ (areasApart (view l .k)) (sound-at-once board l ∙ q) in
@@ -117,7 +117,7 @@ module _ (board : Board) (l : List ℕ) where
   pub not-sound-so : {o c : List ℕ} → (sound board l ≡ true → ⊥) → Decided board l false o c
   not-sound-so h = record { says = never (sound board l) h; orders = λ q. absurd (false≢true q) }
 
-  pub not-sound : {o c : List ℕ} → (Parts → ⊥) → Decided board l false o c
+  pub not-sound : {o c : List ℕ} → (PartsPassed → ⊥) → Decided board l false o c
   not-sound h = not-sound-so (λ q. h (parts q))
 
 -- the records that pass have their shape

@@ -31,7 +31,7 @@ use Rattle.decide.specs.Laws.Entries.{s7-parts}
 use Rattle.marking.specs.Marking.{slotMarked, MarkedTo, MarkSays}
 use Rattle.marking.specs.Laws.Marking.{all-marked}
 use Rattle.decide.specs.Local.{localWhere}
-use Rattle.decide.specs.Laws.Granted.{five, owns, roots, here, SevenSays, given, grants, grants-open}
+use Rattle.decide.specs.Laws.Granted.{five, owns, roots, here, SevenSays, given, shaped-grants, grants-open}
 use Rattle.decide.specs.Laws.Local.{LocalSays, local-says, local-true, where-says, where-true, EntrySays, entry-says, entry-true, grants-open-means}
 use Rattle.decide.specs.Decide.{CanDecide, Decided}
 use Rattle.decide.specs.Laws.Decide.{absent-rest, parts, not-sound-so}
@@ -79,10 +79,10 @@ module _ (board : Board) {l m : List ℕ} (size : length l ≡ 641) (first : s1 
     }
 
     s8s : (p : ℕ) → S8 k p
-    s8s = backed-s8 (λ p j a u n. marks .equal p j a u n .backed) (marked-apart (grants shaped apart seven) (roots shaped) marks)
+    s8s = backed-s8 (λ p j a u n. marks .equal p j a u n .backed) (marked-apart (shaped-grants shaped apart seven) (roots shaped) marks)
 
     s9s : (p : ℕ) → S9 (view l) p
-    s9s = local-s9 (grants shaped apart seven) (roots shaped) slot-few marks opens
+    s9s = local-s9 (shaped-grants shaped apart seven) (roots shaped) slot-few marks opens
 
     eight : (p : ℕ) → (all 5 (s8Backed k p) ≡ true) × (all 5 (s8Apart k p) ≡ true)
     unfolding s8

@@ -65,8 +65,8 @@ module _ {l : List ℕ} (shaped : Shaped l) (apart : all 16 (s6 (view l .k)) ≡
   unfolding exactly
   exact-at p n a = and-says (s7Inside k p) (s7Cover k p) (rw (ne-eqb p 0 n) at (seven p a .exact))
 
-  pub grants : Grants (view l .k)
-  grants = record {
+  pub shaped-grants : Grants (view l .k)
+  shaped-grants = record {
     top = two shaped 0 (omega arith) .root refl .1;
     climbs = λ p a. two shaped p (here l p a .0) .walk a;
     owner = owns shaped;
@@ -85,7 +85,7 @@ module _ {l : List ℕ} (shaped : Shaped l) (apart : all 16 (s6 (view l .k)) ≡
       go : Dec (p ≡ 0) → grantsOpen (view l) p ≡ true
       go (yes z) = root-open l p z
       go (no n) = grants-open-means l p n .1 (λ j f u g.
-          let (a, b) = given-clear grants (roots shaped) (k .parent p) j f u (λ z. n (sym g ∙ z)) in
+          let (a, b) = given-clear shaped-grants (roots shaped) (k .parent p) j f u (λ z. n (sym g ∙ z)) in
           let (c, d) = nine (k .parent p) j f u in (
             λ q i e v o. nine p i e v .1 (a (c q) i e (rw g v) o),
             λ h. d (b (λ i e v o. nine p i e (rw g at v) .0 (h i e (rw g at v) o))),

@@ -33,7 +33,7 @@ use Rattle.decide.specs.Local.{grantsOpen}
 use Rattle.decide.specs.Laws.Local.{grants-open-means}
 use Rattle.shape.specs.AtOnce.{Shaped}
 use Rattle.shape.specs.Laws.AtOnce.{shaped-s2, shaped-record}
-use Rattle.ordering.specs.Laws.Present.{solid}
+use Rattle.ordering.specs.Laws.Present.{record-solid}
 use Rattle.ordering.specs.Order.{linesOf, placed, Orders}
 use Rattle.ordering.specs.Laws.Order.{held-of, lines-of}
 use Rattle.decide.specs.Tiles.{TilePiece, Tiling, GoesOn, rightsNumber, follows, Tiled, fitted, stuck, AllSet, TiledAs, alike, unlike, entryOr, entryAt, rowOf, openedBit, Filled, plainRow, InOrder, ChildOf}
@@ -708,7 +708,7 @@ module _ {l o : List ℕ} {p n : ℕ} (h : InOrder l o p n) (root : p ≡ 0) whe
 -- ── what the walks need, from what is known of the table ──
 module _ {l o c : List ℕ} (shaped : Shaped l) (orders : Orders (view l .k) o c) where
   pub in-order : {p : ℕ} → p < 16 → present (view l .k) p ≡ true → InOrder l o p (getD c p 0)
-  in-order {p} b there = record { inP = b; lines = solid l p b (shaped-record shaped p b); rows = orders .rows p b there }
+  in-order {p} b there = record { inP = b; lines = record-solid l p b (shaped-record shaped p b); rows = orders .rows p b there }
 
   -- the parent of a partition that is present is so too, as S2 says
   pub child-of : {p q : ℕ} → p < 16 → present (view l .k) p ≡ true → (p ≡ 0 → ⊥) → q < 16 → view l .k .parent p ≡ q → ChildOf l o p q (getD c p 0) (getD c q 0)

@@ -21,7 +21,7 @@ use Rattle.isolation.specs.Laws.Fits.{Good}
 use Rattle.isolation.specs.Whole.{afterAll, after-good}
 use Rattle.untouched.specs.Untouched.{Within, Beside, Untouched, turnedTo}
 use Rattle.untouched.specs.Laws.Theorem.{untouched}
-use Rattle.untouched.specs.Laws.TwoLists.{still-present, turned, turned-caller, same-answers}
+use Rattle.untouched.specs.Laws.TwoLists.{still-present, put-current-right, turned-caller, same-answers}
 use Rattle.face.specs.Face.{handed, resultOf, secondAfter, bytesAfter, CallLent}
 use Rattle.face.specs.Laws.Face.{handed-is, handed-unsound}
 use Rattle.demands.specs.Demands.{Bytes}
@@ -105,7 +105,7 @@ module _ {board : Board} (b : List ℕ) (small : Bytes b) (sound : Sound board (
       present = still-present (handed b) ws vs k good one two p q us inside
 
       right : Right (putCurrent (view (afterAll board (handed b) us)) p)
-      right = turned p (after-good good us) present
+      right = put-current-right p (after-good good us) present
 
       caller : callerOf board (turnedTo p (afterAll board (handed b) us)) ≡ p
       caller = turned-caller p (after-good good us) present

@@ -41,7 +41,7 @@ use Rattle.face.specs.Laws.Face.{handed-is}
 use Rattle.demands.specs.Demands.{Bytes, refusalIn, callerIn, firstIn, Accepted, fails, Answered, Changed, happened, entered, Called, no-call, one-call}
 use Rattle.demands.specs.Laws.Lowest.{applies-range, past}
 use Rattle.demands.specs.Laws.Rising.{word-rises, call-rises}
-use Rattle.demands.specs.Laws.Results.{read, answered, accepted-done}
+use Rattle.demands.specs.Laws.Results.{result-read, result-answered, accepted-done}
 
 -- words of 64 bits
 pub handed-small : (b : List ℕ) → Bytes b → Words (handed b)
@@ -83,7 +83,7 @@ module _ {board : Board} {b : List ℕ} {w s r : ℕ} {c : List ℕ} {s′ : ℕ
   pub call-answered : Answered (callLadder board (handed b) w) r ((c ≡ b) × (s′ ≡ s))
   unfolding bytesAfter secondAfter outcomeOf
   call-answered =
-      answered (call-rises board (handed b) w) (caller-byte board b) (callOn board (handed b) w) exact (h .table .result)
+      result-answered (call-rises board (handed b) w) (caller-byte board b) (callOn board (handed b) w) exact (h .table .result)
       (λ n z. (h .table .bytes ∙ ap (bytesAfter b) z, h .second ∙ ap (λ (y : Result). secondAfter s (outcomeOf y)) z))
 
   -- refusal 1 is given exactly where the table is not sound
@@ -96,7 +96,7 @@ module _ {board : Board} {b : List ℕ} {w s r : ℕ} {c : List ℕ} {s′ : ℕ
   pub call-caller : (refusalIn r ≡ 1 → callerIn r ≡ 0) × ((refusalIn r ≡ 1 → ⊥) → callerIn r ≡ view (handed b) .k .current)
   unfolding callerOf
   call-caller =
-      let e = read (call-rises board (handed b) w) (caller-byte board b) (callOn board (handed b) w) exact (h .table .result) .1 in
+      let e = result-read (call-rises board (handed b) w) (caller-byte board b) (callOn board (handed b) w) exact (h .table .result) .1 in
       go (sound board (handed b)) refl e
     where
       go : (x : Bool) → sound board (handed b) ≡ x → callerIn r ≡ cond x (view (handed b) .k .current) 0
@@ -122,8 +122,8 @@ module _ {board : Board} {b : List ℕ} {w s r : ℕ} {c : List ℕ} {s′ : ℕ
     where
       go : (x : Result) → Answers (callLadder board (handed b) w) x → r ≡ resultOf (callerOf board (handed b)) (outcomeOf x)
           → happened board b w r g ≡ eventOf g (fieldsIn call w) (callerOf board (handed b)) (outcomeOf x) (linesNamed board (handed b) w)
-      go (done v y t) a e = let ((i, k), j) = read (call-rises board (handed b) w) (caller-byte board b) (done v y t) a e in rw (i, k, j) refl
-      go (refused n) a e = let ((i, k, j), _) = read (call-rises board (handed b) w) (caller-byte board b) (refused n) a e in rw (i, ne-eqb n 0 (omega arith)) refl
+      go (done v y t) a e = let ((i, k), j) = result-read (call-rises board (handed b) w) (caller-byte board b) (done v y t) a e in rw (i, k, j) refl
+      go (refused n) a e = let ((i, k, j), _) = result-read (call-rises board (handed b) w) (caller-byte board b) (refused n) a e in rw (i, ne-eqb n 0 (omega arith)) refl
 
   -- so the ledger is kept as by the rule
   pub call-noted : (g : Ledger) → entered board b w r g ≡ noted w (answerOn board (handed b) w) (linesNamed board (handed b) w) g

@@ -35,7 +35,7 @@ use Rattle.runs.specs.Laws.OneList.{longest-one}
 use Rattle.ledger.specs.Lists.{Lists, nthName}
 use Rattle.ledger.specs.Laws.Lists.{lists-same, one-list}
 use Rattle.ledger.specs.Laws.Listing.{holders-list}
-use Rattle.demands.specs.Demands.{holdersLadder, LooksAt, found, not-found, Looked, LongestRuns, TableRuns, runsLadder}
+use Rattle.demands.specs.Demands.{holdersLadder, LooksAt, found, not-found, LooksSummed, LongestRuns, TableRuns, runsLadder}
 
 -- ── the runs, where the holders' lists are known ──
 module _ {Holder : ℕ → ℕ → Type 0} {up : ℕ → ℕ} (k : K) (range : k .base < k .stop)
@@ -107,7 +107,7 @@ module _ (t : List ℕ) (m : ℕ) where
             before = λ j b x. false≢true (sym (f .before j b) ∙ holds-means m (view t .k .slot p j) .1 x);
           })
 
-  pub holders-looked : Looked t m (holdersOf (view t .k) m) (looksOf (view t .k) m)
+  pub holders-looked : LooksSummed t m (holdersOf (view t .k) m) (looksOf (view t .k) m)
   unfolding looksOf
   holders-looked = record { words = λ p. lookFor (view t .k) m p .count; looks = looks-at; sum-is = refl; few = looks-few (view t .k) m }
 

@@ -20,26 +20,26 @@ Read (refused n) r = (refusalIn r ≡ n) × (firstIn r ≡ 0) × (0 < n)
 
 -- r is the word of the result x, and x is the answer of the ladder l
 module _ {l : Ladder} {p r : ℕ} (rises : Rises 1 l) (small : p < 2 ^ 8) where
-  pub read : (x : Result) → Answers l x → r ≡ resultOf p (outcomeOf x) → Read x r × (callerIn r ≡ p)
+  pub result-read : (x : Result) → Answers l x → r ≡ resultOf p (outcomeOf x) → Read x r × (callerIn r ≡ p)
   unfolding resultOf outcomeOf
-  read (done v w t) a e = let (i, j, k) = reads-back 0 p v (omega arith) small in ((rw e i, rw e k), rw e j)
-  read (refused n) a e =
+  result-read (done v w t) a e = let (i, j, k) = reads-back 0 p v (omega arith) small in ((rw e i, rw e k), rw e j)
+  result-read (refused n) a e =
       let (f, g) = applies-range rises (answers-say rises a .applies) in
       let (i, j, k) = reads-back n p 0 (omega arith) small in
       ((rw e i, rw e k, omega arith), rw e j)
 
-  pub answered : (x : Result) → Answers l x → r ≡ resultOf p (outcomeOf x) → {U : Type 0} → ((n : ℕ) → x ≡ refused n → U) → Answered l r U
-  answered (done v w t) a e u =
+  pub result-answered : (x : Result) → Answers l x → r ≡ resultOf p (outcomeOf x) → {U : Type 0} → ((n : ℕ) → x ≡ refused n → U) → Answered l r U
+  result-answered (done v w t) a e u =
       let s = answers-say rises a in
-      let ((i, k), _) = read (done v w t) a e in
+      let ((i, k), _) = result-read (done v w t) a e in
       record {
         refuses = λ n b. (λ q. absurd (omega arith), λ h. absurd (s n (h .applies)));
         accepts = (λ _. s, λ _. i);
         unchanged = λ z. absurd (z i);
       }
-  answered (refused n) a e u =
+  result-answered (refused n) a e u =
       let s = answers-say rises a in
-      let ((i, k, b), _) = read (refused n) a e in
+      let ((i, k, b), _) = result-read (refused n) a e in
       record {
         refuses = λ m b. (
           λ q. let z : n ≡ m = sym i ∙ q in rw z at s,
@@ -50,5 +50,5 @@ module _ {l : Ladder} {p r : ℕ} (rises : Rises 1 l) (small : p < 2 ^ 8) where
       }
 
   pub accepted-done : (x : Result) → Answers l x → r ≡ resultOf p (outcomeOf x) → Accepted r → (w : ℕ) × (t : Table) × (x ≡ done (firstIn r) w t)
-  accepted-done (done v w t) a e _ = (w, t, ap (λ (y : ℕ). done y w t) (sym (read (done v w t) a e .0 .1)))
-  accepted-done (refused n) a e q = let ((i, k, b), _) = read (refused n) a e in absurd (omega arith)
+  accepted-done (done v w t) a e _ = (w, t, ap (λ (y : ℕ). done y w t) (sym (result-read (done v w t) a e .0 .1)))
+  accepted-done (refused n) a e q = let ((i, k, b), _) = result-read (refused n) a e in absurd (omega arith)

@@ -44,7 +44,7 @@ use Rattle.sheet.specs.Laws.Rules.{call-1, call-20, call-else, boot-1, boot-20,
 use Rattle.sheet.specs.Laws.Held.{root-lines}
 use Rattle.sheet.specs.Laws.Words.{lines-in, masks-back, lines-back, pair-absent}
 use Rattle.sheet.specs.Laws.Bytes.{matches-means, matches-length, short-handed, handed-length, sheet-bytes}
-use Rattle.sheet.specs.Laws.Reading.{sheet-words, masks-read, lines-read, bytes-same}
+use Rattle.sheet.specs.Laws.Reading.{sheet-words, sheet-masks-read, sheet-lines-read, bytes-same}
 use Rattle.sheet.specs.Laws.Kept.{call-kept}
 use Rattle.face.specs.Face.{handed, resultOf, secondAfter, bytesAfter, Lent, CallLent}
 use Rattle.face.specs.Laws.Face.{handed-is, handed-unsound, handed-whole, handed-short}
@@ -54,7 +54,7 @@ use Rattle.demands.specs.Theorem.{boot-answered, booted, start, start-go
 use Rattle.demands.specs.Laws.Calls.{handed-small, handed-of, call-answered, call-done, one-unsound, next, caller-byte}
 use Rattle.demands.specs.Laws.Lowest.{Rises, top, rung, applies-range, past}
 use Rattle.demands.specs.Laws.Results.{reads-back}
-use Rattle.demands.specs.Sheet.{IsSheet, Pair, CalledBeside, no-call, one-call, KeptBeside, SheetDemand}
+use Rattle.demands.specs.Sheet.{IsSheet, SheetPair, CalledBeside, no-call, one-call, KeptBeside, SheetDemand}
 
 -- a table that was left is right: the sheet left beside it is its own
 afresh : {t : Table} {c u : List ℕ} → Right t → c ≡ bytesOf (encode t) → u ≡ sheetBytes (sheetOf t) → IsSheet c u
@@ -336,12 +336,12 @@ not-here : (t : Table) (p : ℕ) → t .k .area p 0 ≡ none → present (t .k) 
 unfolding present
 not-here t p z = ap isSome z
 
-pair : {board : Board} (b s : List ℕ) → Good board (handed b) → IsSheet b s → (p : ℕ) → p < 16 → Pair (view (handed b)) p (wordAt s (2 * p)) (wordAt s (2 * p + 1))
+pair : {board : Board} (b s : List ℕ) → Good board (handed b) → IsSheet b s → (p : ℕ) → p < 16 → SheetPair (view (handed b)) p (wordAt s (2 * p)) (wordAt s (2 * p + 1))
 pair b s good is p k =
     let t = view (handed b) in
     let h = good-right good in
-    let first = ap (λ (x : List ℕ). wordAt x (2 * p)) is ∙ masks-read h p k in
-    let second = ap (λ (x : List ℕ). wordAt x (2 * p + 1)) is ∙ lines-read h p k in
+    let first = ap (λ (x : List ℕ). wordAt x (2 * p)) is ∙ sheet-masks-read h p k in
+    let second = ap (λ (x : List ℕ). wordAt x (2 * p + 1)) is ∙ sheet-lines-read h p k in
     record {
       present = λ v. let here = is-here t p v in (ap (reading masks) first ∙ masks-back h p here, ap (reading lines) second ∙ lines-back h p here);
       absent = λ z. let (x, y) = pair-absent h p (not-here t p z) in (first ∙ sym x, second ∙ sym y);
@@ -353,7 +353,7 @@ root-held b s good is =
     let t = view (handed b) in
     let h = good-right good in
     let here = is-here t 0 (_, h .core .s2-root .0) in
-    ap (λ (x : ℕ). fieldsIn lines x .held) (ap (λ (x : List ℕ). wordAt x 1) is ∙ lines-read h 0 (omega arith) ∙ rw here refl)
+    ap (λ (x : ℕ). fieldsIn lines x .held) (ap (λ (x : List ℕ). wordAt x 1) is ∙ sheet-lines-read h 0 (omega arith) ∙ rw here refl)
     ∙ ap (λ (x : LinesFields). x .held) (fields-back lines-lawful (linesFor t 0) (lines-in h 0))
     ∙ root-lines (h .core)
 

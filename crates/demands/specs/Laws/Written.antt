@@ -30,7 +30,7 @@ use Rattle.face.specs.Lists.{RunsLent}
 use Rattle.demands.specs.Demands.{refusalIn, firstIn, Accepted, Answered, holdersLadder, LongestRuns, TableRuns, runsLadder, HoldersWritten, RunsWritten, Tells}
 use Rattle.demands.specs.Laws.Lowest.{past, none-left}
 use Rattle.demands.specs.Laws.Rising.{holders-rises, runs-rises}
-use Rattle.demands.specs.Laws.Results.{reads-back, answered, accepted-done}
+use Rattle.demands.specs.Laws.Results.{reads-back, result-answered, accepted-done}
 use Rattle.demands.specs.Laws.Listings.{runs-are, runs-only, table-lists, table-runs, table-runs-only, holders-looked, leaves, holdersResult, holders-exact, holders-by, holders-done, runsResult, runs-exact, runs-by, runs-done}
 
 nobody-calls : 0 < 2 ^ 8
@@ -56,7 +56,7 @@ module _ {board : Board} {b : List ℕ} {m : ℕ} {list : List ℕ} {s r : ℕ} 
   pub holders-answered : Answered (holdersLadder board (handed b) m (length list)) r ((after ≡ list) × (s′ ≡ s))
   unfolding secondAfter outcomeOf
   holders-answered =
-      answered (holders-rises board (handed b) m (length list)) nobody-calls result (holders-exact board (handed b) m list) word
+      result-answered (holders-rises board (handed b) m (length list)) nobody-calls result (holders-exact board (handed b) m list) word
       (λ n z. (
         bytes-by ∙ ap (leaves list (namesOver (holdersOf k m) list)) z,
         second-by ∙ ap (λ (x : Result). secondAfter s (outcomeOf x)) z,
@@ -97,7 +97,7 @@ module _ {board : Board} {b : List ℕ} {list : List Run} {r : ℕ} {after : Lis
 
   pub runs-answered : Answered (runsLadder board (handed b) (length list)) r (after ≡ list)
   runs-answered =
-      answered (runs-rises board (handed b) (length list)) nobody-calls runs-result (runs-exact board (handed b) list) runs-word
+      result-answered (runs-rises board (handed b) (length list)) nobody-calls runs-result (runs-exact board (handed b) list) runs-word
       (λ n z. records-by ∙ ap (leaves list (runsOver (runsOf runsK) list)) z)
 
   -- done: the number and every record, where these are the runs and no others

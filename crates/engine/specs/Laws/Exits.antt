@@ -82,10 +82,10 @@ module _ (base end child from to : ℕ) (before : List ℕ) (q : linesRight (len
   high : child ≤ 15
   high = lines-say (length before) base end child from to q .child-high
 
-  pub give-done : {after : List ℕ} → after ≡ between (from - base) (to - base) (joined (1 * 2 ^ child % 65536)) before
+  pub give-masks-done : {after : List ℕ} → after ≡ between (from - base) (to - base) (joined (1 * 2 ^ child % 65536)) before
       → Engine (linesRight (length before) base end child from to) (giveMasks before base child from to) before 0 after
-  give-done e = engine-done _ _ before q (e ∙ ap (λ (w : ℕ). between (from - base) (to - base) (joined w) before) (shifted child high))
+  give-masks-done e = engine-done _ _ before q (e ∙ ap (λ (w : ℕ). between (from - base) (to - base) (joined w) before) (shifted child high))
 
-  pub take-done : {after : List ℕ} → after ≡ between (from - base) (to - base) (maskStruck (1 * 2 ^ child % 65536)) before
+  pub take-masks-done : {after : List ℕ} → after ≡ between (from - base) (to - base) (maskStruck (1 * 2 ^ child % 65536)) before
       → Engine (linesRight (length before) base end child from to) (takeMasks before base child from to) before 0 after
-  take-done e = engine-done _ _ before q (e ∙ ap (λ (w : ℕ). between (from - base) (to - base) (maskStruck w) before) (shifted child high))
+  take-masks-done e = engine-done _ _ before q (e ∙ ap (λ (w : ℕ). between (from - base) (to - base) (maskStruck w) before) (shifted child high))

@@ -6,7 +6,7 @@ use borrow.Author.Tests.{not-false}
 use Rattle.memory.specs.Bytes.{bytesOf}
 use Rattle.tables.specs.Laws.Top.{top-at}
 use Rattle.rules.specs.Laws.Brief.{call-brief, brief-first, number-small}
-use Rattle.face.specs.Laws.Face.{call-none, call-lent, call-tells, call-told, call-stands, call-kept, call-caller}
+use Rattle.face.specs.Laws.Face.{call-none, call-lent, call-tells, call-told, call-stands, call-lent-refused, call-caller-small}
 use native.Mathlib.Omega.{arith}
 use borrow.Author.Needs.{needs}
 use Rattle.face.proofs.call_bytes.Statement.{statement}
@@ -37,13 +37,13 @@ call-bytes-spec =
     let answered = served .before .before .before in
     let loaded = answered .before .before in
     let sized = loaded .before .before .before in
-    (omega arith, omega (arith, call-caller _ (sized .if1 .left) (loaded .load .ensures .0) (answered .call-table .ensures)), omega (arith, brief-first (call-brief _ _ _) (sym (answered .call-table .ensures .ran .outcome) ∙ served .outcome .given .1))))
+    (omega arith, omega (arith, call-caller-small _ (sized .if1 .left) (loaded .load .ensures .0) (answered .call-table .ensures)), omega (arith, brief-first (call-brief _ _ _) (sym (answered .call-table .ensures .ran .outcome) ∙ served .outcome .given .1))))
     (λ c. search needs)
     (λ c κs.
     let answered = c .before .before .before .before in
     let loaded = answered .before .before in
     let sized = loaded .before .before .before in
-    (omega (arith, number-small (call-brief _ _ _) (sym (answered .call-table .ensures .ran .outcome) ∙ c .before .outcome2 .given .1)), omega (arith, call-caller _ (sized .if1 .left) (loaded .load .ensures .0) (answered .call-table .ensures)), omega arith))
+    (omega (arith, number-small (call-brief _ _ _) (sym (answered .call-table .ensures .ran .outcome) ∙ c .before .outcome2 .given .1)), omega (arith, call-caller-small _ (sized .if1 .left) (loaded .load .ensures .0) (answered .call-table .ensures)), omega arith))
     (λ c. ⊎-elim (λ z. ap length (z .6) ∙ z .3 .kept .1 .0) (λ z. ap length (z .1)) (c .before .if2 .came))
     (λ c.
     let served = c .before .before .before in
@@ -66,4 +66,4 @@ call-bytes-spec =
     let answered = refused .before .before .before in
     let loaded = answered .before .before in
     let sized = loaded .before .before .before in
-    call-kept _ (sized .if1 .left) (loaded .load .ensures .0) (answered .call-table .ensures) (refused .outcome2 .given .1) (c .packed3 .ensures)))
+    call-lent-refused _ (sized .if1 .left) (loaded .load .ensures .0) (answered .call-table .ensures) (refused .outcome2 .given .1) (c .packed3 .ensures)))

@@ -171,15 +171,15 @@ module _ {board : Board} (b : List ℕ) {a m : List ℕ} {w : ℕ} {x : Answer} 
       (ap bytesOf (answers-stand (subst Words (sym load) (words-small b small)) h q ∙ load)
       ∙ bytes-words b size (λ i _. small i))
 
-  pub call-kept : {s r n : ℕ} → x .outcome ≡ Refused n → r ≡ resultPacked n (x .caller .0) 0 → CallLent board b w s r b s
+  pub call-lent-refused : {s r n : ℕ} → x .outcome ≡ Refused n → r ≡ resultPacked n (x .caller .0) 0 → CallLent board b w s r b s
   unfolding secondAfter
-  call-kept {s} {n = n} q p = record {
+  call-lent-refused {s} {n = n} q p = record {
     table = lent-refused (here .ran) b q (p ∙ ap (λ (c : ℕ). resultPacked n c 0) (here .caller));
     second = ap (secondAfter s) (sym q ∙ here .ran .outcome);
   }
 
-  pub call-caller : x .caller .0 < 16
-  call-caller = rw (here .caller) (caller-small board (handed b))
+  pub call-caller-small : x .caller .0 < 16
+  call-caller-small = rw (here .caller) (caller-small board (handed b))
 
 -- ── holders ──
 module _ (board : Board) (t : List ℕ) (l size : ℕ) where

@@ -21,7 +21,7 @@ use Rattle.holders.specs.Laws.Listing.{pieces-unsound, pieces-copy, entry-few}
 use Rattle.runs.specs.declared.Run.{Run}
 use Rattle.runs.specs.declared.listing.Plan.{Plan}
 use Rattle.runs.specs.Runs.{runsOf, runsOutcome, RunsListed}
-use Rattle.runs.specs.Listing.{planOf, marksIn, refusal, writing}
+use Rattle.runs.specs.Listing.{planOf, marksIn, refusal, writingRuns}
 use Rattle.runs.specs.Laws.Listing.{plan-unsound, runs-small, MarksOf}
 use Rattle.face.specs.Face.{handed, resultOf}
 use Rattle.face.specs.Laws.Face.{handed-is, handed-unsound}
@@ -44,7 +44,7 @@ pub plan-answers : (board : Board) (t : List ℕ) (size : ℕ) → Small (planOf
 unfolding planOf
 plan-answers board t size = go (sound board t) (leb (length (runsOf (view t .k))) size)
   where
-    go : (x y : Bool) → Small (cond x (cond y (writing (view t .k)) (refusal 17)) (refusal 1) .outcome)
+    go : (x y : Bool) → Small (cond x (cond y (writingRuns (view t .k)) (refusal 17)) (refusal 1) .outcome)
     go true true = omega (arith, runs-small t)
     go true false = omega arith
     go false y = omega arith
@@ -82,8 +82,8 @@ pieces-answers board t p s size = go (sound board t) (view t .k .slot p s) refl
         room false = omega arith
 
 module _ {board : Board} (b : List ℕ) {p s : ℕ} {list : List ℕ} {r : ℕ} where
-  pub pieces-none : (length b ≡ 5128 → ⊥) → r ≡ resultOf 0 (Refused 1) → PiecesLent board b p s list r list
-  pieces-none h e = let n = pieces-unsound board {t = handed b} {p = p} {s = s} {list = list} (handed-unsound b h board) in record { answer = e ∙ ap (resultOf 0) (n .outcome); words = n .words }
+  pub pieces-lent-none : (length b ≡ 5128 → ⊥) → r ≡ resultOf 0 (Refused 1) → PiecesLent board b p s list r list
+  pieces-lent-none h e = let n = pieces-unsound board {t = handed b} {p = p} {s = s} {list = list} (handed-unsound b h board) in record { answer = e ∙ ap (resultOf 0) (n .outcome); words = n .words }
 
   pub pieces-lent : {a : List ℕ} {o : Outcome} {after : List ℕ} → length b ≡ 5128 → a ≡ wordsOf b → PiecesListed board a p s list o after → r ≡ resultOf 0 o → PiecesLent board b p s list r after
   pieces-lent size load h e = let n = pieces-copy (load ∙ handed-is b size) h in record { answer = e ∙ ap (resultOf 0) (n .outcome); words = n .words }

@@ -4,7 +4,7 @@ use borrow.Author.Tests.{not-true, not-false}
 use Rattle.tables.specs.Laws.Top.{top-at}
 use Rattle.rules.specs.Laws.Brief.{call-brief, brief-first, number-small}
 use Rattle.sheet.specs.Laws.Bytes.{matches-length}
-use Rattle.face.specs.Laws.Face.{call-tells, call-told, call-caller}
+use Rattle.face.specs.Laws.Face.{call-tells, call-told, call-caller-small}
 use Rattle.facesheet.specs.Laws.Sheets.{loaded-right, called-right, call-short, call-unsound, call-mismatch, call-neither, call-both}
 use native.Mathlib.Omega.{arith}
 use borrow.Author.Needs.{needs}
@@ -64,14 +64,14 @@ call-sheet-bytes-spec =
     let compared = served .before .before .before .before .before in
     let loaded = compared .before .before .before .before .before .before in
     let begun = loaded .before .before .before in
-    (omega arith, omega (arith, call-caller _ (begun .if1 .left) (loaded .load .ensures .0) (served .serve-word .ensures)), omega (arith, brief-first (call-brief _ _ _) (sym (served .serve-word .ensures .ran .outcome) ∙ told .outcome .given .1))))
+    (omega arith, omega (arith, call-caller-small _ (begun .if1 .left) (loaded .load .ensures .0) (served .serve-word .ensures)), omega (arith, brief-first (call-brief _ _ _) (sym (served .serve-word .ensures .ran .outcome) ∙ told .outcome .given .1))))
     (λ c. search needs)
     (λ c κs.
     let served = c .before .before .before .before in
     let compared = served .before .before .before .before .before in
     let loaded = compared .before .before .before .before .before .before in
     let begun = loaded .before .before .before in
-    (omega (arith, number-small (call-brief _ _ _) (sym (served .serve-word .ensures .ran .outcome) ∙ c .before .outcome2 .given .1)), omega (arith, call-caller _ (begun .if1 .left) (loaded .load .ensures .0) (served .serve-word .ensures)), omega arith))
+    (omega (arith, number-small (call-brief _ _ _) (sym (served .serve-word .ensures .ran .outcome) ∙ c .before .outcome2 .given .1)), omega (arith, call-caller-small _ (begun .if1 .left) (loaded .load .ensures .0) (served .serve-word .ensures)), omega arith))
     (λ c. search needs)
     (λ c. search needs)
     (λ c.

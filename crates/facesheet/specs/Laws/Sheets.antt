@@ -37,7 +37,7 @@ use Rattle.sheet.specs.Laws.Rules.{call-1, call-20, call-else, boot-1, boot-20,
 use Rattle.sheet.specs.Laws.Touched.{call-put}
 use Rattle.sheet.specs.Laws.Bytes.{matches-means, sheet-bytes, short-handed, handed-length, matches-length}
 use Rattle.face.specs.Face.{handed, resultPacked, resultOf, secondAfter, bytesAfter, Lent, CallLent}
-use Rattle.face.specs.Laws.Face.{lent-one, handed-is, handed-unsound, boot-lent, call-lent, call-stands, call-kept, handed-whole, handed-short}
+use Rattle.face.specs.Laws.Face.{lent-one, handed-is, handed-unsound, boot-lent, call-lent, call-stands, call-lent-refused, handed-whole, handed-short}
 use Rattle.facesheet.specs.Sheets.{BothLent, BootSheetLent, CallSheetLent}
 
 -- two results are equal: the result, every byte of both, the second value
@@ -184,7 +184,7 @@ module _ (board : Board) (b s : List ℕ) (w : ℕ) where
       module _ {m : List ℕ} {x : Answer} (h : CallAnswers board a w x m) where
         pub call-neither : {v r n : ℕ} → x .outcome ≡ Refused n → r ≡ resultPacked n (x .caller .0) 0 → CallSheetLent board b s w v r b s v
         unfolding sheetBytesAfter
-        call-neither q p = beside (call-kept b size load h q p) (sym (ap (sheetBytesAfter s) (refused-result (sym (subst (λ (l : List ℕ). CallAnswers board l w x m) is h .ran .outcome) ∙ q))))
+        call-neither q p = beside (call-lent-refused b size load h q p) (sym (ap (sheetBytesAfter s) (refused-result (sym (subst (λ (l : List ℕ). CallAnswers board l w x m) is h .ran .outcome) ∙ q))))
 
         module _ (small : (i : ℕ) → getD b i 0 < 256) {f g : ℕ} (q : x .outcome ≡ Done f g) where
           -- as it was where every word is as it was; else with the words of those put that the call touched

@@ -12,7 +12,7 @@ use Rattle.shapes.specs.declared.Board.the-variants.{V7, V8}
 use Rattle.shapes.specs.Laws.Halves.{pieces-few}
 use Rattle.shapes.specs.Pieces.{piecesFor, CanList, ShapesListed}
 use Rattle.tables.specs.State.{some, Entry}
-use Rattle.tables.specs.Laws.State.{none-of, not-none, same-at}
+use Rattle.tables.specs.Laws.State.{never-some, not-none, same-at}
 use Rattle.tables.specs.View.{entryOf, entryIn, slotAt, view}
 use Rattle.tables.specs.Laws.View.{slot-bounds}
 use Rattle.tables.specs.Seen.{Seen}
@@ -55,7 +55,7 @@ module _ (b : Board) {t : List ℕ} {p s : ℕ} {list : List ℕ} where
   pub pieces-nowhere : sound b t ≡ true → (p < 16 → s < 32 → ⊥) → PiecesListed b t p s list (Refused 4) list
   unfolding piecesOutcome piecesWords slotOutcome slotWords
   pieces-nowhere q n =
-      let z = none-of (view t .k .slot p s) (λ e u. let h = slot-bounds t p s e u in n (h .0) (h .1)) in
+      let z = never-some (view t .k .slot p s) (λ e u. let h = slot-bounds t p s e u in n (h .0) (h .1)) in
       record { outcome = rw (q, z) refl; words = rw (q, z) refl }
 
   pub pieces-listed : {r : Outcome} {after : List ℕ} → sound b t ≡ true → SlotListed b (view t .k .slot p s) list r after → PiecesListed b t p s list r after

@@ -5,7 +5,7 @@ use mathlib.Core.Bool.{true}
 use Prim.Native.Nat.{ℕ, _+_, _*_, _/_, _%_}
 use native.Mathlib.Omega.{arith}
 use Rattle.tables.specs.State.{Opt, none, some, Entry, Area, nowhere, K, Table}
-use Rattle.tables.specs.Laws.State.{not-none, none-of}
+use Rattle.tables.specs.Laws.State.{not-none, never-some}
 use Rattle.tables.specs.Laws.Update.{upd-other, upd-none}
 use Rattle.tables.specs.Lines.{Holds}
 use Rattle.tables.specs.Settle.{settle}
@@ -62,7 +62,7 @@ module _ {k : K} {p j : ℕ} (h : Core k) (ok : CollectOk k p j) where
     );
     s2-range = λ q i a u. h .s2-range q i a (was q i a u);
     s2-absent = λ q i a u. keep q (h .s2-absent q i a (was q i a u));
-    s2-parent = λ q z. h .s2-parent q (none-of (k .area q 0) (λ a u. not-none (new q 0) z (header q a u)));
+    s2-parent = λ q z. h .s2-parent q (never-some (k .area q 0) (λ a u. not-none (new q 0) z (header q a u)));
     s2-up = λ q u. keep (k .parent q) (h .s2-up q (u .0, was q 0 (u .0) (u .1)));
     s2-climb = λ q u. h .s2-climb q (u .0, was q 0 (u .0) (u .1));
     s4 = λ q i a u. h .s4 q i a (was q i a u);

@@ -6,7 +6,7 @@ use Prim.Native.Nat.{ℕ, _+_, _/_, _≤_, _<_}
 use native.Mathlib.Omega.{arith}
 use Rattle.loops.specs.Loops.{Reaches}
 use Rattle.tables.specs.State.{Opt, none, some, Entry, Area, nowhere, K}
-use Rattle.tables.specs.Laws.State.{some-inj, not-none, none-of, sameA}
+use Rattle.tables.specs.Laws.State.{some-inj, not-none, never-some, sameA}
 use Rattle.tables.specs.Update.{upd}
 use Rattle.tables.specs.Laws.Update.{upd-other, upd-from}
 use Rattle.tables.specs.Write.{withArea}
@@ -59,7 +59,7 @@ module _ {k : K} {s p j : ℕ} {e : Entry} (f : FreeArea k s p j e) where
 
   -- who is absent was absent
   pub was-absent : (q : ℕ) → plus k p j e q 0 ≡ none → k .area q 0 ≡ none
-  was-absent q z = none-of (k .area q 0) (λ a u. not-none (plus k p j e q 0) z (area-stays q 0 a u))
+  was-absent q z = never-some (k .area q 0) (λ a u. not-none (plus k p j e q 0) z (area-stays q 0 a u))
 
   -- who is present was present, or is p with its header
   pub was-present : (q : ℕ) → AreaThere (plus k p j e) q → Present k q ⊎ ((q ≡ p) × (j ≡ 0))

@@ -5,7 +5,7 @@ use mathlib.Core.List.{List, [], _∷_}
 use Prim.Native.Nat.{ℕ, zero, suc, _≤_}
 use native.Mathlib.Omega.{arith}
 use Rattle.tables.specs.State.{Opt, none, some, Entry, K, Table}
-use Rattle.tables.specs.Laws.State.{not-none, none-of}
+use Rattle.tables.specs.Laws.State.{not-none, never-some}
 use Rattle.tables.specs.Laws.Update.{upd1-same, row-other}
 use Rattle.tables.specs.Write.{withSlot}
 use Rattle.tables.specs.Search.{lowest, isSome, free, holdsAt, lookedAt, lookFor}
@@ -42,11 +42,11 @@ module _ {k : K} {new : ℕ → ℕ → Opt Entry} (h : Core k) (g : Core (withS
   later = withSlot k new
 
   -- what one search finds and looks at, then and before
-  pub record Nearer (q : ℕ) : Type 0 where
+  pub record LooksNoMore (q : ℕ) : Type 0 where
     pub heir-is : heir later l q ≡ heir k l q
     pub count : lookFor later l q .count ≤ lookFor k l q .count
 
-  nearer : (q : ℕ) → Nearer q
+  nearer : (q : ℕ) → LooksNoMore q
   unfolding heir givenBy receiver lookedAt
   nearer q = go (lowest 32 (holdsAt k q l)) refl
     where
@@ -57,7 +57,7 @@ module _ {k : K} {new : ℕ → ℕ → Opt Entry} (h : Core k) (g : Core (withS
           let (n, _, v) = rows q .was m e u in
           not-none (lowest 32 (holdsAt k q l)) z (line-found h q n l e v x)
 
-      go : (o : Opt ℕ) → lowest 32 (holdsAt k q l) ≡ o → Nearer q
+      go : (o : Opt ℕ) → lowest 32 (holdsAt k q l) ≡ o → LooksNoMore q
       go none z = let y = none-later z (lowest 32 (holdsAt later q l)) refl in record { heir-is = rw (y, z) refl; count = rw (y, z) (omega arith) }
       go (some i) z =
           let (e, u, x) = holds-means l (k .slot q i) .0 (lowest-some 32 (holdsAt k q l) i z .holds) in
@@ -92,7 +92,7 @@ module _ {t : Table} (h : Right t) (p : ℕ) where
         order = rw slot (packed-order can s);
         lowest = λ i j e u b f. absurd (false≢true (sym (pack-tight h p .below i j e (in-table (pack-core h p) p i e u .1) u b) ∙ free-means (packK t p) p j .1 f));
         follow = λ r i e u v. rw (slot, region) (packed-follows can s r i e u v);
-        unloaded = λ r u. rw region (none-of (packed t p .region r) (λ a v. none-is r u a v));
+        unloaded = λ r u. rw region (never-some (packed t p .region r) (λ a v. none-is r u a v));
         slots = λ q i n. row-other (t .k .slot) p (packed t p .slot) q i n;
         regions = λ q r n. row-other (t .region) p (packed t p .region) q r n;
         holders = λ l. holders-same (h .core) (pack-core h p) (pack-lowered h p) l;

@@ -9,7 +9,7 @@ use native.Mathlib.Omega.{arith}
 use borrow.Author.Tests.{eq-eqb, ne-eqb}
 use Rattle.loops.specs.Laws.Climb.{reaches-same}
 use Rattle.tables.specs.State.{Opt, none, some, Entry, Area, nowhere, K, Table, givenTo}
-use Rattle.tables.specs.Laws.State.{same, some-inj, not-none, none-of}
+use Rattle.tables.specs.Laws.State.{same, some-inj, not-none, never-some}
 use Rattle.tables.specs.Update.{upd1}
 use Rattle.tables.specs.Laws.Update.{upd1-same, upd1-other}
 use Rattle.tables.specs.Lines.{Holds}
@@ -193,7 +193,7 @@ module _ {k : K} {c : ℕ} {m : ℕ → Bool} (h : Core k) (ok : Goes k c m) whe
     where
       go : (b : Bool) → m q ≡ b → cond b 0 (k .parent q) ≡ 0
       go true n = refl
-      go false n = h .s2-parent q (none-of (k .area q 0) (λ a u. not-none (removeK k c m .area q 0) z (area-stays q 0 a u n)))
+      go false n = h .s2-parent q (never-some (k .area q 0) (λ a u. not-none (removeK k c m .area q 0) z (area-stays q 0 a u n)))
 
   inside : (p i : ℕ) (a : Entry) → new p i ≡ some a → (p ≡ 0 → ⊥) → Inside new (removeK k c m .parent) p a
   inside p i a u n =

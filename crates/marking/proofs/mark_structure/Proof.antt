@@ -3,7 +3,7 @@ use mathlib.Core.Path.{sym, _∙_}
 use native.Mathlib.Omega.{arith}
 use borrow.Author.Needs.{needs}
 use borrow.Author.Tests.{not-true, not-false}
-use Rattle.marking.specs.Laws.Marking.{says-rooted, structure-absent, structure-own, structure-parent, kept}
+use Rattle.marking.specs.Laws.Marking.{says-rooted, structure-absent, structure-own, structure-parent, structure-not-own}
 use Rattle.marking.proofs.mark_structure.Statement.{statement}
 use Rattle.marking.proofs.mark_structure.Tie as tie
 
@@ -29,7 +29,7 @@ mark-structure-spec =
     let begun = read .before .before .before in
     let h = begun .pre in
     let f = read .structure in
-    let (e, _) = kept _ (h .2 .shaped) (h .2 .inP) (h .0) (h .1) (h .2 .marked) (f .ensures) (sym (read .before .before .is-rooted .ensures) ∙ read .before .if1 .left) (not-false (f .result .present) (c .before .before .before .before .before .if2 .left)) (c .before .before .before .mark-equal .ensures) (c .before .before .if3 .left) in
+    let (e, _) = structure-not-own _ (h .2 .shaped) (h .2 .inP) (h .0) (h .1) (h .2 .marked) (f .ensures) (sym (read .before .before .is-rooted .ensures) ∙ read .before .if1 .left) (not-false (f .result .present) (c .before .before .before .before .before .if2 .left)) (c .before .before .before .mark-equal .ensures) (c .before .before .if3 .left) in
     (c .before .header .ensures .parent-small, h .2 .shaped, rw e (h .2 .marked .size)))
     (λ c.
     let marked = c .before .before .before .before in

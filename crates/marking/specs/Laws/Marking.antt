@@ -34,7 +34,7 @@ use Rattle.sound.specs.Laws.MeansAreas.{rooted-means}
 use Rattle.sound.specs.Laws.Local.{EqualAt, MarkedOnce}
 use Rattle.shape.specs.AtOnce.{Shaped}
 use Rattle.shape.specs.Laws.AtOnce.{shaped-s2, shaped-record}
-use Rattle.ordering.specs.Laws.Present.{absent-zero, solid}
+use Rattle.ordering.specs.Laws.Present.{absent-zero, record-solid}
 use Rattle.marking.specs.Backing.{areaBetween, backs}
 use Rattle.loops.specs.Loops.{names}
 use Rattle.loops.specs.Laws.Mask.{names-none, names-or, names-one}
@@ -247,7 +247,7 @@ module _ (l : List ℕ) (shaped : Shaped l) where
   k = view l .k
 
   lines : (q i : ℕ) (f : Entry) → k .slot q i ≡ some f → f .start < f .stop
-  lines q i f u = let b = slot-bounds l q i f u .0 in solid l q b (shaped-record shaped q b) i f u
+  lines q i f u = let b = slot-bounds l q i f u .0 in record-solid l q b (shaped-record shaped q b) i f u
 
   equal-at : {p j q i : ℕ} {a : Area} → i < 32 → backs a (k .slot q i) ≡ true → (q ≡ k .parent p) ⊎ ((q ≡ p) × (0 < j)) → EqualAt k p j a (32 * q + i)
   equal-at {p} {j} {q} {i} {a} few w who =
@@ -339,8 +339,8 @@ module _ (l : List ℕ) (shaped : Shaped l) where
       structure-own found = says-found p j few inv inP area other inP (inr (refl, from)) t found
 
       -- it is not its own: nothing was marked
-      pub kept : own ≡ 0 → (m₁ ≡ m) × (Equals k p (areaBetween (f .start .0) (f .end .0)) → ⊥)
-      kept z = go t
+      pub structure-not-own : own ≡ 0 → (m₁ ≡ m) × (Equals k p (areaBetween (f .start .0) (f .end .0)) → ⊥)
+      structure-not-own z = go t
         where
           go : Marks k p (areaBetween (f .start .0) (f .end .0)) m own m₁ → (m₁ ≡ m) × (Equals k p (areaBetween (f .start .0) (f .end .0)) → ⊥)
           go (nobody _ e no-entry) = (e, no-entry)
@@ -349,7 +349,7 @@ module _ (l : List ℕ) (shaped : Shaped l) where
 
       pub structure-parent : {g : HeaderFields} {r : ℕ} {m₂ : List ℕ} → own ≡ 0 → SeenHeader l p g → Marks k (g .parent .0) (areaBetween (f .start .0) (f .end .0)) m₁ r m₂ → MarkSays k (5 * p + (j + 1)) (eqb r 1) m₂
       structure-parent {g} {r} {m₂} z w s =
-          let (e, no-entry) = kept z in
+          let (e, no-entry) = structure-not-own z in
           let x : Marks k (g .parent .0) (areaBetween (f .start .0) (f .end .0)) m r m₂ = rw (← e) s in
           let y : 1 + (j - 1) ≡ j = omega arith in
           says-marks p j few inv inP area other (w .parent-small) (inl (sym (w .parent))) x (λ s8.

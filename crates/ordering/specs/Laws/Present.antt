@@ -27,5 +27,5 @@ module _ (l : List ℕ) (p : ℕ) where
       go (no z) = (z, rw (ne-eqb p 0 z, n) at q)
 
   -- S5 at p, which S6 and S7 lean on
-  pub solid : p < 16 → s3 l p && s4 l (view l .k) p && s5 l (view l .k) p ≡ true → Solid (view l .k) p
-  solid b q = s5-means l p b .0 (and-says (s3 l p && s4 l (view l .k) p) (s5 l (view l .k) p) q .1) .range
+  pub record-solid : p < 16 → s3 l p && s4 l (view l .k) p && s5 l (view l .k) p ≡ true → Solid (view l .k) p
+  record-solid b q = s5-means l p b .0 (and-says (s3 l p && s4 l (view l .k) p) (s5 l (view l .k) p) q .1) .range

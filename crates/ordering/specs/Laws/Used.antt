@@ -7,7 +7,7 @@ use native.Mathlib.Omega.{arith}
 use Rattle.loops.specs.Loops.{seek}
 use Rattle.loops.specs.Laws.Scan.{Seeking, seek-on, seek-end}
 use Rattle.tables.specs.State.{none}
-use Rattle.tables.specs.Laws.State.{not-none, none-of}
+use Rattle.tables.specs.Laws.State.{not-none, never-some}
 use Rattle.tables.specs.View.{view}
 use Rattle.tables.specs.Laws.ZeroWord.{not-open}
 use Rattle.settling.specs.Settled.{UsedEnd}
@@ -38,7 +38,7 @@ module _ {l : List ℕ} {q : ℕ} (shaped : Shaped l) (in16 : q < 16) where
   }
     where
       empty : (i : ℕ) → r ≤ i → i < 32 → view l .k .slot q i ≡ none
-      empty i a b = none-of (view l .k .slot q i) (λ e u.
+      empty i a b = never-some (view l .k .slot q i) (λ e u.
           let (x, v) = s5 .structure i e u in
           not-none (view l .k .area q (1 + i / 8)) (h .gone (i / 8) (omega (arith, h .is)) (omega arith)) v)
 

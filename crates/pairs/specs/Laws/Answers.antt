@@ -14,7 +14,7 @@ use Rattle.tables.specs.Encode.{slotFor, slotWord}
 use Rattle.pairs.specs.Word.{pair}
 use Rattle.pairs.specs.declared.pair_word.PairFields.{PairFields}
 use Rattle.pairs.specs.Pair.{Readable, readable, fieldsOf, saidBy, Fair, pairOf, entryOfPair, oneWord, halves, writes, openWord, reads, parted}
-use Rattle.pairs.specs.Laws.Pair.{readable-says, readable-true, of-range, GoodPair, entry-done, entry-none}
+use Rattle.pairs.specs.Laws.Pair.{readable-says, readable-true, of-range, GoodPair, pair-entry-done, pair-entry-none}
 use Rattle.pairs.specs.declared.PairWritten.{PairWritten}
 use Rattle.pairs.specs.declared.PairWritten.the-variants.{Pair, Refused}
 
@@ -57,7 +57,7 @@ module _ (e : Entry) where
 module _ (rbar rlar : ℕ) {w : ℕ} (q : w ≡ oneWord rbar rlar) where
   refused : (GoodPair w → ⊥) → NotWritten 22 ≡ reads rbar rlar
   unfolding openWord
-  refused h = sym (ap openWord (entry-none w h)) ∙ ap (λ (v : ℕ). openWord (entryOfPair v)) q
+  refused h = sym (ap openWord (pair-entry-none w h)) ∙ ap (λ (v : ℕ). openWord (entryOfPair v)) q
 
   -- a zero bit is set; or a field is not as it should be
   pub reads-set : zeroed pair w ≡ false → NotWritten 22 ≡ reads rbar rlar
@@ -74,5 +74,5 @@ module _ (rbar rlar : ℕ) {w : ℕ} (q : w ≡ oneWord rbar rlar) where
         y
         ∙ write-done slot (slotFor (saidBy f) true) (slot-range (slotFor (saidBy f) true) (omega arith) (omega (arith, h .rising, h .below)) (omega (arith, h .below)))
         ∙ ap (λ (x : PairFields). openWord (some (saidBy x))) p
-        ∙ sym (ap openWord (entry-done w g))
+        ∙ sym (ap openWord (pair-entry-done w g))
         ∙ ap (λ (v : ℕ). openWord (entryOfPair v)) q

@@ -8,7 +8,7 @@ use Rattle.words.specs.declared.Written.the-variants.{Word, Refused as NotWritt
 use Rattle.tables.specs.State.{Opt, none, some, Entry, entry}
 use Rattle.tables.specs.Encode.{slotWord}
 use Rattle.pairs.specs.Pair.{Readable, bare, pairOf, entryOfPair, oneWord, halves, writes, openWord, reads}
-use Rattle.pairs.specs.Exactly.{registers, Pairs, Written as WrittenBy}
+use Rattle.pairs.specs.Exactly.{registers, Pairs, WrittenByEntry}
 use Rattle.pairs.specs.Laws.Word.{printed-pair}
 use Rattle.pairs.specs.Laws.Pair.{pair-back, pair-only}
 use Rattle.pairs.specs.Laws.Answers.{writes-done, writes-unread}
@@ -57,14 +57,14 @@ module _ (a b : ℕ) (h : a < 2 ^ 32) (k : b < 2 ^ 32) where
       go none p u = absurd (let z : _≡_ {A = ℕ} 0 1 = cc in omega arith)
       go (some x) p u = let (r, g, v, y) = told x p in (x, r, g, v, (cc), y)
 
-  unwritten : (reads a b ≡ NotWritten 22) ↔ (WrittenBy a b → ⊥)
+  unwritten : (reads a b ≡ NotWritten 22) ↔ (WrittenByEntry a b → ⊥)
   unfolding openWord
   unwritten = (λ q t. no-both (t .0) (t .1) (t .2) q, λ n. go n (entryOfPair (oneWord a b)) refl)
     where
       no-both : (e : Entry) → Readable e → writes e ≡ Pair (registers a b) → openWord (entryOfPair (oneWord a b)) ≡ NotWritten 22 → ⊥
       no-both e r p q = let u = back e a b r p in let z : _≡_ {A = ℕ} 0 1 = cc in omega arith
 
-      go : (WrittenBy a b → ⊥) → (o : Opt Entry) → entryOfPair (oneWord a b) ≡ o → openWord o ≡ NotWritten 22
+      go : (WrittenByEntry a b → ⊥) → (o : Opt Entry) → entryOfPair (oneWord a b) ≡ o → openWord o ≡ NotWritten 22
       go n none p = refl
       go n (some x) p = let (r, g, v, y) = told x p in absurd (n (x, r, y))
 

@@ -93,22 +93,22 @@ good-says w q =
     let a = and-eq-true-iff (zeroed pair w) _ .0 q in
     record { zeroed = zeroed-means pair w .0 (a .0); fair = fair-says (fieldsIn pair w) (a .1) }
 
-pub entry-done : (w : ℕ) → GoodPair w → entryOfPair w ≡ some (saidBy (fieldsIn pair w))
+pub pair-entry-done : (w : ℕ) → GoodPair w → entryOfPair w ≡ some (saidBy (fieldsIn pair w))
 unfolding entryOfPair
-entry-done w h = rw (zeroed-means pair w .1 (h .zeroed), fair-true (fieldsIn pair w) (h .fair)) refl
+pair-entry-done w h = rw (zeroed-means pair w .1 (h .zeroed), fair-true (fieldsIn pair w) (h .fair)) refl
 
 -- a word that is not, or one that is with the entry
 entry-either : (w : ℕ) → (b : Bool) → zeroed pair w && fair (fieldsIn pair w) ≡ b → (x : Entry) → cond b (some (saidBy (fieldsIn pair w))) none ≡ some x → GoodPair w × (saidBy (fieldsIn pair w) ≡ x)
 entry-either w true g x p = (good-says w g, some-inj p)
 entry-either w false g x p = not-none none refl p
 
-pub entry-says : (w : ℕ) (x : Entry) → entryOfPair w ≡ some x → GoodPair w × (saidBy (fieldsIn pair w) ≡ x)
+pub pair-entry-says : (w : ℕ) (x : Entry) → entryOfPair w ≡ some x → GoodPair w × (saidBy (fieldsIn pair w) ≡ x)
 unfolding entryOfPair
-entry-says w x q = entry-either w _ refl x q
+pair-entry-says w x q = entry-either w _ refl x q
 
-pub entry-none : (w : ℕ) → (GoodPair w → ⊥) → entryOfPair w ≡ none
+pub pair-entry-none : (w : ℕ) → (GoodPair w → ⊥) → entryOfPair w ≡ none
 unfolding entryOfPair
-entry-none w h = go (zeroed pair w && fair (fieldsIn pair w)) refl
+pair-entry-none w h = go (zeroed pair w && fair (fieldsIn pair w)) refl
   where
     go : (b : Bool) → zeroed pair w && fair (fieldsIn pair w) ≡ b → cond b (some (saidBy (fieldsIn pair w))) none ≡ none
     go true q = absurd (h (good-says w q))
@@ -124,7 +124,7 @@ module _ (e : Entry) (h : Readable e) where
 
   pub pair-back : entryOfPair (pairOf e) ≡ some (bare e)
   pair-back =
-      entry-done (pairOf e) good-pair
+      pair-entry-done (pairOf e) good-pair
       ∙ ap (λ (f : PairFields). some (saidBy f)) (fields-back pair-lawful (fieldsOf e) (of-range e h))
       ∙ ap some (said-back e h)
 
@@ -137,7 +137,7 @@ pub record Only (w : ℕ) (x : Entry) : Type 0 where
 
 pub pair-only : (w : ℕ) (x : Entry) → w < 2 ^ 64 → entryOfPair w ≡ some x → Only w x
 pair-only w x b q =
-    let (g, s) = entry-says w x q in
+    let (g, s) = pair-entry-says w x q in
     subst (Only w) s (record {
       written = sym (ap (wordOf pair) (fields-only (fieldsIn pair w) (access-small w) (g .fair)) ∙ word-back pair-lawful w b (g .zeroed));
       readable = said-readable (fieldsIn pair w) (g .fair);

@@ -72,8 +72,8 @@ module _ {can : ℕ → Bool} {slot : ℕ → Opt Entry} {i j : ℕ} {e : Entry}
   now-le (there _ z) = omega arith
   now-le (moved y z) = omega (arith, under)
 
-  pub came : (m : ℕ) (a : Entry) → moveSlot i j slot m ≡ some a → (n : ℕ) × (slot n ≡ some a) × Now i j n m
-  came m a u = go (upd1-from (upd1 slot j (slot i)) i none m u)
+  pub entry-came : (m : ℕ) (a : Entry) → moveSlot i j slot m ≡ some a → (n : ℕ) × (slot n ≡ some a) × Now i j n m
+  entry-came m a u = go (upd1-from (upd1 slot j (slot i)) i none m u)
     where
       at : (m ≡ i → ⊥) → ((m ≡ j) × (slot i ≡ some a)) ⊎ ((m ≡ j → ⊥) × (slot m ≡ some a)) → (n : ℕ) × (slot n ≡ some a) × Now i j n m
       at n (inl (z, w)) = (i, w, moved refl z)
@@ -95,8 +95,8 @@ module _ {can : ℕ → Bool} {slot : ℕ → Opt Entry} {i j : ℕ} {e : Entry}
   pub slot-same : (m : ℕ) → (m ≡ i → ⊥) → (m ≡ j → ⊥) → moveSlot i j slot m ≡ slot m
   slot-same m n x = upd1-other (upd1 slot j (slot i)) i none m n ∙ upd1-other slot j (slot i) m x
 
-  pub goes : (m : ℕ) (a : Entry) → slot m ≡ some a → (n : ℕ) × (moveSlot i j slot n ≡ some a) × Now i j m n
-  goes m a u = go (ℕ-discrete m i)
+  pub entry-goes : (m : ℕ) (a : Entry) → slot m ≡ some a → (n : ℕ) × (moveSlot i j slot n ≡ some a) × Now i j m n
+  entry-goes m a u = go (ℕ-discrete m i)
     where
       go : Dec (m ≡ i) → (n : ℕ) × (moveSlot i j slot n ≡ some a) × Now i j m n
       go (yes z) = (j, to-holds ∙ (rw z at u), moved z refl)
@@ -113,12 +113,12 @@ lowered-same slot = record { was = λ m a u. (m, omega arith, u); now = λ n a u
 move-lowered : {can : ℕ → Bool} {old slot : ℕ → Opt Entry} {i j : ℕ} {e : Entry} → Lowered old slot → Moves can slot i j e → Lowered old (moveSlot i j slot)
 move-lowered g h = record {
   was = λ m a u.
-      let (n, v, x) = came h m a u in
+      let (n, v, x) = entry-came h m a u in
       let (o, y, w) = g .was n a v in
       (o, omega (arith, now-le h x), w);
   now = λ o a u.
       let (n, y, v) = g .now o a u in
-      let (m, w, x) = goes h n a v in
+      let (m, w, x) = entry-goes h n a v in
       (m, omega (arith, now-le h x), w);
 }
 
@@ -130,7 +130,7 @@ abbrev pub Roomy : (ℕ → Bool) → (ℕ → Opt Entry) → Type 0
 Roomy can slot = (m : ℕ) (a : Entry) → slot m ≡ some a → can m ≡ true
 
 pub move-roomy : {can : ℕ → Bool} {slot : ℕ → Opt Entry} {i j : ℕ} {e : Entry} → Roomy can slot → Moves can slot i j e → Roomy can (moveSlot i j slot)
-move-roomy {can} {i = i} {j} g h m a u = let (n, v, w) = came h m a u in at (g n a v) w
+move-roomy {can} {i = i} {j} g h m a u = let (n, v, w) = entry-came h m a u in at (g n a v) w
   where
     at : {n m : ℕ} → can n ≡ true → Now i j n m → can m ≡ true
     at q (there _ z) = rw z q
@@ -145,8 +145,8 @@ SlotsApart slot = (m n : ℕ) (a b : Entry) (l : ℕ) → slot m ≡ some a → 
 
 pub packed-apart : (can : ℕ → Bool) (s : Packing) → SlotsApart (s .slot) → SlotsApart (carried (packSlot can) s 32 .slot)
 packed-apart can s start = turns can s (λ _ x. SlotsApart (x .slot)) start (λ _ _ g _. g) (λ i x g _ j e h m n a b l u v y z.
-    let (o, w, c) = came h m a u in
-    let (q, t, d) = came h n b v in
+    let (o, w, c) = entry-came h m a u in
+    let (q, t, d) = entry-came h n b v in
     let same : o ≡ q = g o q a b l w t y z in
     now-one (rw same at c) d)
 

@@ -25,7 +25,7 @@ use Rattle.runs.specs.Laws.Pieces.{stop-small}
 use Rattle.runs.specs.Places.{AllInOrder}
 use Rattle.runs.specs.Marks.{runAt, markOf, marksOver, MarksAt}
 use Rattle.runs.specs.Laws.Marks.{read-back, marks-short}
-use Rattle.runs.specs.Listing.{refusal, writing, planOf, marksIn}
+use Rattle.runs.specs.Listing.{refusal, writingRuns, planOf, marksIn}
 
 -- ── the exits of the code ──
 -- a table that was found sound: its entries are in order
@@ -68,7 +68,7 @@ unfolding planOf
 plan-fits board t size = go (sound board t) (leb (length (runsOf (view t .k))) size) refl refl
   where
     go : (a b : Bool) → sound board t ≡ a → leb (length (runsOf (view t .k))) size ≡ b
-        → (cond a (cond b (writing (view t .k)) (refusal 17)) (refusal 1) .number ≤ size) × (cond a (cond b (writing (view t .k)) (refusal 17)) (refusal 1) .number ≤ 512)
+        → (cond a (cond b (writingRuns (view t .k)) (refusal 17)) (refusal 1) .number ≤ size) × (cond a (cond b (writingRuns (view t .k)) (refusal 17)) (refusal 1) .number ≤ 512)
     go true true p q = (leb-true (length (runsOf (view t .k))) size q, runs-bound (tested board t p))
     go true false p q = (omega arith, omega arith)
     go false b p q = (omega arith, omega arith)
@@ -89,7 +89,7 @@ pub marks-at : (board : Board) (t : List ℕ) (size : ℕ) {w : List ℕ} {i : �
 unfolding planOf marksIn
 marks-at board t size {w} {i} made h = go (sound board t) (leb (length (runsOf (view t .k))) size) refl h
   where
-    go : (a b : Bool) → sound board t ≡ a → i < cond a (cond b (writing (view t .k)) (refusal 17)) (refusal 1) .number → MarksAt w i
+    go : (a b : Bool) → sound board t ≡ a → i < cond a (cond b (writingRuns (view t .k)) (refusal 17)) (refusal 1) .number → MarksAt w i
     go true true p x =
         let e : w ≡ marksOver 641 (view t .k) t = made p ∙ rw p refl in
         let (here, next) = marks-short (tested board t p) (stop-small t) t i x in

@@ -20,11 +20,11 @@ use Rattle.words.specs.declared.mark_word.MarkFields.{MarkFields}
 use Rattle.tables.specs.State.{K}
 use Rattle.sound.specs.Core.{Core}
 use Rattle.runs.specs.declared.Run.{Run}
-use Rattle.runs.specs.declared.pieces.Piece.{Piece}
+use Rattle.runs.specs.declared.pieces.PieceEnd.{PieceEnd}
 use Rattle.runs.specs.Laws.Stored.{firsts, length-firsts, firsts-at, firsts-is}
 use Rattle.runs.specs.Runs.{deepestAt, runOf, runsOf, nthRun, On}
 use Rattle.runs.specs.Laws.RunLaws.{run-within, Runs, runs-to}
-use Rattle.runs.specs.Laws.OneList.{one-list}
+use Rattle.runs.specs.Laws.OneList.{one-list-of-runs}
 use Rattle.runs.specs.Laws.Bound.{Starts, base-starts, other-starts, starts-few, runs-bound}
 use Rattle.runs.specs.Pieces.{pieceEnd}
 use Rattle.runs.specs.Laws.Pieces.{piece-same, piece-after, piece-within, deepest-small}
@@ -54,8 +54,8 @@ pub record MarkingRuns (k : K) (b : List ℕ) (l n d : ℕ) (w : List ℕ) : Typ
   pub whole : (i : ℕ) → i < n → getD w i 0 ≡ markFor (lowAt w i) (whoAt w i)
   pub rest : (i : ℕ) → n ≤ i → getD w i 0 ≡ getD b i 0
 
-pub mark-start : {k : K} {b : List ℕ} {l : ℕ} → Core k → length b ≡ 513 → l ≡ k .base → MarkingRuns k b l 0 16 b
-mark-start h s q = record {
+pub runs-mark-start : {k : K} {b : List ℕ} {l : ℕ} → Core k → length b ≡ 513 → l ≡ k .base → MarkingRuns k b l 0 16 b
+runs-mark-start h s q = record {
   size = s;
   from = omega arith;
   to = omega (arith, h .s1);
@@ -205,8 +205,8 @@ module _ {k : K} (h : Core k) {b : List ℕ} {l n c : ℕ} {w : List ℕ} (inv :
         whole i x (yes z) = rw (z, here-low, here-who) here
         whole i x (no z) = rw (there i z) (inv .whole i (omega arith))
 
-    pub mark-on : {r : ℕ} {v : List ℕ} → Marked w n c l d r v → MarkingRuns k b e r d v
-    mark-on {r} {v} m = go (eqb d c) refl (m .number) (m .marks)
+    pub runs-mark-on : {r : ℕ} {v : List ℕ} → Marked w n c l d r v → MarkingRuns k b e r d v
+    runs-mark-on {r} {v} m = go (eqb d c) refl (m .number) (m .marks)
       where
         go : (x : Bool) → eqb d c ≡ x → r ≡ cond x n (n + 1) → v ≡ cond x w (set w n (markFor l d)) → MarkingRuns k b e r d v
         go true z p q = rw (p, q) (goes-on (eqb-true d c z))
@@ -220,18 +220,18 @@ pub record Walk (k : K) (o b : List ℕ) (l n c d : ℕ) (s y w : List ℕ) : Ty
 
 module _ {k : K} {o b : List ℕ} where
   pub walk-begins : {l e m : ℕ} → Core k → k .stop < 2 ^ 27 → length b ≡ 513 → l ≡ k .base → e ≡ k .stop → m ≡ markFor e 0 → Walk k o b l 0 16 0 (replicate 16 0) (replicate 16 m) b
-  walk-begins h few s q z made = record { marking = mark-start h s q; passed = passed-none; way = way-start h few q z made }
+  walk-begins h few s q z made = record { marking = runs-mark-start h s q; passed = passed-none; way = way-start h few q z made }
 
   module _ {l n c d : ℕ} {s y w : List ℕ} (inv : Walk k o b l n c d s y w) where
     pub standing : l < k .stop → Standing k o l d s y
     standing x = record { inside = x; passed = inv .passed; way = inv .way }
 
-    pub walk-on : {r : Piece} {m : ℕ} {s′ y′ v : List ℕ} → Core k → k .stop < 2 ^ 27 → l < k .stop → Pieced k o l r s′ y′ → Marked w n c l (r .deepest .0) m v
+    pub walk-past-piece : {r : PieceEnd} {m : ℕ} {s′ y′ v : List ℕ} → Core k → k .stop < 2 ^ 27 → l < k .stop → Pieced k o l r s′ y′ → Marked w n c l (r .deepest .0) m v
         → Walk k o b (r .end .0) m (r .deepest .0) (r .depth) s′ y′ v
-    walk-on h few x p q =
+    walk-past-piece h few x p q =
         let z = piece-after k l x in
         record {
-          marking = mark-on h (inv .marking) x (p .end) (p .deepest) (p .small) few q;
+          marking = runs-mark-on h (inv .marking) x (p .end) (p .deepest) (p .small) few q;
           passed = passed-later (omega (arith, p .end)) (p .passed);
           way = way-later (omega (arith, p .end)) (p .way);
         }
@@ -324,14 +324,14 @@ module _ {k : K} (h : Core k) {b : List ℕ} {l n c : ℕ} {w : List ℕ} (inv :
   -- there is one such list
   all : rs ≡ runsOf k
   unfolding runsOf
-  all = one-list rs (runsOf k) runs (runs-to k (k .base) (k .stop) (h .s1))
+  all = one-list-of-runs rs (runsOf k) runs (runs-to k (k .base) (k .stop) (h .s1))
 
   number : n ≡ length (runsOf k)
   number = sym size ∙ ap length all
 
-  pub mark-end : (n ≡ length (runsOf k)) × (set w n m ≡ marksOver 513 k b)
+  pub runs-mark-end : (n ≡ length (runsOf k)) × (set w n m ≡ marksOver 513 k b)
   unfolding markOf
-  mark-end = (number, tab-is 513 (markOf k b) v (length-set w n m ∙ inv .size) (λ i x. go i (decLt i n) (ℕ-discrete i n)))
+  runs-mark-end = (number, tab-is 513 (markOf k b) v (length-set w n m ∙ inv .size) (λ i x. go i (decLt i n) (ℕ-discrete i n)))
     where
       go : (i : ℕ) → Dec (i < n) → Dec (i ≡ n) → getD v i 0 ≡ markOf k b i
       go i (yes x) e =

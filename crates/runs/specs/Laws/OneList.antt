@@ -53,15 +53,15 @@ module _ {k : K} where
       ap₂ (λ (a b : ℕ). runOf a b (r .deepest .0)) (v .chain .from ∙ sym (w .chain .from)) (same-end r s rs ss v w)
       ∙ ap (runOf (s .start .0) (s .end .0)) (head-deepest r rs v ∙ sym (head-deepest s ss w))
 
-  pub one-list : {l m : ℕ} (rs ss : List Run) → Runs k l m rs → Runs k l m ss → rs ≡ ss
-  one-list [] ss v w = absurd (omega (arith, v .chain .some))
-  one-list (r ∷ rs) [] v w = absurd (omega (arith, w .chain .some))
-  one-list (r ∷ []) (s ∷ []) v w = ap (λ (x : Run). x ∷ []) (same-run r s [] [] v w)
-  one-list (r ∷ []) (s ∷ u ∷ ss) v w = absurd (no-more s u ss (sym (same-end r s [] (u ∷ ss) v w) ∙ v .chain .to) (w .chain))
-  one-list (r ∷ t ∷ rs) (s ∷ []) v w = absurd (no-more r t rs (same-end r s (t ∷ rs) [] v w ∙ w .chain .to) (v .chain))
-  one-list (r ∷ t ∷ rs) (s ∷ u ∷ ss) v w =
+  pub one-list-of-runs : {l m : ℕ} (rs ss : List Run) → Runs k l m rs → Runs k l m ss → rs ≡ ss
+  one-list-of-runs [] ss v w = absurd (omega (arith, v .chain .some))
+  one-list-of-runs (r ∷ rs) [] v w = absurd (omega (arith, w .chain .some))
+  one-list-of-runs (r ∷ []) (s ∷ []) v w = ap (λ (x : Run). x ∷ []) (same-run r s [] [] v w)
+  one-list-of-runs (r ∷ []) (s ∷ u ∷ ss) v w = absurd (no-more s u ss (sym (same-end r s [] (u ∷ ss) v w) ∙ v .chain .to) (w .chain))
+  one-list-of-runs (r ∷ t ∷ rs) (s ∷ []) v w = absurd (no-more r t rs (same-end r s (t ∷ rs) [] v w ∙ w .chain .to) (v .chain))
+  one-list-of-runs (r ∷ t ∷ rs) (s ∷ u ∷ ss) v w =
       ap₂ (λ (x : Run) xs. x ∷ xs) (same-run r s (t ∷ rs) (u ∷ ss) v w)
-      (one-list (t ∷ rs) (u ∷ ss) (tail-runs r t rs v) (rw (← same-end r s (t ∷ rs) (u ∷ ss) v w) at (tail-runs s u ss w)))
+      (one-list-of-runs (t ∷ rs) (u ∷ ss) (tail-runs r t rs v) (rw (← same-end r s (t ∷ rs) (u ∷ ss) v w) at (tail-runs s u ss w)))
 
 -- from holders to the deepest of them
 longest-runs : {k : K} {rs : List Run} → Longest k rs → Runs k (k .base) (k .stop) rs
@@ -77,4 +77,4 @@ longest-runs {k} {rs} h = record {
 
 -- what meets the laws is the runs
 pub longest-one : {k : K} {rs : List Run} → k .base < k .stop → Longest k rs → rs ≡ runsOf k
-longest-one {k} {rs} b h = one-list rs (runsOf k) (longest-runs h) (longest-runs (runs-longest k b))
+longest-one {k} {rs} b h = one-list-of-runs rs (runsOf k) (longest-runs h) (longest-runs (runs-longest k b))

@@ -15,13 +15,13 @@ module _ {A : Type 0} (f : ℕ → A) where
   firsts (suc n) = firsts n ++ (f n ∷ [])
 
   -- xs with f 0 at 0, .., f (i - 1) at i - 1
-  abbrev pub stored : ℕ → List A → List A
-  stored zero xs = xs
-  stored (suc i) xs = set (stored i xs) i (f i)
+  abbrev pub storedTo : ℕ → List A → List A
+  storedTo zero xs = xs
+  storedTo (suc i) xs = set (storedTo i xs) i (f i)
 
-  pub length-stored : (i : ℕ) (xs : List A) → length (stored i xs) ≡ length xs
-  length-stored zero xs = refl
-  length-stored (suc i) xs = length-set (stored i xs) i (f i) ∙ length-stored i xs
+  pub length-stored-to : (i : ℕ) (xs : List A) → length (storedTo i xs) ≡ length xs
+  length-stored-to zero xs = refl
+  length-stored-to (suc i) xs = length-set (storedTo i xs) i (f i) ∙ length-stored-to i xs
 
   pub length-firsts : (n : ℕ) → length (firsts n) ≡ n
   length-firsts zero = refl
@@ -32,10 +32,10 @@ module _ {A : Type 0} (f : ℕ → A) where
       ap (λ (ws : List A). set ws n (f n)) e ∙ subst (λ (k : ℕ). set (R ++ y ∷ Z) k (f n) ≡ R ++ f n ∷ Z) l (set-append-seam R y Z (f n)) ∙ sym (append-snoc R (f n) Z)
 
   -- where xs is long enough: the first values, and then xs
-  pub stored-is : (i : ℕ) (xs : List A) → i ≤ length xs → stored i xs ≡ firsts i ++ drop i xs
-  stored-is zero xs l = refl
-  stored-is (suc i) xs l =
-      next (firsts i) (drop (suc i) xs) (stored i xs) i (getD xs i (f i)) (length-firsts i) (stored-is i xs (omega (arith, l)) ∙ ap (λ (r : List A). firsts i ++ r) (drop-cons xs i (f i) l))
+  pub stored-to-is : (i : ℕ) (xs : List A) → i ≤ length xs → storedTo i xs ≡ firsts i ++ drop i xs
+  stored-to-is zero xs l = refl
+  stored-to-is (suc i) xs l =
+      next (firsts i) (drop (suc i) xs) (storedTo i xs) i (getD xs i (f i)) (length-firsts i) (stored-to-is i xs (omega (arith, l)) ∙ ap (λ (r : List A). firsts i ++ r) (drop-cons xs i (f i) l))
 
 -- ── as the list of a function's first values ──
 pub firsts-at : {A : Type 0} (f : ℕ → A) (n i : ℕ) (d : A) → i < n → getD (firsts f n) i d ≡ f i

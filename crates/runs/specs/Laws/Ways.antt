@@ -17,7 +17,7 @@ use Rattle.tables.specs.State.{K}
 use Rattle.sound.specs.Core.{Core}
 use Rattle.sound.specs.Holders.{heir}
 use Rattle.runs.specs.declared.pieces.Hop.{Hop}
-use Rattle.runs.specs.declared.pieces.Piece.{Piece}
+use Rattle.runs.specs.declared.pieces.PieceEnd.{PieceEnd}
 use Rattle.runs.specs.Pieces.{endAt, Hopped, Descent}
 use Rattle.runs.specs.Laws.Pieces.{holder-small, end-after, same-end, same-heir, piece-start, descent-here, descent-last, descent-down}
 use Rattle.runs.specs.Places.{Passed}
@@ -48,12 +48,12 @@ module _ {w : List ℕ} {d l r : ℕ} (inv : Climbing w d l r) where
       go j x y (yes z) = rw z q
       go j x y (no z) = inv .below j (omega arith) y
 
-  pub climb-root : Climbs w d l → r ≤ 0 → Climbed w d l r
-  climb-root h b = let z : r ≡ 0 = omega arith in record { climbing = inv; low = rw z (h .root) }
+  pub climbed-root : Climbs w d l → r ≤ 0 → Climbed w d l r
+  climbed-root h b = let z : r ≡ 0 = omega arith in record { climbing = inv; low = rw z (h .root) }
 
 -- ── down ──
 -- of two results the end and the deepest holder are equal
-pub pieced-one : {k : K} {o : List ℕ} {l : ℕ} {r r′ : Piece} {s w s′ w′ : List ℕ} → Pieced k o l r s w → Pieced k o l r′ s′ w′ → (r .end .0 ≡ r′ .end .0) × (r .deepest .0 ≡ r′ .deepest .0)
+pub pieced-one : {k : K} {o : List ℕ} {l : ℕ} {r r′ : PieceEnd} {s w s′ w′ : List ℕ} → Pieced k o l r s w → Pieced k o l r′ s′ w′ → (r .end .0 ≡ r′ .end .0) × (r .deepest .0 ≡ r′ .deepest .0)
 pieced-one x y = (x .end ∙ sym (y .end), x .deepest ∙ sym (y .deepest))
 
 -- on the way down, at p, with the lowest end so far
@@ -86,8 +86,8 @@ module _ {k : K} {o : List ℕ} where
   pub climbs : {l d : ℕ} {s w : List ℕ} → Standing k o l d s w → Climbs w d l
   climbs h = record { size = h .way .size; deep = h .way .deep; root = omega (arith, h .inside, h .way .root) }
 
-  pub walk-start : {l d r : ℕ} {s w : List ℕ} {f : MarkFields} → Standing k o l d s w → Climbed w d l r → f ≡ fieldsIn mark (getD w r 0) → Walking k o l (f .holder .0) (f .line .0) r s w
-  walk-start h c q =
+  pub walk-from-mark : {l d r : ℕ} {s w : List ℕ} {f : MarkFields} → Standing k o l d s w → Climbed w d l r → f ≡ fieldsIn mark (getD w r 0) → Walking k o l (f .holder .0) (f .line .0) r s w
+  walk-from-mark h c q =
       let b = c .climbing .within in
       let e = ap (λ (g : MarkFields). g .line .0) q in
       record {

@@ -12,7 +12,7 @@ use Rattle.loops.specs.Laws.Every.{bool-ext}
 use Rattle.loops.specs.Loops.{count}
 use Rattle.loops.specs.Laws.Count.{count-le, count-ext, count-one, count-apart, count-fewer, without, count-without}
 use Rattle.tables.specs.State.{Opt, none, some, Area, K, Table}
-use Rattle.tables.specs.Laws.State.{not-none, none-of}
+use Rattle.tables.specs.Laws.State.{not-none, never-some}
 use Rattle.tables.specs.View.{view}
 use Rattle.tables.specs.Encode.{encode, Canon, Is}
 use Rattle.tables.specs.Laws.Encode.{is-one, is-canon}
@@ -60,7 +60,7 @@ present-left t m q = go (m q)
 
 -- a number above 15 is no partition's
 far : {t : Table} → Fit t → (q : ℕ) → 16 ≤ q → t .k .parent q ≡ 0
-far {t} h q b = h .orphan q (none-of (t .k .area q 0) (λ a u. let z = h .area q 0 a u .0 in omega arith))
+far {t} h q b = h .orphan q (never-some (t .k .area q 0) (λ a u. let z = h .area q 0 a u .0 in omega arith))
 
 -- ── the record of p ──
 module _ (l : List ℕ) {m : List ℕ} (p : ℕ) (clear : Is m (clearRecord (view l) p)) where
@@ -295,10 +295,10 @@ module _ (l : List ℕ) {c : ℕ} (p : ℕ) (now : view l .k .current ≡ c) (is
   unfolding child present
   ungiven-child {m} put = child-left (view m .k) c p (ap (λ (t : Table). child (t .k) c p) (put .viewed) ∙ is)
 
-  pub clear-done : {m o r : List ℕ} {n : ℕ} → Is m (ungiven (view l) c p) → Cleared m p n o → r ≡ encode (settled (view o))
+  pub clear-exit-done : {m o r : List ℕ} {n : ℕ} → Is m (ungiven (view l) c p) → Cleared m p n o → r ≡ encode (settled (view o))
       → Ran (clearOut (view l) p) l (Done n 0) r
   unfolding clearOut
-  clear-done {m} {o} {n = n} was gone e =
+  clear-exit-done {m} {o} {n = n} was gone e =
       let put : Is m (ungiven (view l) (view l .k .current) p) = subst (λ (c : ℕ). Is m (ungiven (view l) c p)) (sym now) was in
       let number : n ≡ count 16 (branchOf (view l) p) = gone .number ∙ ap (λ (t : Table). count 16 (branchOf t p)) (put .viewed) in
       ran-done (pass 3 (child-now _ _ now is) (ap (λ (v : ℕ). done v 0 (remove (view l) p (branchOf (view l) p))) (sym number)))

@@ -8,7 +8,7 @@ use lib.Dec.{eqb}
 use borrow.Author.Tests.{eq-eqb, ne-eqb}
 use Rattle.words.specs.declared.slot_word.SlotFields.{SlotFields}
 use Rattle.tables.specs.State.{Opt, none, some, Entry, Table, givenTo}
-use Rattle.tables.specs.Laws.State.{none-of}
+use Rattle.tables.specs.Laws.State.{never-some}
 use Rattle.tables.specs.Update.{upd, upd1}
 use Rattle.tables.specs.Laws.Update.{row-same, upd1-keep, upd-keep}
 use Rattle.settling.specs.UpTo.{upTo}
@@ -46,17 +46,17 @@ slot-same {l} c p i h e = subst (Is l) same (canon-is h)
     }
 
 module _ {l : List ℕ} {c i : ℕ} {f : SlotFields} (v : Seen l c i f) (p : ℕ) where
-  pub slot-empty : Canon l → f .present ≡ false → Is l (ungiveAt (view l) c p i)
+  pub ungive-empty : Canon l → f .present ≡ false → Is l (ungiveAt (view l) c p i)
   unfolding ungive
-  slot-empty h q = slot-same c p i h (rw (entry-none v q) refl)
+  ungive-empty h q = slot-same c p i h (rw (entry-none v q) refl)
 
-  pub slot-others : Canon l → f .present ≡ true → (f .given .0 ≡ p → ⊥) → Is l (ungiveAt (view l) c p i)
+  pub ungive-others : Canon l → f .present ≡ true → (f .given .0 ≡ p → ⊥) → Is l (ungiveAt (view l) c p i)
   unfolding ungive
-  slot-others h q z = slot-same c p i h (rw (entry-there v q, ne-eqb (f .given .0) p z) refl)
+  ungive-others h q z = slot-same c p i h (rw (entry-there v q, ne-eqb (f .given .0) p z) refl)
 
-  pub slot-ungiven : {m : List ℕ} → f .present ≡ true → f .given .0 ≡ p → Is m (putSlot (view l) c i (some (givenTo (entryOf f) 0)) (f .opened)) → Is m (ungiveAt (view l) c p i)
+  pub ungive-done : {m : List ℕ} → f .present ≡ true → f .given .0 ≡ p → Is m (putSlot (view l) c i (some (givenTo (entryOf f) 0)) (f .opened)) → Is m (ungiveAt (view l) c p i)
   unfolding ungive
-  slot-ungiven {m} q z put = rw (v .opened) (subst (λ (e : Opt Entry). Is m (putSlot (view l) c i e (f .opened))) same put)
+  ungive-done {m} q z put = rw (v .opened) (subst (λ (e : Opt Entry). Is m (putSlot (view l) c i e (f .opened))) same put)
     where
       same : some (givenTo (entryOf f) 0) ≡ ungive p (view l .k .slot c i)
       same = rw (entry-there v q, eq-eqb (f .given .0) p z) refl
@@ -110,7 +110,7 @@ module _ {t : Table} {c p n : ℕ} {l : List ℕ} (inv : Ungiving t c p n l) whe
       subst (Is l) (ap (λ (j : ℕ). ungivenTo t c p j) z ∙ all-done) (inv .is)
     where
       out : (i : ℕ) → 32 ≤ i → t .k .slot c i ≡ none
-      out i o = none-of (t .k .slot c i) (λ e u. let b = h .slot c i e u .1 in omega arith)
+      out i o = never-some (t .k .slot c i) (λ e u. let b = h .slot c i e u .1 in omega arith)
 
       all-done : ungivenTo t c p 32 ≡ ungiven t c p
       all-done = λ x. record {
@@ -125,10 +125,10 @@ module _ {l : List ℕ} {c : ℕ} (p : ℕ) (now : view l .k .current ≡ c) (is
   unfolding delete
   delete-parent q = ran-refused (pass 3 (child-now _ _ now is) (fail 15 _ (ap not q)))
 
-  pub delete-done : {m o r : List ℕ} → hasChild (view l .k) p ≡ false → Is m (ungiven (view l) c p) → Is o (clearRecord (view m) p) → r ≡ encode (settled (view o))
+  pub delete-exit-done : {m o r : List ℕ} → hasChild (view l .k) p ≡ false → Is m (ungiven (view l) c p) → Is o (clearRecord (view m) p) → r ≡ encode (settled (view o))
       → Ran (delete (view l) p) l (Done 0 0) r
   unfolding delete
-  delete-done {m} {o} q was clear e =
+  delete-exit-done {m} {o} q was clear e =
       let put : Is m (ungiven (view l) (view l .k .current) p) = subst (λ (c : ℕ). Is m (ungiven (view l) c p)) (sym now) was in
       let gone : Is o (zeroRecords (view m) (λ q. eqb q p)) = subst (Is o) (zero-one (view m) p) clear in
       ran-done (pass 3 (child-now _ _ now is) (pass 15 (ap not q) refl))

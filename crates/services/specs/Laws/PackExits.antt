@@ -13,7 +13,7 @@ use Rattle.words.specs.declared.regions_word.Region.{Region}
 use Rattle.words.specs.declared.regions_word.RegionsFields.{RegionsFields}
 use Rattle.words.specs.declared.slot_word.SlotFields.{SlotFields}
 use Rattle.tables.specs.State.{Opt, none, some, Entry, Area, Table}
-use Rattle.tables.specs.Laws.State.{none-of}
+use Rattle.tables.specs.Laws.State.{never-some}
 use Rattle.tables.specs.Update.{upd, upd1}
 use Rattle.tables.specs.Laws.Update.{upd1-same, upd1-other, row-same, row-other, upd1-keep, upd-keep}
 use Rattle.settling.specs.UpTo.{upTo}
@@ -109,7 +109,7 @@ module _ {t : Table} {p i j n : ℕ} {l : List ℕ} (inv : Renaming t p i j n l)
       subst (Is l) (ap (λ (m : ℕ). renamedTo t p i j m) z ∙ all-done) (inv .is)
     where
       out : (r : ℕ) → 8 ≤ r → t .region p r ≡ none
-      out r o = none-of (t .region p r) (λ m u. let c = h .region p r m u .1 in omega arith)
+      out r o = never-some (t .region p r) (λ m u. let c = h .region p r m u .1 in omega arith)
 
       all-done : renamedTo t p i j 8 ≡ renamed t p i j
       all-done = λ x. record {

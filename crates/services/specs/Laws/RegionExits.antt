@@ -32,8 +32,8 @@ region-low r h = lt-ltb r 8 (omega arith)
 
 -- ── the region x that was read ──
 module _ {l : List ℕ} {p : ℕ} {f : RegionsFields} {x : Region} (v : SeenRegions l p f) (r : ℕ) (h : r < 8) (is : x ≡ nthRegion f r) where
-  pub region-small : x .slot .0 < 32
-  region-small = rw is (v .small r)
+  pub seen-region-small : x .slot .0 < 32
+  seen-region-small = rw is (v .small r)
 
   pub region-none : x .loaded ≡ false → view l .region p r ≡ none
   unfolding named
@@ -85,5 +85,5 @@ module _ (board : Board) {l : List ℕ} {p s : ℕ} {f : SlotFields} (own : ownO
     pub load-many : 8 < n → load board (view l) p s r ≡ refused 19
     load-many w = from-19 (fail 19 _ (lt-leb n 8 w))
 
-    pub load-done : n ≤ 8 → load board (view l) p s r ≡ done 0 0 (settle (view l .k) (upd (view l .region) p r (some s)))
-    load-done w = from-19 (pass 19 (le-leb n 8 w) refl)
+    pub load-exit-done : n ≤ 8 → load board (view l) p s r ≡ done 0 0 (settle (view l .k) (upd (view l .region) p r (some s)))
+    load-exit-done w = from-19 (pass 19 (le-leb n 8 w) refl)

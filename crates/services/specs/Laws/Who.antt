@@ -24,6 +24,6 @@ module _ (k : K) (p : ℕ) {c : ℕ} (now : k .current ≡ c) where
   unfolding parentOrChild child present
   of-root z e = rw (now, eq-eqb c 0 z) e
 
-  pub no-parent : {b : Bool} {u : ℕ} → (c ≡ 0 → ⊥) → k .parent c ≡ u → (p ≡ u → ⊥) → b ≡ child k c p → b ≡ parentOrChild k p
+  pub not-parent : {b : Bool} {u : ℕ} → (c ≡ 0 → ⊥) → k .parent c ≡ u → (p ≡ u → ⊥) → b ≡ child k c p → b ≡ parentOrChild k p
   unfolding parentOrChild child present
-  no-parent z e q f = rw (now, ne-eqb c 0 z, ne-eqb p (k .parent c) (λ w. q (w ∙ e))) f
+  not-parent z e q f = rw (now, ne-eqb c 0 z, ne-eqb p (k .parent c) (λ w. q (w ∙ e))) f

@@ -13,7 +13,7 @@ use Rattle.words.specs.declared.Written.{Written}
 use Rattle.words.specs.declared.slot_word.SlotFields.{SlotFields}
 use Rattle.words.specs.declared.structure_word.StructureFields.{StructureFields}
 use Rattle.tables.specs.State.{Opt, none, some, K, Table}
-use Rattle.tables.specs.Laws.State.{some-inj, not-none, none-of, same as same-entry}
+use Rattle.tables.specs.Laws.State.{some-inj, not-none, never-some, same as same-entry}
 use Rattle.tables.specs.Update.{both?, upd, upd1}
 use Rattle.tables.specs.Laws.Update.{upd-same, upd-other, upd1-same, upd1-other, row-same, row-other, upd1-keep, upd-keep}
 use Rattle.tables.specs.View.{slotPlace, entryOf, structureArea, view}
@@ -80,7 +80,7 @@ ends-none {j = j} inv h = record { j = j; is = refl; within = inv .within; gone 
 
 -- no slot behind them is in use
 ends-empty : {k : K} {p n : ℕ} → Housed k → UsedEnd k p n → (i : ℕ) → n ≤ i → i < 32 → k .slot p i ≡ none
-ends-empty {k} {p} h x i a b = none-of (k .slot p i) (λ e u.
+ends-empty {k} {p} h x i a b = never-some (k .slot p i) (λ e u.
     let (y, v) = h .at p i e u in not-none (k .area p (1 + i / 8)) (x .gone (i / 8) (omega (arith, x .is)) (omega arith)) v)
 
 -- ── what is kept of a region ──
@@ -320,11 +320,11 @@ pub record SettledRowTo (P : Table → Type 0) (l : List ℕ) (p i : ℕ) (m : L
   others : (q : ℕ) → (q ≡ p → ⊥) → Stays q l m
 
 module _ {P : Table → Type 0} where
-  pub row-start : {l : List ℕ} {p : ℕ} → Canon l → P (view l) → SettledRowTo P l p 0 l
-  row-start c h = record { near = near-start c h; fixed = λ j b. absurd (omega arith); others = λ q z. record { opened = refl; region = refl } }
+  pub settled-row-start : {l : List ℕ} {p : ℕ} → Canon l → P (view l) → SettledRowTo P l p 0 l
+  settled-row-start c h = record { near = near-start c h; fixed = λ j b. absurd (omega arith); others = λ q z. record { opened = refl; region = refl } }
 
-  pub row-more : {l m o : List ℕ} {p i : ℕ} → SettledRowTo P l p i m → SlotDone P p i m o → SettledRowTo P l p (i + 1) o
-  row-more {l} {m} {o} {p} {i} inv d = record {
+  pub settled-row-more : {l m o : List ℕ} {p i : ℕ} → SettledRowTo P l p i m → SlotDone P p i m o → SettledRowTo P l p (i + 1) o
+  settled-row-more {l} {m} {o} {p} {i} inv d = record {
     near = near-on (inv .near) (d .near);
     fixed = λ j c. go j c (ℕ-discrete j i);
     others = λ q z. record {
@@ -337,12 +337,12 @@ module _ {P : Table → Type 0} where
       go j c (yes z) = rw z (d .fixed)
       go j c (no z) = d .near .keeps p j (inv .fixed j (omega arith))
 
-  pub row-end : {l m : List ℕ} {p i n : ℕ} → SettledRowTo P l p i m → Housed (view l .k) → RegionsNamed (view m) → UsedEnd (view l .k) p n → n ≤ i → RecordDone P p l m
+  pub settled-row-end : {l m : List ℕ} {p i n : ℕ} → SettledRowTo P l p i m → Housed (view l .k) → RegionsNamed (view m) → UsedEnd (view l .k) p n → n ≤ i → RecordDone P p l m
   unfolding settle
-  row-end {l} {m} {p} {i} {n} inv house names ends b = record { is = subst (Is m) same (canon-is (inv .near .canon)); near = inv .near; fixed = bits }
+  settled-row-end {l} {m} {p} {i} {n} inv house names ends b = record { is = subst (Is m) same (canon-is (inv .near .canon)); near = inv .near; fixed = bits }
     where
       empty : (j : ℕ) → i ≤ j → view m .k .slot p j ≡ none
-      empty j a = none-of (view m .k .slot p j) (λ e u.
+      empty j a = never-some (view m .k .slot p j) (λ e u.
           not-none (view l .k .slot p j) (ends-empty house ends j (omega arith) (fit-view (inv .near .canon) .slot p j e u .1)) (ap (λ (k : K). k .slot p j) (sym (near-k (inv .near))) ∙ u))
 
       bits : (j : ℕ) → Fixed m p j
@@ -379,26 +379,26 @@ pub record AllTo (P : Table → Type 0) (l : List ℕ) (n : ℕ) (m : List ℕ) 
   pub fixed : (p j : ℕ) → p < n → Fixed m p j
 
 module _ {P : Table → Type 0} where
-  pub all-start : {l : List ℕ} → Canon l → P (view l) → AllTo P l 0 l
-  all-start c h = record { near = near-start c h; fixed = λ p j b. absurd (omega arith) }
+  pub settled-all-start : {l : List ℕ} → Canon l → P (view l) → AllTo P l 0 l
+  settled-all-start c h = record { near = near-start c h; fixed = λ p j b. absurd (omega arith) }
 
-  pub all-more : {l m o : List ℕ} {n : ℕ} → AllTo P l n m → RecordDone P n m o → AllTo P l (n + 1) o
-  all-more {o = o} {n} inv d = record { near = near-on (inv .near) (d .near); fixed = λ p j c. go p j c (ℕ-discrete p n) }
+  pub settled-all-more : {l m o : List ℕ} {n : ℕ} → AllTo P l n m → RecordDone P n m o → AllTo P l (n + 1) o
+  settled-all-more {o = o} {n} inv d = record { near = near-on (inv .near) (d .near); fixed = λ p j c. go p j c (ℕ-discrete p n) }
     where
       go : (p j : ℕ) → p < n + 1 → Dec (p ≡ n) → Fixed o p j
       go p j c (yes z) = rw z (d .fixed j)
       go p j c (no z) = d .near .keeps p j (inv .fixed p j (omega arith))
 
   -- the table is its own settled one, and so the one that was to be settled
-  pub all-end : {l m : List ℕ} {n : ℕ} → AllTo P l n m → RegionsNamed (view m) → 16 ≤ n → m ≡ encode (settled (view l))
+  pub settled-all-end : {l m : List ℕ} {n : ℕ} → AllTo P l n m → RegionsNamed (view m) → 16 ≤ n → m ≡ encode (settled (view l))
   unfolding settle
-  all-end {l} {m} {n} inv names b = sym (inv .near .canon .same) ∙ ap encode (sym own ∙ inv .near .same)
+  settled-all-end {l} {m} {n} inv names b = sym (inv .near .canon .same) ∙ ap encode (sym own ∙ inv .near .same)
     where
       bit : (p i : ℕ) → Dec (p < n) → Fixed m p i
       bit p i (yes a) = inv .fixed p i a
       bit p i (no a) =
           no-entry (inv .near .canon) p i
-          (none-of (view m .k .slot p i) (λ e u. let z = fit-view (inv .near .canon) .slot p i e u .0 in omega arith))
+          (never-some (view m .k .slot p i) (λ e u. let z = fit-view (inv .near .canon) .slot p i e u .0 in omega arith))
 
       own : settled (view m) ≡ view m
       own = λ x. record {

@@ -16,13 +16,13 @@ pub record CountingPieces (s e a b n : ℕ) : Type 0 where
   pub left : length (pieces s e) ≡ n + length (pieces a b)
   pub few : n ≤ 52
 
-pub count-start : {s e : ℕ} → e < 2 ^ 27 → CountingPieces s e s e 0
-count-start h = record { small = h; left = omega arith; few = omega arith }
+pub pieces-count-start : {s e : ℕ} → e < 2 ^ 27 → CountingPieces s e s e 0
+pieces-count-start h = record { small = h; left = omega arith; few = omega arith }
 
 module _ {s e a b n : ℕ} (c : CountingPieces s e a b n) (small : e < 2 ^ 27) where
   -- z zeros are taken out, then the ends are counted and halved
-  pub count-on : (z : ℕ) → ZerosShifted a b z → CountingPieces s e ((a / 2 ^ z + 1) / 2) (b / 2 ^ z / 2) (n + (a / 2 ^ z % 2 + b / 2 ^ z % 2))
-  count-on z t =
+  pub pieces-count-on : (z : ℕ) → ZerosShifted a b z → CountingPieces s e ((a / 2 ^ z + 1) / 2) (b / 2 ^ z / 2) (n + (a / 2 ^ z % 2 + b / 2 ^ z % 2))
+  pieces-count-on z t =
       let low : b / 2 ^ z < 2 ^ 27 = omega (arith, c .small, t .small) in
       let half = pieces-half low (t .less) in
       record {
@@ -31,8 +31,8 @@ module _ {s e a b n : ℕ} (c : CountingPieces s e a b n) (small : e < 2 ^ 27) w
         few = omega (arith, c .left, t .same, half, pieces-few s e small);
       }
 
-  pub count-end : b ≤ a → n ≡ length (pieces s e)
-  count-end h = omega (arith, c .left, ap length (pieces-none a b h))
+  pub pieces-count-end : b ≤ a → n ≡ length (pieces s e)
+  pieces-count-end h = omega (arith, c .left, ap length (pieces-none a b h))
 
 -- so on ARMv7-M
 pub pieces-counted : {board : Board} (s e : ℕ) {r : ℕ} → board ≡ V7 → e < 2 ^ 27 → r ≡ length (pieces s e) → (r ≡ length (piecesFor board s e)) × (r ≤ 52)

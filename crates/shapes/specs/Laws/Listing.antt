@@ -80,8 +80,8 @@ plain-listed s e (x ∷ rest) h q = record { number = refl; words = rw q refl }
 
 -- ── on either board ──
 module _ {board x : Board} (b : board ≡ x) (s e : ℕ) where
-  pub can-list : {list : List ℕ} → CanList board s e list → CanList x s e list
-  can-list h = rw (← b) h
+  pub can-list-on : {list : List ℕ} → CanList board s e list → CanList x s e list
+  can-list-on h = rw (← b) h
 
   pub listed-on : {before : List ℕ} {r : ℕ} {after : List ℕ} → ShapesListed (piecesFor x s e) before r after → ShapesListed (piecesFor board s e) before r after
   listed-on h = rw b h

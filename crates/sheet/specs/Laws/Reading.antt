@@ -36,11 +36,11 @@ module _ {t : Table} (h : Right t) where
   word-read n b = sym (tab-at 32 _ n b) ∙ ap (λ (x : List ℕ). getD x n 0) (words-there 32 (sheetOf t) (sheet-length t) fits)
 
   module _ (p : ℕ) (b : p < 16) where
-    pub masks-read : wordAt (sheetBytes (sheetOf t)) (2 * p) ≡ masksWord t p
-    masks-read = word-read (2 * p) (omega arith) ∙ sheet-even t p b
+    pub sheet-masks-read : wordAt (sheetBytes (sheetOf t)) (2 * p) ≡ masksWord t p
+    sheet-masks-read = word-read (2 * p) (omega arith) ∙ sheet-even t p b
 
-    pub lines-read : wordAt (sheetBytes (sheetOf t)) (2 * p + 1) ≡ linesWord t p
-    lines-read = word-read (2 * p + 1) (omega arith) ∙ sheet-odd t p b
+    pub sheet-lines-read : wordAt (sheetBytes (sheetOf t)) (2 * p + 1) ≡ linesWord t p
+    sheet-lines-read = word-read (2 * p + 1) (omega arith) ∙ sheet-odd t p b
 
 -- the 16 bytes of p are those of its two words
 pub bytes-same : (t new : Table) (p : ℕ) → p < 16 → masksWord new p ≡ masksWord t p → linesWord new p ≡ linesWord t p → (n : ℕ) → n < 16

@@ -10,7 +10,7 @@ use Rattle.loops.specs.Laws.Count.{sum-more}
 use Rattle.loops.specs.Laws.Map.{Mapping, map-lt, map-join, map-none, map-start, map-on, map-end}
 use Rattle.words.specs.declared.slot_word.SlotFields.{SlotFields}
 use Rattle.tables.specs.State.{none, some, Table}
-use Rattle.tables.specs.Laws.State.{none-of}
+use Rattle.tables.specs.Laws.State.{never-some}
 use Rattle.tables.specs.View.{entryOf, entryIn, view}
 use Rattle.tables.specs.Search.{isSome}
 use Rattle.tables.specs.Laws.Search.{entry-some}
@@ -148,7 +148,7 @@ module _ {t : Table} {p : ℕ} (j : ℕ) {x : Sums} (inv : Adding t p (8 * j + 8
   }
     where
       empty : (k : ℕ) → 8 * j ≤ k → k < 8 * j + 8 → t .k .slot p k ≡ none
-      empty k a b = none-of (t .k .slot p k) (λ e u.
+      empty k a b = never-some (t .k .slot p k) (λ e u.
           let (y, v) = h .core .s5 p k e u in
           let z : k / 8 ≡ j = omega arith in
           false≢true (sym q ∙ ap isSome (rw z at v)))

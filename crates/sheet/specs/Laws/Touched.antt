@@ -65,7 +65,7 @@ use Rattle.sheet.specs.Touched.{givenIn, nextIn, touchedOfCaller, touche
 use Rattle.sheet.specs.declared.calls.Whose.{Whose}
 use Rattle.sheet.specs.declared.calls.Whose.the-variants.{Nobody, One, Up, Gone}
 use Rattle.sheet.specs.Laws.Words.{masks-in}
-use Rattle.sheet.specs.Laws.Reading.{masks-read, bytes-same}
+use Rattle.sheet.specs.Laws.Reading.{sheet-masks-read, bytes-same}
 use Rattle.sheet.specs.Laws.Children.{SameChildren, heads-same, serve-children}
 use Rattle.sheet.specs.Laws.Kept.{PairAlike, stays-alike, masks-same, lines-same}
 use Rattle.sheet.specs.Laws.Those.{above-not, those-all, pair-size, pair-in, pair-out}
@@ -163,7 +163,7 @@ module _ {t : Table} (h : Right t) where
     own = go (present (t .k) p) refl
       where
         read : present (t .k) p ≡ true → fieldsIn masks (wordAt before (2 * p)) .children ≡ childrenOf (t .k) p
-        read q = ap (λ (w : ℕ). fieldsIn masks w .children) (masks-read h p b ∙ rw q refl) ∙ ap (λ (f : MasksFields). f .children) (fields-back masks-lawful (masksOf (t .k) p) (masks-in h p))
+        read q = ap (λ (w : ℕ). fieldsIn masks w .children) (sheet-masks-read h p b ∙ rw q refl) ∙ ap (λ (f : MasksFields). f .children) (fields-back masks-lawful (masksOf (t .k) p) (masks-in h p))
 
         go : (x : Bool) → present (t .k) p ≡ x → masksWith (fieldsIn masks (wordAt before (2 * p)) .children) new p ≡ masksWord new p
         go true q = rw (read q) refl

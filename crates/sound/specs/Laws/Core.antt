@@ -134,7 +134,7 @@ module _ {board : Board} (l : List ℕ) (h : Sound board l) where
 
 -- ── and back ──
 -- What a core says of the clauses: all but zero words and zero bits (S2 absent, S3, S4 absent, S5 other), open bits (S7 whole, S9) and regions (S10).
-pub record Parts (k : K) : Type 0 where
+pub record CoreClauses (k : K) : Type 0 where
   pub s1 : S1 k
   pub s2-root : (p : ℕ) → p ≡ 0 → (k .area p 0 ≡ some nowhere) × (k .parent p ≡ 0)
   pub s2-parent : (p : ℕ) → (p ≡ 0 → ⊥) → Present k p → Present k (k .parent p)
@@ -204,7 +204,7 @@ module _ {k : K} (h : Core k) where
         h .s11-equal p i m e f n u v (h .s7-in p i e u n) (h .s7-in p m f v n) (one-around p i j e g n u x ∙ sym (one-around p m j f g n v y));
   }
 
-  pub core-sound : Parts k
+  pub core-sound : CoreClauses k
   core-sound = record {
     s1 = record { range = h .s1; current = h .s1-current };
     s2-root = λ p z. rw z (h .s2-root .0, h .s2-root .2);

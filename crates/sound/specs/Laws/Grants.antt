@@ -40,18 +40,18 @@ root-above (at-root z) = itself z
 root-above (by-step r) = higher (root-above r)
 
 module _ {k : K} (h : Grants k) where
-  pub holder-present : {p l : ℕ} → Holds (k .slot) p l → Present k p
-  holder-present {p} u = h .owner p (u .i) (u .e) (u .at)
+  pub grants-holder-present : {p l : ℕ} → Holds (k .slot) p l → Present k p
+  grants-holder-present {p} u = h .owner p (u .i) (u .e) (u .at)
 
   -- the line that an entry of c has, an entry around it has
-  pub parent-holds : {c l : ℕ} → (c ≡ 0 → ⊥) → Holds (k .slot) c l → Holds (k .slot) (k .parent c) l
-  parent-holds {c} n u =
+  pub grants-parent-holds : {c l : ℕ} → (c ≡ 0 → ⊥) → Holds (k .slot) c l → Holds (k .slot) (k .parent c) l
+  grants-parent-holds {c} n u =
       let (j, f, g) = h .inside c (u .i) (u .e) (u .at) n in
       record { i = j; e = f; at = g .at; holds = omega (arith, g .around .from, g .around .to) }
 
   -- two that have one parent and hold one line are one
-  pub siblings-one : {c d l : ℕ} → (c ≡ 0 → ⊥) → (d ≡ 0 → ⊥) → k .parent c ≡ k .parent d → Holds (k .slot) c l → Holds (k .slot) d l → c ≡ d
-  siblings-one {c} {d} {l} m n p u v =
+  pub grants-siblings-one : {c d l : ℕ} → (c ≡ 0 → ⊥) → (d ≡ 0 → ⊥) → k .parent c ≡ k .parent d → Holds (k .slot) c l → Holds (k .slot) d l → c ≡ d
+  grants-siblings-one {c} {d} {l} m n p u v =
       let (i, f, a) = h .inside c (u .i) (u .e) (u .at) m in
       let (j, g, b) = h .inside d (v .i) (v .e) (v .at) n in
       let w : k .slot (k .parent c) j ≡ some g = rw p (b .at) in
@@ -77,7 +77,7 @@ module _ {k : K} (h : Grants k) {l : ℕ} where
               → (x ≡ r) ⊎ ((y : ℕ) × Above (k .parent) y x × (k .parent y ≡ r) × (y ≡ 0 → ⊥) × Holds (k .slot) y l)
           root e (inl q) = inl (sym e ∙ q)
           root e (inr (y, b, q, n, v)) = inr (y, higher b, q, n, v)
-      go (no n) f = step (f (parent-holds h n u))
+      go (no n) f = step (f (grants-parent-holds h n u))
         where
           step : (k .parent x ≡ r) ⊎ ((y : ℕ) × Above (k .parent) y (k .parent x) × (k .parent y ≡ r) × (y ≡ 0 → ⊥) × Holds (k .slot) y l)
               → (x ≡ r) ⊎ ((y : ℕ) × Above (k .parent) y x × (k .parent y ≡ r) × (y ≡ 0 → ⊥) × Holds (k .slot) y l)
@@ -89,8 +89,8 @@ module _ {k : K} (h : Grants k) {l : ℕ} where
     here = record { i = j; e = f; at = at; holds = has }
 
     up : {m p : ℕ} → Steps (k .parent) m p → Holds (k .slot) p l → Above (k .parent) p q
-    up (no-step {p} z) u = let (a, v) = holder-present h here in rw z (root-above (h .climbs q (a, v)))
-    up (one-step {p = p} n s) u = go (on-way (up s (parent-holds h n u)) here)
+    up (no-step {p} z) u = let (a, v) = grants-holder-present h here in rw z (root-above (h .climbs q (a, v)))
+    up (one-step {p = p} n s) u = go (on-way (up s (grants-parent-holds h n u)) here)
       where
         -- the parent's entry around the line is given to p, and q's is not
         own : q ≡ k .parent p → ⊥
@@ -101,11 +101,11 @@ module _ {k : K} (h : Grants k) {l : ℕ} where
 
         go : (q ≡ k .parent p) ⊎ ((y : ℕ) × Above (k .parent) y q × (k .parent y ≡ k .parent p) × (y ≡ 0 → ⊥) × Holds (k .slot) y l) → Above (k .parent) p q
         go (inl z) = absurd (own z)
-        go (inr (y, b, e, m, v)) = subst (λ (x : ℕ). Above (k .parent) x q) (siblings-one h m n e v u) b
+        go (inr (y, b, e, m, v)) = subst (λ (x : ℕ). Above (k .parent) x q) (grants-siblings-one h m n e v u) b
 
     -- every holder of the line is at or above who has it not given
-    pub holder-above : {p : ℕ} → Holds (k .slot) p l → Above (k .parent) p q
-    holder-above {p} u = let (m, _, s) = reaches→steps (h .climbs p (holder-present h u)) in up s u
+    pub grants-holder-above : {p : ℕ} → Holds (k .slot) p l → Above (k .parent) p q
+    grants-holder-above {p} u = let (m, _, s) = reaches→steps (h .climbs p (grants-holder-present h u)) in up s u
 
 above-depth : {up : ℕ → ℕ} → up 0 ≡ 0 → {p q m n : ℕ} → Above up p q → Steps up m p → Steps up n q → (m ≤ n) × (m ≡ n → p ≡ q)
 above-depth {up} top {m = m} (itself z) s t = let e = steps-one (subst (Steps up m) (sym z) s) t in (omega arith, λ _. sym z)
@@ -113,12 +113,12 @@ above-depth {up} top (higher {p = q} a) s (no-step z) = let (b, f) = above-depth
 above-depth top (higher a) s (one-step n t) = let (b, f) = above-depth top a s t in (omega arith, λ e. absurd (omega arith))
 
 -- of all entries with a line one is not given
-pub free-one : {k : K} → Grants k → {p q i j l : ℕ} {e f : Entry} → k .slot p i ≡ some e → e .given ≡ 0 → In l e → k .slot q j ≡ some f → f .given ≡ 0 → In l f → p ≡ q
-free-one {k} h {p} {q} {i} {j} {l} {e} {f} u a x v b y =
+pub grants-free-one : {k : K} → Grants k → {p q i j l : ℕ} {e f : Entry} → k .slot p i ≡ some e → e .given ≡ 0 → In l e → k .slot q j ≡ some f → f .given ≡ 0 → In l f → p ≡ q
+grants-free-one {k} h {p} {q} {i} {j} {l} {e} {f} u a x v b y =
     let at-p : Holds (k .slot) p l = record { i = i; e = e; at = u; holds = x } in
     let at-q : Holds (k .slot) q l = record { i = j; e = f; at = v; holds = y } in
-    let (m, _, s) = reaches→steps (h .climbs p (holder-present h at-p)) in
-    let (n, _, t) = reaches→steps (h .climbs q (holder-present h at-q)) in
-    let (c, g) = above-depth (h .top) (holder-above h v b y at-p) s t in
-    let (d, _) = above-depth (h .top) (holder-above h u a x at-q) t s in
+    let (m, _, s) = reaches→steps (h .climbs p (grants-holder-present h at-p)) in
+    let (n, _, t) = reaches→steps (h .climbs q (grants-holder-present h at-q)) in
+    let (c, g) = above-depth (h .top) (grants-holder-above h v b y at-p) s t in
+    let (d, _) = above-depth (h .top) (grants-holder-above h u a x at-q) t s in
     g (omega arith)

@@ -60,11 +60,11 @@ clause-means board l =
 
 module _ (board : Board) (l : List ℕ) where
   -- the tests below n pass at every partition
-  abbrev pub Passed : ℕ → Type 0
-  Passed n = (m : ℕ) → 1 ≤ m → m < n → (p : ℕ) → p < 16 → clauseAt board l m p ≡ true
+  abbrev pub PassedBelow : ℕ → Type 0
+  PassedBelow n = (m : ℕ) → 1 ≤ m → m < n → (p : ℕ) → p < 16 → clauseAt board l m p ≡ true
 
   -- .. exactly where the clauses below n hold
-  pub passed-lower : (n : ℕ) → n ≤ 12 → Passed n → Lower board l n
+  pub passed-lower : (n : ℕ) → n ≤ 12 → PassedBelow n → Lower board l n
   passed-lower zero h t m a b p c = absurd (omega arith)
   passed-lower (suc n) h t m a b p c = go (passed-lower n (omega arith) (λ i x y. t i x (omega arith))) (decLt m n)
     where
@@ -72,17 +72,17 @@ module _ (board : Board) (l : List ℕ) where
       go low (yes d) = low m a d p c
       go low (no d) = clause-means board l m a (omega arith) (λ i x y. low i x (omega arith)) p c .0 (t m a b p c)
 
-  pub lower-passed : (n : ℕ) → n ≤ 12 → Lower board l n → Passed n
+  pub lower-passed : (n : ℕ) → n ≤ 12 → Lower board l n → PassedBelow n
   lower-passed n h low m a b p c = clause-means board l m a (omega arith) (λ i x y. low i x (omega arith)) p c .1 (low m a b p c)
 
   -- ── the test of a table is that of its length and of each clause at each partition ──
-  pub sound-passed : sound board l ≡ true → (length l ≡ 641) × Passed 12
+  pub sound-passed : sound board l ≡ true → (length l ≡ 641) × PassedBelow 12
   unfolding sound
   sound-passed q =
       let (s, r) = and-says (eqb (length l) 641) (all 11 (λ m. all 16 (clauseAt board l (1 + m)))) q in
       (eqb-true (length l) 641 s, λ m a b p c. let e : 1 + (m - 1) ≡ m = omega arith in rw e at (all-at 16 (clauseAt board l (1 + (m - 1))) (all-at 11 (λ m. all 16 (clauseAt board l (1 + m))) r (m - 1) (omega arith)) p c))
 
-  pub passed-sound : length l ≡ 641 → Passed 12 → sound board l ≡ true
+  pub passed-sound : length l ≡ 641 → PassedBelow 12 → sound board l ≡ true
   unfolding sound
   passed-sound s t = and-true _ _ (eq-eqb (length l) 641 s) (all-of 11 (λ m. all 16 (clauseAt board l (1 + m))) (λ m b. all-of 16 (clauseAt board l (1 + m)) (λ p c. t (1 + m) (omega arith) (omega arith) p c)))
 

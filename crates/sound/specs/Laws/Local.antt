@@ -12,7 +12,7 @@ use Rattle.tables.specs.Laws.State.{some-inj, same-at, sameA}
 use Rattle.tables.specs.Lines.{In, InA, Clear}
 use Rattle.sound.specs.Sound.{Rooted, Around, S9}
 use Rattle.sound.specs.Core.{Backed}
-use Rattle.sound.specs.Laws.Grants.{Grants, free-one}
+use Rattle.sound.specs.Laws.Grants.{Grants, grants-free-one}
 
 -- area j of p equals the not-given entry in the slot of number x: 32 * partition + slot
 pub record EqualAt (k : K) (p j : ℕ) (a : Area) (x : ℕ) : Type 0 where
@@ -43,7 +43,7 @@ module _ {k : K} (h : Grants k) (root : RootAreas k) where
   -- two not-given entries with a line are in one slot
   one-slot : {p q i j l : ℕ} {e f : Entry} → k .slot p i ≡ some e → e .given ≡ 0 → In l e → k .slot q j ≡ some f → f .given ≡ 0 → In l f → (p ≡ q) × (i ≡ j)
   one-slot {p} {q} {i} {j} {l} {e} {f} u a x v b y =
-      let z : p ≡ q = free-one h u a x v b y in
+      let z : p ≡ q = grants-free-one h u a x v b y in
       (z, h .s6 p i j e f l u (rw z v) x y)
 
   module _ {m : ℕ → Bool} (marks : MarkedOnce k m) where
@@ -58,8 +58,8 @@ module _ {k : K} (h : Grants k) (root : RootAreas k) where
         marks .once p j q i a b u n v o (omega (arith, c .place, d .place))
 
     -- ── S9: an entry that is not given ──
-    pub free-clear : (q i : ℕ) (e : Entry) → i < 32 → k .slot q i ≡ some e → e .given ≡ 0 → (m (32 * q + i) ≡ false) ↔ Clear (k .area) e
-    free-clear q i e few u g = (to, back (m (32 * q + i)) refl)
+    pub unmarked-clear : (q i : ℕ) (e : Entry) → i < 32 → k .slot q i ≡ some e → e .given ≡ 0 → (m (32 * q + i) ≡ false) ↔ Clear (k .area) e
+    unmarked-clear q i e few u g = (to, back (m (32 * q + i)) refl)
       where
         to : m (32 * q + i) ≡ false → Clear (k .area) e
         to w p j a l v x y =
@@ -108,7 +108,7 @@ module _ {t : Table} (h : Grants (t .k)) (root : RootAreas (t .k)) (few : (p i :
   pub s9-local : ((p : ℕ) → S9 t p) → (p : ℕ) → LocalOpen t m p
   s9-local s p = record {
     free = λ i e u g.
-        let (a, b) = free-clear h root marks p i e (few p i e u) u g in
+        let (a, b) = unmarked-clear h root marks p i e (few p i e u) u g in
         let (c, d) = s p i e u in
         (λ q. b (c q), λ q. d (a q));
     given = λ i e u g.
@@ -126,7 +126,7 @@ module _ {t : Table} (h : Grants (t .k)) (root : RootAreas (t .k)) (few : (p i :
     where
       go : Dec (e .given ≡ 0) → (Steps (t .k .parent) (suc d) (e .given) → S9 t (e .given)) → (t .opened p i ≡ true) ↔ Clear (t .k .area) e
       go (yes g) below =
-          let (a, b) = free-clear h root marks p i e (few p i e u) u g in
+          let (a, b) = unmarked-clear h root marks p i e (few p i e u) u g in
           let (c, d) = s p .free i e u g in
           (λ q. a (c q), λ q. d (b q))
       go (no g) below =

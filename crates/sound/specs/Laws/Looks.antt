@@ -131,12 +131,12 @@ pub record Descending (k : K) (l p left count : ℕ) : Type 0 where
   pub few : count ≤ 32 * (15 - left)
 
 module _ {k : K} {l p left count s : ℕ} (d : Descending k l p left count) (looks : s ≡ lookFor k l p .count) where
-  pub descent-room : count + s ≤ 512
-  descent-room = omega (arith, d .few, looks, looked-le k l p)
+  pub looks-descent-room : count + s ≤ 512
+  looks-descent-room = omega (arith, d .few, looks, looked-le k l p)
 
   -- one step further down
-  pub descent-down : {g : ℕ} → (left ≡ 0 → ⊥) → g ≡ heir k l p → g < 16 → (g ≡ 0 → ⊥) → Descending k l g (left - 1) (count + s)
-  descent-down {g} z e b n =
+  pub looks-descent-down : {g : ℕ} → (left ≡ 0 → ⊥) → g ≡ heir k l p → g < 16 → (g ≡ 0 → ⊥) → Descending k l g (left - 1) (count + s)
+  looks-descent-down {g} z e b n =
       let h : heir k l p ≡ 0 → ⊥ = λ x. n (e ∙ x) in
       let u : looksFrom k l g (left - 1) ≡ looksFrom k l (heir k l p) (left - 1) = ap (λ (q : ℕ). looksFrom k l q (left - 1)) e in
       record {
@@ -149,8 +149,8 @@ module _ {k : K} {l p left count s : ℕ} (d : Descending k l p left count) (loo
 
 -- at its end it has added up the sum over the holders
 module _ {k : K} {l p left count s : ℕ} (h : Core k) (d : Descending k l p left count) (looks : s ≡ lookFor k l p .count) where
-  pub descent-here : heir k l p ≡ 0 → count + s ≡ looksOf k l
-  descent-here n = omega (arith, looks, looks-here k l p left n, d .adds, looks-sum h l)
+  pub looks-descent-here : heir k l p ≡ 0 → count + s ≡ looksOf k l
+  looks-descent-here n = omega (arith, looks, looks-here k l p left n, d .adds, looks-sum h l)
 
-  pub descent-last : left ≡ 0 → count + s ≡ looksOf k l
-  descent-last z = omega (arith, looks, looks-last k l p left z, d .adds, looks-sum h l)
+  pub looks-descent-last : left ≡ 0 → count + s ≡ looksOf k l
+  looks-descent-last z = omega (arith, looks, looks-last k l p left z, d .adds, looks-sum h l)

@@ -15,7 +15,7 @@ use Rattle.words.specs.Laws.Kind.{zeroed-means}
 use Rattle.words.specs.Words.{first, header, structure, regions}
 use Rattle.words.specs.declared.regions_word.Region.{Region}
 use Rattle.tables.specs.State.{Opt, none, some, Entry, Area, nowhere, K}
-use Rattle.tables.specs.Laws.State.{not-none, none-of, some-inj, sameA}
+use Rattle.tables.specs.Laws.State.{not-none, never-some, some-inj, sameA}
 use Rattle.tables.specs.View.{firstWord, areaWordAt, regionsWordAt, slotWordAt, nthRegion, regionsAt, view}
 use Rattle.tables.specs.Laws.View.{slot-bounds, area-bounds}
 use Rattle.tables.specs.Search.{isSome, present}
@@ -90,7 +90,7 @@ module _ (l : List ℕ) (k : K) (p : ℕ) where
     λ z. ((nowhere, h .root z .0, refl), h .root z .1),
     λ z. (
       λ u. ((h .parent z u, λ a v e. h .area z (v ∙ ap some e)), h .walk u),
-      λ n. h .absent (none-of (k .area p 0) (λ a u. n (a, u))),
+      λ n. h .absent (never-some (k .area p 0) (λ a u. n (a, u))),
     ),
   )
 
@@ -220,5 +220,5 @@ s5-means l p _ =
             range = λ i e u. at i (slot-bounds l p i e u .1) .0 (e, u) .1 e u;
             other = λ i b n. at i b .1 (λ h. not-none (k .slot p i) n (h .1));
           },
-      λ h. s5-test l k p .1 (λ i b. (λ u. (h .structure i (u .0) (u .1), h .range i), λ n. h .other i b (none-of (k .slot p i) (λ e u. n (e, u))))),
+      λ h. s5-test l k p .1 (λ i b. (λ u. (h .structure i (u .0) (u .1), h .range i), λ n. h .other i b (never-some (k .slot p i) (λ e u. n (e, u))))),
     )

@@ -11,8 +11,7 @@ use Rattle.sound.specs.Sound.{Present, S9, Loaded, Sound}
 use Rattle.sound.specs.Laws.Sound.{s9-all, loaded-all}
 use Rattle.sound.specs.Core.{Core}
 use Rattle.sound.specs.Laws.Core.{sound-core, core-sound}
-use Rattle.sound.specs.Laws.Grants.{core-grants, root-above}
-use Rattle.sound.specs.Laws.Grants as grants
+use Rattle.sound.specs.Laws.Grants.{core-grants, root-above, grants-holder-present, grants-parent-holds, grants-siblings-one}
 use Rattle.sound.specs.Properties.{Accessible, Isolated, EqualRights, Above, itself, higher}
 
 -- ── the properties ──
@@ -25,10 +24,10 @@ region-lines h p r i e l u v x =
 -- ── lines and the tree ──
 module _ {k : K} (h : Core k) where
   pub parent-holds : {c l : ℕ} → (c ≡ 0 → ⊥) → Holds (k .slot) c l → Holds (k .slot) (k .parent c) l
-  parent-holds = grants.parent-holds (core-grants h)
+  parent-holds = grants-parent-holds (core-grants h)
 
   pub siblings-one : {c d l : ℕ} → (c ≡ 0 → ⊥) → (d ≡ 0 → ⊥) → k .parent c ≡ k .parent d → Holds (k .slot) c l → Holds (k .slot) d l → c ≡ d
-  siblings-one = grants.siblings-one (core-grants h)
+  siblings-one = grants-siblings-one (core-grants h)
 
   -- what a partition holds every one above it holds
   pub above-holds : {p q l : ℕ} → Above (k .parent) q p → Holds (k .slot) p l → Holds (k .slot) q l
@@ -40,7 +39,7 @@ module _ {k : K} (h : Core k) where
       go (no n) f = f (parent-holds n u)
 
   pub holder-present : {p l : ℕ} → Holds (k .slot) p l → Present k p
-  holder-present = grants.holder-present (core-grants h)
+  holder-present = grants-holder-present (core-grants h)
 
   pub root-holds : {p l : ℕ} → Holds (k .slot) p l → Holds (k .slot) 0 l
   root-holds {p} u = above-holds (root-above (h .s2-climb p (holder-present u))) u

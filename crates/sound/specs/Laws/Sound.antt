@@ -7,7 +7,7 @@ use native.Mathlib.Omega.{arith}
 use Rattle.words.specs.Kind.{Zeroed}
 use Rattle.words.specs.Words.{first}
 use Rattle.shapes.specs.declared.Board.{Board}
-use Rattle.tables.specs.Laws.State.{none-of}
+use Rattle.tables.specs.Laws.State.{never-some}
 use Rattle.tables.specs.View.{firstWord, view}
 use Rattle.tables.specs.Laws.View.{slot-bounds, region-bounds}
 use Rattle.sound.specs.Limit.{loadedPieces}
@@ -67,4 +67,4 @@ module _ {board : Board} {l : List ℕ} (h : Sound board l) where
     where
       go : (p : ℕ) → Dec (p < 16) → loadedPieces board (view l .k .slot) (view l .region) p ≤ 8
       go p (yes b) = s10-of p b .few
-      go p (no b) = none-loaded board (view l .k .slot) (view l .region) p (λ r _. none-of (view l .region p r) (λ i u. b (region-bounds l p r i u .0)))
+      go p (no b) = none-loaded board (view l .k .slot) (view l .region) p (λ r _. never-some (view l .region p r) (λ i u. b (region-bounds l p r i u .0)))

@@ -17,7 +17,7 @@ use Rattle.words.specs.declared.header_word.HeaderFields.{HeaderFields}
 use Rattle.words.specs.declared.regions_word.RegionsFields.{RegionsFields}
 use Rattle.words.specs.declared.slot_word.SlotFields.{SlotFields}
 use Rattle.tables.specs.State.{Opt, none, some, Entry, Area, Table}
-use Rattle.tables.specs.Laws.State.{none-of}
+use Rattle.tables.specs.Laws.State.{never-some}
 use Rattle.tables.specs.View.{areaWordAt, entryIn, headerArea, structureArea, areaIn, nthRegion, named, firstAt, slotAt, headerAt, areaAt, regionAt, inside, parentAt, viewK, view}
 use Rattle.tables.specs.Encode.{slotFor, slotWord, headerFor, headerWord, structureFor, structureWord, regionFor, regionsFor, regionsWord, firstFor, wordFor, encode, Canon, Is}
 use Rattle.tables.specs.Laws.Encode.{encode-is}
@@ -138,10 +138,10 @@ module _ (t : Table) (h : Fit t) where
   spelt = encode-spells t
 
   no-area : (p j : ℕ) → ((p < 16) × (j < 5) → ⊥) → t .k .area p j ≡ none
-  no-area p j out = none-of (t .k .area p j) (λ a u. let b = h .area p j a u in out (b .0, b .1))
+  no-area p j out = never-some (t .k .area p j) (λ a u. let b = h .area p j a u in out (b .0, b .1))
 
   no-slot : (p i : ℕ) → ((p < 16) × (i < 32) → ⊥) → t .k .slot p i ≡ none
-  no-slot p i out = none-of (t .k .slot p i) (λ e u. let b = h .slot p i e u in out (b .0, b .1))
+  no-slot p i out = never-some (t .k .slot p i) (λ e u. let b = h .slot p i e u in out (b .0, b .1))
 
   first-is : firstAt (encode t) ≡ firstFor (t .k)
   first-is =
@@ -188,7 +188,7 @@ module _ (t : Table) (h : Fit t) where
       (λ a b.
       ap (λ (w : ℕ). named (nthRegion (fieldsIn regions w) r)) (spelt .at p a .regions)
       ∙ region-read (t .region p) (λ q i u. h .region p q i u .2) r b)
-      (λ out. none-of (t .region p r) (λ i u. let b = h .region p r i u in out (b .0) (b .1)))
+      (λ out. never-some (t .region p r) (λ i u. let b = h .region p r i u in out (b .0) (b .1)))
 
   pub view-encode : view (encode t) ≡ t
   unfolding view viewK

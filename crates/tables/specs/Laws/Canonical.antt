@@ -188,8 +188,8 @@ module _ {l : List ℕ} (c : Canon l) where
     pub blank-clean : (o : ℕ) → o < 2 → blankWordAt l p o ≡ 0
     blank-clean = spelt .at p hp .blank
 
-    pub absent-zero : Nothing (view l) p → ZeroWords l p
-    absent-zero n =
+    pub nothing-zero : Nothing (view l) p → ZeroWords l p
+    nothing-zero n =
         zero-words l p
         (λ j b. area j b (ℕ-discrete j 0))
         (spelt .at p hp .regions ∙ ap regionsWord (λ x r. n .region r x) ∙ regions-none)

@@ -12,9 +12,9 @@ pub not-none : {A B : Type 0} {a : A} (o : Opt A) → o ≡ none → o ≡ some 
 not-none o p q = absurd (let z : _≡_ {A = ℕ} 0 1 = cc in omega arith)
 
 -- what is never some is none
-pub none-of : {A : Type 0} (o : Opt A) → ((a : A) → o ≡ some a → ⊥) → o ≡ none
-none-of none h = cc
-none-of (some a) h = absurd (h a (cc))
+pub never-some : {A : Type 0} (o : Opt A) → ((a : A) → o ≡ some a → ⊥) → o ≡ none
+never-some none h = cc
+never-some (some a) h = absurd (h a (cc))
 
 pub same : {a b : Entry} → a ≡ b → Same a b
 same h = record {

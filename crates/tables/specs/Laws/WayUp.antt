@@ -24,8 +24,8 @@ went-up-one x y = (x .rooted ∙ sym (y .rooted), x .names ∙ sym (y .names))
 
 module _ {n w : ℕ} (h : HasRoom n w) where
   -- one more fits the machine's word
-  pub room-one : w < 2 ^ 60
-  room-one = let b : 16 ^ (15 - n) ≤ 16 ^ 15 = pow-le-pow-right {n = 16} (omega arith) {i = 15 - n} {j = 15} (omega arith) in omega (arith, h .small, b)
+  pub room-fits : w < 2 ^ 60
+  room-fits = let b : 16 ^ (15 - n) ≤ 16 ^ 15 = pow-le-pow-right {n = 16} (omega arith) {i = 15 - n} {j = 15} (omega arith) in omega (arith, h .small, b)
 
   pub room-step : {p : ℕ} → (n ≡ 0 → ⊥) → p < 16 → HasRoom (n - 1) (w * 16 + p)
   room-step {p} z b =

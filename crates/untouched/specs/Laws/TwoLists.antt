@@ -125,23 +125,23 @@ module _ {t u : Table} {p : ℕ} (s : Sees t u p) where
 
 -- so are the words of a table in which p is made current, and p is their caller
 module _ {board : Board} {l : List ℕ} (p : ℕ) (g : Good board l) (v : Present (view l .k) p) where
-  pub turned : Right (putCurrent (view l) p)
-  turned = turned-right (good-right g) v
+  pub put-current-right : Right (putCurrent (view l) p)
+  put-current-right = turned-right (good-right g) v
 
   -- .. which keeps the limit of pieces: neither slots nor regions change
   pub turned-good : Good board (turnedTo p l)
-  turned-good = right-good board turned (record { at = few-all (g .sound) .at })
+  turned-good = right-good board put-current-right (record { at = few-all (g .sound) .at })
 
   pub turned-caller : callerOf board (turnedTo p l) ≡ p
   unfolding callerOf
-  turned-caller = rw (sound-means board (turnedTo p l) .1 (turned-good .sound), view-encode (putCurrent (view l) p) (right-fit turned)) refl
+  turned-caller = rw (sound-means board (turnedTo p l) .1 (turned-good .sound), view-encode (putCurrent (view l) p) (right-fit put-current-right)) refl
 
 -- a call on words with p current is its service on that table
 turned-serves : {board : Board} {l : List ℕ} (p : ℕ) → Good board l → Present (view l .k) p → (w : ℕ)
     → callOn board (turnedTo p l) w ≡ check 2 (zeroed call w) (serve board (putCurrent (view l) p) (fieldsIn call w))
 unfolding check
 turned-serves {board} {l} p g v w =
-    call-as board (turnedTo p l) w ∙ rw (sound-means board (turnedTo p l) .1 (turned-good p g v .sound), view-encode (putCurrent (view l) p) (right-fit (turned p g v))) refl
+    call-as board (turnedTo p l) w ∙ rw (sound-means board (turnedTo p l) .1 (turned-good p g v .sound), view-encode (putCurrent (view l) p) (right-fit (put-current-right p g v))) refl
 
 module _ {board : Board} (l ws vs : List ℕ) (b : ℕ) (g : Good board l) (one : Within board b l ws) (two : Within board b l vs) (p : ℕ) (s : Beside (view l .k) b p) where
   sees : Sees (view (afterAll board l ws)) (view (afterAll board l vs)) p

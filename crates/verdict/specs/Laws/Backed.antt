@@ -33,29 +33,29 @@ backed-rooted k p j q = rw q refl
 
 -- the header's area, by what the code finds
 module _ {l : List ℕ} {p : ℕ} {f : HeaderFields} (v : SeenHeader l p f) (q : rooted p 0 ≡ false) where
-  pub header-absent : f .present ≡ false → true ≡ s8Backed (view l .k) p 0
+  pub backed-header-absent : f .present ≡ false → true ≡ s8Backed (view l .k) p 0
   unfolding s8Backed when headerArea
-  header-absent u = rw (q, v .area, u) refl
+  backed-header-absent u = rw (q, v .area, u) refl
 
-  pub header-parent : {b : Bool} → f .present ≡ true → b ≡ equals (view l .k) (f .parent .0) (areaBetween (f .start .0) (f .end .0)) → b ≡ s8Backed (view l .k) p 0
+  pub backed-header-parent : {b : Bool} → f .present ≡ true → b ≡ equals (view l .k) (f .parent .0) (areaBetween (f .start .0) (f .end .0)) → b ≡ s8Backed (view l .k) p 0
   unfolding s8Backed when headerArea
-  header-parent u x = rw (q, v .area, u, v .parent, or-false) x
+  backed-header-parent u x = rw (q, v .area, u, v .parent, or-false) x
 
 -- a structure's
 module _ {l : List ℕ} {p : ℕ} (j : ℕ) {f : StructureFields} (h : 0 < j) (v : SeenStructure l p (j - 1) f) (q : rooted p j ≡ false) where
   is : view l .k .area p j ≡ structureArea f
   is = let z : j ≡ 1 + (j - 1) = omega arith in ap (view l .k .area p) z ∙ v .area
 
-  pub structure-absent : f .present ≡ false → true ≡ s8Backed (view l .k) p j
+  pub backed-structure-absent : f .present ≡ false → true ≡ s8Backed (view l .k) p j
   unfolding s8Backed when structureArea
-  structure-absent u = rw (q, is, u) refl
+  backed-structure-absent u = rw (q, is, u) refl
 
   -- own is whether it is an entry of p itself
   module _ {own : Bool} (u : f .present ≡ true) (x : own ≡ equals (view l .k) p (areaBetween (f .start .0) (f .end .0))) where
-    pub structure-own : own ≡ true → true ≡ s8Backed (view l .k) p j
+    pub backed-structure-own : own ≡ true → true ≡ s8Backed (view l .k) p j
     unfolding s8Backed when structureArea
-    structure-own y = rw (q, is, u, ne-eqb j 0 (λ z. omega arith), ← x, y, or-true) refl
+    backed-structure-own y = rw (q, is, u, ne-eqb j 0 (λ z. omega arith), ← x, y, or-true) refl
 
-    pub structure-parent : {b : Bool} {g : HeaderFields} → own ≡ false → SeenHeader l p g → b ≡ equals (view l .k) (g .parent .0) (areaBetween (f .start .0) (f .end .0)) → b ≡ s8Backed (view l .k) p j
+    pub backed-structure-parent : {b : Bool} {g : HeaderFields} → own ≡ false → SeenHeader l p g → b ≡ equals (view l .k) (g .parent .0) (areaBetween (f .start .0) (f .end .0)) → b ≡ s8Backed (view l .k) p j
     unfolding s8Backed when structureArea
-    structure-parent y w z = rw (q, is, u, ← x, y, and-false, w .parent, or-false) z
+    backed-structure-parent y w z = rw (q, is, u, ← x, y, and-false, w .parent, or-false) z

@@ -31,13 +31,13 @@ module _ {l : List ℕ} {p : ℕ} {f : RegionsFields} {x : Region} (s : ℕ) (v 
   seen : view l .region p r ≡ slotNamed x
   seen = v .region r h ∙ ap slotNamed (sym is)
 
-  pub names-none : x .loaded ≡ false → false ≡ namesIt (view l) p s r
+  pub names-it-none : x .loaded ≡ false → false ≡ namesIt (view l) p s r
   unfolding namesIt has slotNamed
-  names-none q = rw (seen, q) refl
+  names-it-none q = rw (seen, q) refl
 
-  pub names-some : x .loaded ≡ true → eqb (x .slot .0) s ≡ namesIt (view l) p s r
+  pub names-it-some : x .loaded ≡ true → eqb (x .slot .0) s ≡ namesIt (view l) p s r
   unfolding namesIt has slotNamed
-  names-some q = rw (seen, q) refl
+  names-it-some q = rw (seen, q) refl
 
 -- ── the exits of can ──
 module _ (b : Board) (t : Table) (p s : ℕ) (e : Entry) (o : Bool) where
@@ -71,14 +71,14 @@ module _ (b : Board) (t : Table) (p s : ℕ) (e : Entry) (o : Bool) where
 
 -- ── the exits of place_of ──
 module _ (k : K) (p l : ℕ) where
-  pub place-none : lookFor k l p .slot ≡ none → record { slot = record { 0 = 32 }; end = record { 0 = l } } ≡ placeOf k p l
+  pub place-of-none : lookFor k l p .slot ≡ none → record { slot = record { 0 = 32 }; end = record { 0 = l } } ≡ placeOf k p l
   unfolding placeOf placeIn
-  place-none q = rw q refl
+  place-of-none q = rw q refl
 
-  pub place-entry : (s : Slot) (f : SlotFields) → lookFor k l p .slot ≡ some (s .0) → k .slot p (s .0) ≡ entryIn f → f .present ≡ true → record { slot = s; end = f .end } ≡ placeOf k p l
+  pub place-of-entry : (s : Slot) (f : SlotFields) → lookFor k l p .slot ≡ some (s .0) → k .slot p (s .0) ≡ entryIn f → f .present ≡ true → record { slot = s; end = f .end } ≡ placeOf k p l
   unfolding placeOf placeIn entryEnd entryIn
-  place-entry s f q u v = rw (q, u, v) refl
+  place-of-entry s f q u v = rw (q, u, v) refl
 
-  pub place-empty : (s : Slot) (f : SlotFields) → lookFor k l p .slot ≡ some (s .0) → k .slot p (s .0) ≡ entryIn f → f .present ≡ false → record { slot = s; end = record { 0 = l } } ≡ placeOf k p l
+  pub place-of-empty : (s : Slot) (f : SlotFields) → lookFor k l p .slot ≡ some (s .0) → k .slot p (s .0) ≡ entryIn f → f .present ≡ false → record { slot = s; end = record { 0 = l } } ≡ placeOf k p l
   unfolding placeOf placeIn entryEnd entryIn
-  place-empty s f q u v = rw (q, u, v) refl
+  place-of-empty s f q u v = rw (q, u, v) refl

@@ -2,7 +2,7 @@
 use mathlib.Core.Path.{sym, _∙_}
 use Rattle.tables.specs.Laws.Search.{lowest-some}
 use Rattle.tables.specs.Laws.Answers.{found-is}
-use Rattle.blocks.specs.Laws.CutExits.{can-split, cut-low, cut-high, cut-full, cut-whole, cut-done}
+use Rattle.blocks.specs.Laws.CutExits.{can-split, cut-low, cut-high, cut-full, cut-whole, cut-exit-done}
 use borrow.Author.Needs.{needs}
 use Rattle.blocks.proofs.cut_service.cut_entry.Statement.{statement}
 use Rattle.blocks.proofs.cut_service.cut_entry.Tie as tie
@@ -46,4 +46,4 @@ cut-entry-spec =
     let inside = caller .before .before in
     let above = inside .before .before .before in
     let begun = above .before .before .before in
-    cut-done (begun .pre) (caller .first .ensures .current) (above .if1 .left) (inside .if2 .left) (found-is _ (sym (found .found .given .1) ∙ found .before .before .free-slot .ensures)) (divisible .if3 .left) (c .before .split-entry .ensures)))
+    cut-exit-done (begun .pre) (caller .first .ensures .current) (above .if1 .left) (inside .if2 .left) (found-is _ (sym (found .found .given .1) ∙ found .before .before .free-slot .ensures)) (divisible .if3 .left) (c .before .split-entry .ensures)))

@@ -3,7 +3,7 @@ use mathlib.Core.Path.{sym, _∙_}
 use borrow.Author.Tests.{not-true, not-false}
 use Rattle.tables.specs.Laws.Search.{lowest-some}
 use Rattle.tables.specs.Laws.Answers.{found-is}
-use Rattle.blocks.specs.Laws.GiveExits.{can-hand, give-full, give-more, give-whole, give-done}
+use Rattle.blocks.specs.Laws.GiveExits.{can-hand, give-full, give-more, give-whole, give-exit-done}
 use borrow.Author.Needs.{needs}
 use Rattle.blocks.proofs.give_service.give_entry.Statement.{statement}
 use Rattle.blocks.proofs.give_service.give_entry.Tie as tie
@@ -35,4 +35,4 @@ give-entry-spec =
     let within = divisible .before in
     let found = within .before .before .before in
     let begun = found .before .before .before .before in
-    give-done (begun .pre) _ _ (found-is _ (sym (found .found .given .1) ∙ found .before .before .free-slot .ensures)) (sym (within .before .rights-within .ensures) ∙ not-false _ (within .if1 .left)) (divisible .if2 .left) (c .before .hand-over .ensures)))
+    give-exit-done (begun .pre) _ _ (found-is _ (sym (found .found .given .1) ∙ found .before .before .free-slot .ensures)) (sym (within .before .rights-within .ensures) ∙ not-false _ (within .if1 .left)) (divisible .if2 .left) (c .before .hand-over .ensures)))

@@ -2,7 +2,7 @@
 use mathlib.Core.Path.{sym, _∙_}
 use borrow.Author.Tests.{not-true, not-false}
 use Rattle.rules.specs.Laws.Ran.{ran-refused}
-use Rattle.blocks.specs.Laws.MergeExits.{merge-closed, merge-other-closed, merge-given, merge-other-given, merge-apart, merge-two-grants, merge-done}
+use Rattle.blocks.specs.Laws.MergeExits.{merge-closed, merge-other-closed, merge-given, merge-other-given, merge-apart, merge-two-grants, merge-exit-done}
 use borrow.Author.Needs.{needs}
 use Rattle.blocks.proofs.merge_service.merge_entries.Statement.{statement}
 use Rattle.blocks.proofs.merge_service.merge_entries.Tie as tie
@@ -44,4 +44,4 @@ merge-entries-spec =
     let free = both-free .before .before in
     let both-opened = free .before .before in
     let opened = both-opened .before .before in
-    merge-done (opened .before .before .pre) (not-false _ (opened .if1 .left)) (not-false _ (both-opened .if2 .left)) (free .if3 .left) (both-free .if4 .left) (adjoining .if5 .left) (sym (joinable .before .may-join .ensures) ∙ not-false _ (joinable .if6 .left)) (c .join .ensures)))
+    merge-exit-done (opened .before .before .pre) (not-false _ (opened .if1 .left)) (not-false _ (both-opened .if2 .left)) (free .if3 .left) (both-free .if4 .left) (adjoining .if5 .left) (sym (joinable .before .may-join .ensures) ∙ not-false _ (joinable .if6 .left)) (c .join .ensures)))

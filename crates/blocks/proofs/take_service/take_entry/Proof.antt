@@ -3,7 +3,7 @@ use mathlib.Core.Path.{sym, _∙_}
 use Rattle.tables.specs.Laws.Search.{lowest-some}
 use Rattle.tables.specs.Laws.Answers.{found-is}
 use Rattle.tables.specs.Laws.Encode.{is-canon}
-use Rattle.blocks.specs.Laws.TakeExits.{can-take, take-kept, take-done}
+use Rattle.blocks.specs.Laws.TakeExits.{can-take, take-kept, take-exit-done}
 use native.Mathlib.Omega.{arith}
 use borrow.Author.Needs.{needs}
 use Rattle.blocks.proofs.take_service.take_entry.Statement.{statement}
@@ -29,4 +29,4 @@ take-entry-spec =
     let regained = c .before .before in
     let found = regained .before .before .before in
     let begun = found .before .before .before .before in
-    take-done (begun .pre) (found-is _ (sym (found .found .given .1) ∙ found .before .before .returned-slot .ensures)) (regained .take-back .ensures) (c .settle-regions .ensures)))
+    take-exit-done (begun .pre) (found-is _ (sym (found .found .given .1) ∙ found .before .before .returned-slot .ensures)) (regained .take-back .ensures) (c .settle-regions .ensures)))

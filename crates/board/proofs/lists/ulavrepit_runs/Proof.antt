@@ -59,7 +59,7 @@ use Rattle.shapes.specs.declared.Board.the-variants.{V7}
 use Rattle.runs.specs.declared.Run.{Run}
 use Rattle.runs.specs.Marks.{runAt, MarksAt}
 use Rattle.runs.specs.Laws.Listing.{plan-fits, marks-at, listed}
-use Rattle.runs.specs.Laws.Stored.{stored, length-stored, stored-is}
+use Rattle.runs.specs.Laws.Stored.{storedTo, length-stored-to, stored-to-is}
 use Rattle.face.specs.declared.lists.Ready.{Ready}
 use Rattle.face.specs.Face.{handed, resultOf}
 use Rattle.face.specs.Lists.{readyOf, leftOf, RunsLent}
@@ -163,7 +163,7 @@ module _ {M : Type 1} (𝓤 : URA M) (H : Heap 𝓤) (A : Atoms 𝓤) (W : Given
   f = runAt marks
 
   abbrev zs : ℕ → List Run
-  zs i = stored f i ys
+  zs i = storedTo f i ys
 
   -- the borrow of the list at l, and the loan δ of the marks w, in the local l
   abbrev x : List Run → RefT (List Run)
@@ -195,14 +195,14 @@ module _ {M : Type 1} (𝓤 : URA M) (H : Heap 𝓤) (A : Atoms 𝓤) (W : Given
   said : RunsLent V7 t ys (plan .answer) (zs n)
   said =
       let h = listed V7 (handed t) ys (left-marks V7 t) in
-      record { answer = ap (resultOf 0) (h .outcome); records = stored-is f n ys (plan-fits V7 (handed t) (length ys) .0) ∙ h .records }
+      record { answer = ap (resultOf 0) (h .outcome); records = stored-to-is f n ys (plan-fits V7 (handed t) (length ys) .0) ∙ h .records }
 
   exits : Is u64 (plan .answer) (vint w64 (plan .answer) ∷ []) → ent 𝓤 (⋆ 𝓤 H A (‵ (fobs γ (codedHoleys R.the-row .code (heres R.the-row (zs n)))) ∷ ‵ (fbor κ (Held R.the-row (length (zs n)) b o γ)) ∷ ‵ (flft κ q) ∷ ‵ (flft κ₀ q₀) ∷ ‵ Own ∷ [])) (Post (vint w64 (plan .answer)))
   exits is =
       qed W (‵ (fobs γ (codedHoleys R.the-row .code (heres R.the-row (zs n)))) ∷ ‵ (fbor κ (Held R.the-row (length (zs n)) b o γ)) ∷ ‵ (flft κ q) ∷ ‵ (flft κ₀ q₀) ∷ ‵ Own ∷ []) ∵
-      suffices ! _ (ends-at 𝓤 H A entry.ended stayed (entry.clauses 𝓤 H A mem run) W (((κ₀, (κ, tt)), (q₀, (q, tt)), tt, a, vals), tt) (vint w64 (plan .answer)) (plan .answer) (tt, (zs n, tt)) (tt, (length-stored f n ys, tt))) $ says ! said $
+      suffices ! _ (ends-at 𝓤 H A entry.ended stayed (entry.clauses 𝓤 H A mem run) W (((κ₀, (κ, tt)), (q₀, (q, tt)), tt, a, vals), tt) (vint w64 (plan .answer)) (plan .answer) (tt, (zs n, tt)) (tt, (length-stored-to f n ys, tt))) $ says ! said $
       nothing ! $ move ! (3 ∷ 0 ∷ []) $ join ! $ move ! (3 ∷ 0 ∷ []) $ join ! $ frame ! $
-      fjoin ! $ pureI ! (at-slice R.the-row (x (zs n)) (s ∷ [])) (tt, (tt, tt)) (ap (λ (m : ℕ). sliceVal (b, o) m ∷ []) (sym (length-stored f n ys)), subst (Room R.the-row) (sym (length-stored f n ys)) room) $ fjoin ! $
+      fjoin ! $ pureI ! (at-slice R.the-row (x (zs n)) (s ∷ [])) (tt, (tt, tt)) (ap (λ (m : ℕ). sliceVal (b, o) m ∷ []) (sym (length-stored-to f n ys)), subst (Room R.the-row) (sym (length-stored-to f n ys)) room) $ fjoin ! $
       nothing ! $ move ! (1 ∷ 0 ∷ []) $ fjoin ! $ move ! (1 ∷ 0 ∷ []) $ fjoin ! $ owned ! u64 (Is u64) (uint-makes 𝓤 H A W w64) (plan .answer) _ is $ move ! (1 ∷ 0 ∷ []) $ done !
 
   -- what the triples of the functions that are called bind outside, the marks lent for the lifetime ν, and that the caller has what they ask
@@ -305,7 +305,7 @@ module _ {M : Type 1} (𝓤 : URA M) (H : Heap 𝓤) (A : Atoms 𝓤) (W : Given
         far = near i (length ys) (room .1) in-list
 
         within : i < length (zs i)
-        within = subst (λ (m : ℕ). i < m) (sym (length-stored f i ys)) in-list
+        within = subst (λ (m : ℕ). i < m) (sym (length-stored-to f i ys)) in-list
 
     -- the turn that leaves the loop, and the rest of the body: the borrow is closed at what is stored
     ends : (X : SProp 𝓤) → ltb n n ≡ false → Is u64 (plan .answer) (vint w64 (plan .answer) ∷ []) → Sq W (At n) (runs C Λ En piece.turn-1 (anyQ (afterTurn 𝓤 H X Left)))
@@ -314,7 +314,7 @@ module _ {M : Type 1} (𝓤 : URA M) (H : Heap 𝓤) (A : Atoms 𝓤) (W : Given
         assigns ! (bin ! (load ! (from ! (stop !)) (look ! 21 refl)) (load ! (from ! (stop !)) (look ! 23 refl)) tt) (from ! (stop !)) (init ! 15 refl (tt, tt)) $
         rewrite ! 15 (λ (t : Bool). ‵ (fat fullShare tyBool l₉ 0 (vbool t))) e refl $ leaves-loop ! (load ! (from ! (stop !)) (look ! 15 refl)) $ exec ! C Λ En piece.t-8 (atRet En Post) $
         assigns ! (of-opd ! (load ! (from ! (fld ! refl (stop !))) (look-in ! 25 (sub ! 1 refl (whole !))))) (from ! (stop !)) (init ! 32 refl (tt, record { fits = is .1 })) $
-        closes-slice ! tt R.the-row ys (zs n) (length-stored f n ys) b o $
+        closes-slice ! tt R.the-row ys (zs n) (length-stored-to f n ys) b o $
         -- [obs; the borrow; the token; the source's token; what the source owns; the marks; _13; …; …; _0; …]
         returns ! (look ! 31 refl) $ forget ! 5 refl $ forget ! 14 refl $ forget ! 20 refl $ forget ! 22 refl $ forget ! 24 refl $ forget ! 27 refl $ forget ! 29 refl $ forget ! 31 refl $
         move ! (31 ∷ 32 ∷ []) $ free1 ! $ move ! (29 ∷ 30 ∷ []) $ free1 ! $ move ! (27 ∷ 28 ∷ []) $ free1 ! $ move ! (5 ∷ 26 ∷ []) $ free1 ! $ move ! (23 ∷ 24 ∷ []) $ free1 ! $ move ! (21 ∷ 22 ∷ []) $ free1 ! $ move ! (19 ∷ 20 ∷ []) $ free1 ! $

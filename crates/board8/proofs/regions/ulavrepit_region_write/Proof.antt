@@ -1,5 +1,5 @@
 -- src/regions.rt, ulavrepit_region_write: WriteLent table partition slot rbar rlar r rbar′ rlar′
-use Rattle.board8.specs.Laws.Regions.{wrote, wrote-not}
+use Rattle.board8.specs.Laws.Regions.{write-lent, write-lent-not}
 use borrow.Author.Needs.{needs}
 use Rattle.board8.proofs.regions.ulavrepit_region_write.Statement.{statement}
 use Rattle.board8.proofs.regions.ulavrepit_region_write.Tie as tie
@@ -11,5 +11,5 @@ ulavrepit-region-write-spec =
     (λ c κs. search needs)
     (λ c. search needs)
     (λ c. search needs)
-    (λ c. wrote _ _ _ _ _ (c .before .before .before .pair-bytes .ensures) _ (c .before .both .given .1))
-    (λ c. wrote-not _ _ _ _ _ (c .before .before .before .pair-bytes .ensures) _ (c .before .n .given .1)))
+    (λ c. write-lent _ _ _ _ _ (c .before .before .before .pair-bytes .ensures) _ (c .before .both .given .1))
+    (λ c. write-lent-not _ _ _ _ _ (c .before .before .before .pair-bytes .ensures) _ (c .before .n .given .1)))

@@ -4,7 +4,7 @@ use native.Mathlib.Omega.{arith}
 use borrow.Author.Needs.{needs}
 use Rattle.tables.specs.Laws.Top.{top-at}
 use Rattle.face.specs.Lists.{Small}
-use Rattle.face.specs.Laws.Lists.{pieces-none, pieces-lent, pieces-answers}
+use Rattle.face.specs.Laws.Lists.{pieces-lent-none, pieces-lent, pieces-answers}
 use Rattle.face.proofs.lists.pieces_bytes.Statement.{statement}
 use Rattle.face.proofs.lists.pieces_bytes.Tie as tie
 
@@ -13,7 +13,7 @@ pieces-bytes-spec =
     tie.close
     (tie.spec
     (λ c κs. omega arith)
-    (λ c. pieces-none _ (c .before .if1 .taken) (c .answer-word .ensures))
+    (λ c. pieces-lent-none _ (c .before .if1 .taken) (c .answer-word .ensures))
     (λ c κs. (c .before .if1 .left, refl))
     (λ c κs. top-at (c .before .before .load .ensures .0) (c .before .before .load .ensures .1))
     (λ c κs. subst Small (sym (c .before .before .pieces-table .ensures .outcome)) (pieces-answers _ _ _ _ _))

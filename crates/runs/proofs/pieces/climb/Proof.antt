@@ -4,7 +4,7 @@ use native.Mathlib.Omega.{arith}
 use borrow.Author.Needs.{needs}
 use Rattle.words.specs.declared.mark_word.MarkFields.{MarkFields}
 use Rattle.runs.specs.Ways.{Climbing}
-use Rattle.runs.specs.Laws.Ways.{climb-start, climb-up, climb-root}
+use Rattle.runs.specs.Laws.Ways.{climb-start, climb-up, climbed-root}
 use Rattle.runs.proofs.pieces.climb.Statement.{statement}
 use Rattle.runs.proofs.pieces.climb.Tie as tie
 
@@ -32,4 +32,4 @@ climb-spec =
     (λ c.
     let turn = c .before .before .before .before .before .before in
     climb-up (turn .loop .inv) (omega arith) (omega (arith, ap (λ (f : MarkFields). f .line .0) (c .before .before .before .fields .ensures))))
-    (λ c. climb-root (c .before .loop .inv) (c .before .before .pre) (omega arith)))
+    (λ c. climbed-root (c .before .loop .inv) (c .before .before .pre) (omega arith)))

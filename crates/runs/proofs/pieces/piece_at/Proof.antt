@@ -5,7 +5,7 @@ use borrow.Author.Needs.{needs}
 use Prim.Native.Nat.{_-_}
 use Rattle.tables.specs.View.{view}
 use Rattle.runs.specs.Laws.Pieces.{stop-small}
-use Rattle.runs.specs.Laws.Ways.{Walking, climbs, walk-start, walk-holds, walk-here, low-small, walk-down, walk-last}
+use Rattle.runs.specs.Laws.Ways.{Walking, climbs, walk-from-mark, walk-holds, walk-here, low-small, walk-down, walk-last}
 use Rattle.runs.proofs.pieces.piece_at.Statement.{statement}
 use Rattle.runs.proofs.pieces.piece_at.Tie as tie
 
@@ -28,7 +28,7 @@ piece-at-spec =
     (λ c.
     let stood = c .before .before in
     let climbed = stood .before .before in
-    walk-start (climbed .before .before .pre .2) (climbed .climb .ensures) (stood .fields .ensures))
+    walk-from-mark (climbed .before .before .pre .2) (climbed .climb .ensures) (stood .fields .ensures))
     (λ c κs.
     let turn = c .before .before in
     let begun = turn .before .before .before .before .before .before .before in

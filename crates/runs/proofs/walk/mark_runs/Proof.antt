@@ -6,7 +6,7 @@ use borrow.Author.Needs.{needs}
 use Prim.Native.Nat.{_-_}
 use Rattle.tables.specs.View.{view}
 use Rattle.runs.specs.Laws.Pieces.{stop-small}
-use Rattle.runs.specs.Laws.Marks.{Walk, walk-begins, standing, walk-on, walk-nearer, marks-few, mark-end}
+use Rattle.runs.specs.Laws.Marks.{Walk, walk-begins, standing, walk-past-piece, walk-nearer, marks-few, runs-mark-end}
 use Rattle.runs.proofs.walk.mark_runs.Statement.{statement}
 use Rattle.runs.proofs.walk.mark_runs.Tie as tie
 
@@ -51,7 +51,7 @@ mark-runs-spec =
     let inside = pieced .before .before .before in
     let turn = inside .before .before .before in
     let bounds = turn .before .before .before .before in
-    walk-on (turn .loop .inv) (bounds .before .pre .0) (stop-small (bounds .before .args .t .now)) (omega (arith, bounds .first .ensures .stop, inside .if1 .taken)) (pieced .piece-at .ensures) (c .before .mark .ensures))
+    walk-past-piece (turn .loop .inv) (bounds .before .pre .0) (stop-small (bounds .before .args .t .now)) (omega (arith, bounds .first .ensures .stop, inside .if1 .taken)) (pieced .piece-at .ensures) (c .before .mark .ensures))
     (λ c κs.
     let turn = c .before .before .before in
     let bounds = turn .before .before .before .before in
@@ -67,4 +67,4 @@ mark-runs-spec =
     (λ c.
     let turn = c .before .before .before .before in
     let bounds = turn .before .before .before .before in
-    mark-end (bounds .before .pre .0) (turn .loop .inv .marking) (omega (arith, bounds .first .ensures .stop, c .before .if1 .left)) (stop-small (bounds .before .args .t .now)) (c .mark-of2 .ensures)))
+    runs-mark-end (bounds .before .pre .0) (turn .loop .inv .marking) (omega (arith, bounds .first .ensures .stop, c .before .if1 .left)) (stop-small (bounds .before .args .t .now)) (c .mark-of2 .ensures)))

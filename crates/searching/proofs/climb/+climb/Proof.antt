@@ -5,7 +5,7 @@ use native.Mathlib.Omega.{arith}
 use borrow.Author.Needs.{needs}
 use borrow.Fn.Kinds.{In}
 use borrow.Fn.PlainCycle.{Measures, is, falls, and}
-use Rattle.tables.specs.Laws.WayUp.{room-one, room-step, up-root, up-lost, up-step}
+use Rattle.tables.specs.Laws.WayUp.{room-fits, room-step, up-root, up-lost, up-step}
 use Rattle.searching.proofs.climb.climb.Reads as climb
 use Rattle.searching.proofs.climb.climb.Kinds as climb-kinds
 use Rattle.searching.proofs.climb.+climb.Lts-climb as climb-lts
@@ -28,13 +28,13 @@ pub +climb-spec : {M : Type 1} → statement M
     (header-reads.Asked, header-reads.Learnt, below-steps n, climb.Post)
     (at-steps n)
     climb.Post
-    (λ c. let b = room-one (c .before .before .before .pre .1 .1) in search needs)
+    (λ c. let b = room-fits (c .before .before .before .pre .1 .1) in search needs)
     (λ c. up-root (c .before .if1 .taken))
     (λ c. up-lost (c .before .if1 .left) (omega arith))
     (λ c κs. search needs)
-    (λ c. let b = room-one (c .before .before .before .before .before .pre .1 .1) in search needs)
+    (λ c. let b = room-fits (c .before .before .before .before .before .pre .1 .1) in search needs)
     (λ c. search needs)
-    (λ c. let b = room-one (c .before .before .before .before .before .before .pre .1 .1) in search needs)
+    (λ c. let b = room-fits (c .before .before .before .before .before .before .pre .1 .1) in search needs)
     (λ c. search needs)
     (λ c κs.
     let read = c .before .before .before in

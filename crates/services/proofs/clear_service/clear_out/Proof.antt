@@ -6,7 +6,7 @@ use Rattle.rules.specs.Rules.{clearOut}
 use Rattle.rules.specs.Laws.Ran.{ran-refused, fail}
 use Rattle.blocks.specs.Laws.GiveExits.{child-now}
 use Rattle.services.specs.Laws.Unsettled.{right-gone, gone-words, gone-ungiven, gone-branch}
-use Rattle.services.specs.Laws.ClearExits.{ungiven-child, clear-done}
+use Rattle.services.specs.Laws.ClearExits.{ungiven-child, clear-exit-done}
 use borrow.Author.Needs.{needs}
 use Rattle.services.proofs.clear_service.clear_out.Statement.{statement}
 use Rattle.services.proofs.clear_service.clear_out.Tie as tie
@@ -34,4 +34,4 @@ clear-out-spec =
     let freed = cleared .before .before in
     let child = freed .before .before in
     let caller = child .before .before .before .before in
-    clear-done _ _ (caller .first .ensures .current) (sym (child .before .is-child .ensures) ∙ not-false _ (child .if1 .left)) (freed .ungive .ensures) (cleared .clear-partition .ensures) (c .settle .ensures)))
+    clear-exit-done _ _ (caller .first .ensures .current) (sym (child .before .is-child .ensures) ∙ not-false _ (child .if1 .left)) (freed .ungive .ensures) (cleared .clear-partition .ensures) (c .settle .ensures)))

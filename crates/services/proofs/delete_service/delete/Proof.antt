@@ -6,7 +6,7 @@ use Rattle.rules.specs.Rules.{delete}
 use Rattle.rules.specs.Laws.Ran.{ran-refused, fail}
 use Rattle.blocks.specs.Laws.GiveExits.{child-now}
 use Rattle.services.specs.Laws.Unsettled.{right-gone, gone-words, gone-ungiven, gone-cleared}
-use Rattle.services.specs.Laws.DeleteExits.{delete-parent, delete-done}
+use Rattle.services.specs.Laws.DeleteExits.{delete-parent, delete-exit-done}
 use borrow.Author.Needs.{needs}
 use Rattle.services.proofs.delete_service.delete.Statement.{statement}
 use Rattle.services.proofs.delete_service.delete.Tie as tie
@@ -42,4 +42,4 @@ delete-spec =
     let childless = freed .before .before in
     let child = childless .before .before .before in
     let caller = child .before .before .before .before in
-    delete-done _ (caller .first .ensures .current) (sym (child .before .is-child .ensures) ∙ not-false _ (child .if1 .left)) (sym (childless .before .has-child .ensures) ∙ childless .if2 .left) (freed .ungive .ensures) (cleared .clear-record .ensures) (c .settle .ensures)))
+    delete-exit-done _ (caller .first .ensures .current) (sym (child .before .is-child .ensures) ∙ not-false _ (child .if1 .left)) (sym (childless .before .has-child .ensures) ∙ childless .if2 .left) (freed .ungive .ensures) (cleared .clear-record .ensures) (c .settle .ensures)))

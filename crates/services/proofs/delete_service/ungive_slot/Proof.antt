@@ -1,6 +1,6 @@
 -- src/delete_service.rt, ungive_slot: Is t′ (ungiveAt (view t) (c .0) (p .0) (i .0))
 use borrow.Author.Tests.{not-true, not-false}
-use Rattle.services.specs.Laws.DeleteExits.{slot-empty, slot-others, slot-ungiven}
+use Rattle.services.specs.Laws.DeleteExits.{ungive-empty, ungive-others, ungive-done}
 use native.Mathlib.Omega.{arith}
 use borrow.Author.Needs.{needs}
 use Rattle.services.proofs.delete_service.ungive_slot.Statement.{statement}
@@ -11,11 +11,11 @@ ungive-slot-spec =
     tie.close
     (tie.spec
     (λ c κs. search needs)
-    (λ c. slot-empty (c .before .before .entry .ensures) _ (c .before .before .before .before .pre .0) (not-true _ (c .if1 .taken)))
+    (λ c. ungive-empty (c .before .before .entry .ensures) _ (c .before .before .before .before .pre .0) (not-true _ (c .if1 .taken)))
     (λ c.
     let present = c .before .before .before in
     let read = present .before .before in
-    slot-others (read .entry .ensures) _ (read .before .before .pre .0) (not-false _ (present .if1 .left)) (c .if2 .taken))
+    ungive-others (read .entry .ensures) _ (read .before .before .pre .0) (not-false _ (present .if1 .left)) (c .if2 .taken))
     (λ c κs.
     let present = c .before .before .before .before in
     let read = present .before .before in
@@ -25,4 +25,4 @@ ungive-slot-spec =
     let given = c .before .before in
     let present = given .before .before .before in
     let read = present .before .before in
-    slot-ungiven (read .entry .ensures) _ (not-false _ (present .if1 .left)) (given .if2 .left) (c .put-entry .ensures)))
+    ungive-done (read .entry .ensures) _ (not-false _ (present .if1 .left)) (given .if2 .left) (c .put-entry .ensures)))

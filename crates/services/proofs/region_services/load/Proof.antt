@@ -5,7 +5,7 @@ use Rattle.tables.specs.Laws.Seen.{entry-none, entry-there}
 use Rattle.sound.specs.Laws.Settled.{load-settled, settled-words}
 use Rattle.rules.specs.Rules.{load}
 use Rattle.rules.specs.Laws.Ran.{ran-refused, ran-done, pass, fail, there, missing}
-use Rattle.services.specs.Laws.RegionExits.{load-high, load-twice, load-many, load-done}
+use Rattle.services.specs.Laws.RegionExits.{load-high, load-twice, load-many, load-exit-done}
 use native.Mathlib.Omega.{arith}
 use Rattle.services.proofs.region_services.load.Statement.{statement}
 use Rattle.services.proofs.region_services.load.Tie as tie
@@ -62,4 +62,4 @@ load-spec =
     let present = opened .before .before in
     let allowed = present .before .before .before .before in
     let begun = allowed .before .before .before in
-    ran-done (load-done (begun .args .board) (sym (allowed .before .own-or-child .ensures) ∙ not-false _ (allowed .if1 .left)) (present .before .before .entry .ensures) (not-false _ (present .if2 .left)) (not-false _ (opened .if3 .left)) _ (known .if4 .left) nowhere (fits .before .pieces-after .ensures) (fits .if6 .left)) (settled-words (c .put-region .ensures) (load-settled (begun .pre .3) _ _ _ (present .before .before .entry .ensures .opened ∙ not-false _ (opened .if3 .left))))))
+    ran-done (load-exit-done (begun .args .board) (sym (allowed .before .own-or-child .ensures) ∙ not-false _ (allowed .if1 .left)) (present .before .before .entry .ensures) (not-false _ (present .if2 .left)) (not-false _ (opened .if3 .left)) _ (known .if4 .left) nowhere (fits .before .pieces-after .ensures) (fits .if6 .left)) (settled-words (c .put-region .ensures) (load-settled (begun .pre .3) _ _ _ (present .before .before .entry .ensures .opened ∙ not-false _ (opened .if3 .left))))))

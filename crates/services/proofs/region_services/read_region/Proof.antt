@@ -5,7 +5,7 @@ use Rattle.tables.specs.Laws.Encode.{canon-is}
 use Rattle.sound.specs.Laws.Settled.{right-settled, settled-words}
 use Rattle.rules.specs.Rules.{readRegion}
 use Rattle.rules.specs.Laws.Ran.{ran-refused, ran-done, pass, fail, second-is}
-use Rattle.services.specs.Laws.RegionExits.{region-high, region-low, region-small, word-none, word-some}
+use Rattle.services.specs.Laws.RegionExits.{region-high, region-low, seen-region-small, word-none, word-some}
 use native.Mathlib.Omega.{arith}
 use borrow.Author.Needs.{needs}
 use Rattle.services.proofs.region_services.read_region.Statement.{statement}
@@ -32,7 +32,7 @@ read-region-spec =
     let read = chosen .before in
     let known = read .before in
     let begun = known .before .before .before in
-    record { canon = begun .pre .0; inP = begun .pre .1; inI = region-small (read .regions .ensures) _ (omega (arith, known .if2 .left)) (chosen .nth .ensures) })
+    record { canon = begun .pre .0; inP = begun .pre .1; inI = seen-region-small (read .regions .ensures) _ (omega (arith, known .if2 .left)) (chosen .nth .ensures) })
     (λ c.
     let loaded = c .before .before in
     let chosen = loaded .before .before in

@@ -1,5 +1,5 @@
 -- src/who.rt, parent_or_child: r ≡ parentOrChild (view t .k) (p .0)
-use Rattle.services.specs.Laws.Who.{is-parent, of-root, no-parent}
+use Rattle.services.specs.Laws.Who.{is-parent, of-root, not-parent}
 use borrow.Author.Needs.{needs}
 use Rattle.services.proofs.who.parent_or_child.Statement.{statement}
 use Rattle.services.proofs.who.parent_or_child.Tie as tie
@@ -22,4 +22,4 @@ parent-or-child-spec =
     let read = c .before .before .before .before in
     let below = read .before in
     let caller = below .before .before in
-    no-parent _ _ (caller .first .ensures .current) (below .if1 .left) (read .header .ensures .parent) (c .before .if2 .left) (c .is-child2 .ensures)))
+    not-parent _ _ (caller .first .ensures .current) (below .if1 .left) (read .header .ensures .parent) (c .before .if2 .left) (c .is-child2 .ensures)))

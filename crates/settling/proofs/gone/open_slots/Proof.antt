@@ -1,7 +1,7 @@
 -- src/gone.rt, open_slots: RecordDone Gone (p .0) t t′
 use Prim.Native.Nat.{_-_}
 use Rattle.settling.specs.Settled.{Gone}
-use Rattle.settling.specs.Laws.Settled.{SettledRowTo, row-start, row-more, row-end, near-areas}
+use Rattle.settling.specs.Laws.Settled.{SettledRowTo, settled-row-start, settled-row-more, settled-row-end, near-areas}
 use native.Mathlib.Omega.{arith}
 use borrow.Author.Needs.{needs}
 use Rattle.settling.proofs.gone.open_slots.Statement.{statement}
@@ -14,7 +14,7 @@ open-slots-spec =
     (λ t₀ p n s e m i₀ t i. SettledRowTo Gone t₀ (p .0) i t)
     (λ t₀ p n s e m i₀ t i. m - i)
     (λ c κs. c .before .pre .3)
-    (λ c. row-start (c .before .before .pre .0) (c .before .before .pre .1))
+    (λ c. settled-row-start (c .before .before .pre .0) (c .before .before .pre .1))
     (λ c κs.
     let begun = c .before .before .before .before .before in
     let n = c .before .before .loop .inv .near in
@@ -22,5 +22,5 @@ open-slots-spec =
     (n .canon, n .still, near-areas n (h .2), h .3, omega (arith, c .before .before .before .used-slots .ensures .is, c .before .before .before .used-slots .ensures .within)))
     (λ c. search needs)
     (λ c. search needs)
-    (λ c. row-more (c .before .before .before .loop .inv) (c .open-slot .ensures))
-    (λ c. row-end (c .before .loop .inv) (c .before .before .before .before .pre .1 .housed) (c .before .loop .inv .near .still .named) (c .before .before .used-slots .ensures) (omega arith)))
+    (λ c. settled-row-more (c .before .before .before .loop .inv) (c .open-slot .ensures))
+    (λ c. settled-row-end (c .before .loop .inv) (c .before .before .before .before .pre .1 .housed) (c .before .loop .inv .near .still .named) (c .before .before .used-slots .ensures) (omega arith)))

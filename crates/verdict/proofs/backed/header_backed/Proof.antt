@@ -1,7 +1,7 @@
 -- src/backed.rt, header_backed: r ≡ s8Backed (view t .k) (p .0) 0
 use mathlib.Core.Path.{sym, _∙_}
 use borrow.Author.Tests.{not-true, not-false}
-use Rattle.verdict.specs.Laws.Backed.{backed-rooted, header-absent, header-parent}
+use Rattle.verdict.specs.Laws.Backed.{backed-rooted, backed-header-absent, backed-header-parent}
 use borrow.Author.Needs.{needs}
 use Rattle.verdict.proofs.backed.header_backed.Statement.{statement}
 use Rattle.verdict.proofs.backed.header_backed.Tie as tie
@@ -16,10 +16,10 @@ header-backed-spec =
     (λ c.
     let d = c .before .before .before in
     let h = c .before .before .header in
-    header-absent (h .ensures) (sym (d .before .is-rooted .ensures) ∙ d .if1 .left) (not-true (h .result .present) (c .if2 .taken)))
+    backed-header-absent (h .ensures) (sym (d .before .is-rooted .ensures) ∙ d .if1 .left) (not-true (h .result .present) (c .if2 .taken)))
     (λ c κs. search needs)
     (λ c.
     let read = c .before .before .before in
     let unrooted = read .before in
     let h = read .header in
-    header-parent (h .ensures) (sym (unrooted .before .is-rooted .ensures) ∙ unrooted .if1 .left) (not-false (h .result .present) (c .before .if2 .left)) (c .has-equal .ensures)))
+    backed-header-parent (h .ensures) (sym (unrooted .before .is-rooted .ensures) ∙ unrooted .if1 .left) (not-false (h .result .present) (c .before .if2 .left)) (c .has-equal .ensures)))

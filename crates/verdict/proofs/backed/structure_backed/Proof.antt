@@ -1,7 +1,7 @@
 -- src/backed.rt, structure_backed: r ≡ s8Backed (view t .k) (p .0) j
 use mathlib.Core.Path.{sym, _∙_}
 use borrow.Author.Tests.{not-true, not-false}
-use Rattle.verdict.specs.Laws.Backed.{backed-rooted, structure-absent, structure-own, structure-parent}
+use Rattle.verdict.specs.Laws.Backed.{backed-rooted, backed-structure-absent, backed-structure-own, backed-structure-parent}
 use borrow.Author.Needs.{needs}
 use Rattle.verdict.proofs.backed.structure_backed.Statement.{statement}
 use Rattle.verdict.proofs.backed.structure_backed.Tie as tie
@@ -18,14 +18,14 @@ structure-backed-spec =
     let read = c .before .before in
     let unrooted = read .before in
     let f = read .structure in
-    structure-absent _ (unrooted .before .before .pre .1) (f .ensures) (sym (unrooted .before .is-rooted .ensures) ∙ unrooted .if1 .left) (not-true (f .result .present) (c .if2 .taken)))
+    backed-structure-absent _ (unrooted .before .before .pre .1) (f .ensures) (sym (unrooted .before .is-rooted .ensures) ∙ unrooted .if1 .left) (not-true (f .result .present) (c .if2 .taken)))
     (λ c κs. search needs)
     (λ c.
     let present = c .before .before in
     let read = present .before .before in
     let unrooted = read .before in
     let f = read .structure in
-    structure-own _ (unrooted .before .before .pre .1) (f .ensures) (sym (unrooted .before .is-rooted .ensures) ∙ unrooted .if1 .left) (not-false (f .result .present) (present .if2 .left)) (c .before .has-equal .ensures) (c .if3 .taken))
+    backed-structure-own _ (unrooted .before .before .pre .1) (f .ensures) (sym (unrooted .before .is-rooted .ensures) ∙ unrooted .if1 .left) (not-false (f .result .present) (present .if2 .left)) (c .before .has-equal .ensures) (c .if3 .taken))
     (λ c κs. search needs)
     (λ c κs. search needs)
     (λ c.
@@ -34,4 +34,4 @@ structure-backed-spec =
     let read = present .before .before in
     let unrooted = read .before in
     let f = read .structure in
-    structure-parent _ (unrooted .before .before .pre .1) (f .ensures) (sym (unrooted .before .is-rooted .ensures) ∙ unrooted .if1 .left) (not-false (f .result .present) (present .if2 .left)) (not-own .before .has-equal .ensures) (not-own .if3 .left) (c .before .header .ensures) (c .has-equal2 .ensures)))
+    backed-structure-parent _ (unrooted .before .before .pre .1) (f .ensures) (sym (unrooted .before .is-rooted .ensures) ∙ unrooted .if1 .left) (not-false (f .result .present) (present .if2 .left)) (not-own .before .has-equal .ensures) (not-own .if3 .left) (c .before .header .ensures) (c .has-equal2 .ensures)))

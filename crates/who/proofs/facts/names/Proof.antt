@@ -1,6 +1,6 @@
 -- src/facts.rt, names: b ≡ namesIt (view t) (p .0) (s .0) r
 use borrow.Author.Tests.{not-true, not-false}
-use Rattle.who.specs.Laws.Who.{names-none, names-some}
+use Rattle.who.specs.Laws.Who.{names-it-none, names-it-some}
 use borrow.Author.Needs.{needs}
 use Rattle.who.proofs.facts.names.Statement.{statement}
 use Rattle.who.proofs.facts.names.Tie as tie
@@ -11,9 +11,9 @@ names-spec =
     (tie.spec
     (λ c κs. search needs)
     (λ c κs. search needs)
-    (λ c. names-none _ (c .before .before .before .regions .ensures) _ (c .before .before .before .before .pre .1) (c .before .before .nth .ensures) (not-true _ (c .if1 .taken)))
+    (λ c. names-it-none _ (c .before .before .before .regions .ensures) _ (c .before .before .before .before .pre .1) (c .before .before .nth .ensures) (not-true _ (c .if1 .taken)))
     (λ c.
     let loaded = c .before .before .before in
     let chosen = loaded .before .before in
     let read = chosen .before in
-    names-some _ (read .regions .ensures) _ (read .before .pre .1) (chosen .nth .ensures) (not-false _ (loaded .if1 .left))))
+    names-it-some _ (read .regions .ensures) _ (read .before .pre .1) (chosen .nth .ensures) (not-false _ (loaded .if1 .left))))
