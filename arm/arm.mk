@@ -67,12 +67,12 @@ $(arm_module): $(lib_folder)/libulavrepit.a arm/as_text arm/gives_archive arm/kn
 	@arm/as_text $(<D)/board.bc $< $@
 
 # Functions that are not inlined. The marks of runs lie in an array of leave_marks: in the frame of its caller they would lie beside
-# all that decides the table, which has ended when they are made. The others but the last two are for text: without them it is 1,600
-# bytes more on a Cortex-M0 and 700 on an M3. Those two are for the walk, which has the registers to itself then: find takes 400 to
-# 3,700 less on the densest table.
+# all that decides the table, which has ended when they are made; so is the order of the entries in is_sound_beside, for a call with a
+# sheet. The others but walk_entries and has_lent are for text: without them it is 3,370 bytes more on a Cortex-M0 and 2,220 on an M3.
+# Those two are for the walk, which has the registers to itself then: find takes 400 to 3,700 less on the densest table.
 arm_apart := runs::walk::leave_marks searching::holding_slot marking::backing::equal_slot loaded::limit::entry_pieces \
     settling::areas::zero_record settling::areas::clear_of settling::came::settle \
-    decide::walk::walk_entries decide::entries::has_lent
+    decide::walk::walk_entries decide::entries::has_lent sheet::pairs::words_of facesheet::is_sound_beside
 keep_apart = sed $(patsubst %,-e '/^define.*@"%"./s/ #0 {/ #0 noinline {/',$($(1)))
 has_apart = [ $$(grep -c '^define.* noinline {$$' $(@D)/board.ll) -eq $(words $($(1))) ] || { echo '$(1) names a function that the module has not' >&2; false; }
 

@@ -1,11 +1,12 @@
 ghost use mathlib.Core.Path.{_≡_};
+ghost use mathlib.Core.Bool.{true};
 ghost use Prim.Native.Nat.{_<_};
 ghost use lib.ListN.{length};
 ghost use Rattle.loops.specs.Loops.{all};
 ghost use Rattle.tables.specs.View.{view};
 ghost use Rattle.tables.specs.Top.{Top};
 ghost use Rattle.sound.specs.Clauses.{sound};
-ghost use Rattle.shape.specs.AtOnce.{shapeAt};
+ghost use Rattle.shape.specs.AtOnce.{shapeAt, formed};
 ghost use Rattle.decide.specs.Local.{localWhere, leftWhere};
 ghost use Rattle.decide.specs.Decide.{CanDecide, Decided};
 ghost use Rattle.decide.specs.Walk.{noneLeft, Ended};
@@ -116,22 +117,34 @@ fn partitions_sound(
     rest_sound(board, t, top, counts, &next)
 }
 
-// Exactly the sound tables pass. Of such a table the entries are left in order, for who lists its runs.
-pub fn is_ordered(
-    board: Board,
-    t: &[u64; 641],
-    top: u32,
-    order: &mut [u8; 512],
-    counts: &mut [u32; 16],
-) -> bool
-    requires { ⌜ Top (now t) top × (length (now order) ≡ 512) × (length (now counts) ≡ 16) ⌝ }
-    ensures { λ r. ⌜ Decided board (now (t .entry)) r (now (order .exit)) (now (counts .exit)) ⌝ }
+// S1 to S5. Who has decided them in a pass of its own, and says so, spares this one.
+fn is_formed(t: &[u64; 641], top: u32, told: bool) -> bool
+    requires { ⌜ Top (now t) top × (told ≡ true → formed (now t) ≡ true) ⌝ }
+    ensures { λ r. ⌜ r ≡ formed (now (t .entry)) ⌝ }
 {
-    tables::sized(t);
+    if told {
+        return true;
+    }
     if !shape::records::first_sound(t) {
         return false;
     }
-    if !shapes_sound(t, top) {
+    shapes_sound(t, top)
+}
+
+// Exactly the sound tables pass. Of such a table the entries are left in order.
+fn order_told(
+    board: Board,
+    t: &[u64; 641],
+    top: u32,
+    told: bool,
+    order: &mut [u8; 512],
+    counts: &mut [u32; 16],
+) -> bool
+    requires { ⌜ Top (now t) top × (told ≡ true → formed (now t) ≡ true) × (length (now order) ≡ 512) × (length (now counts) ≡ 16) ⌝ }
+    ensures { λ r. ⌜ Decided board (now (t .entry)) r (now (order .exit)) (now (counts .exit)) ⌝ }
+{
+    tables::sized(t);
+    if !is_formed(t, top, told) {
         return false;
     }
     if !ordering::arrange::arrange(t, top, order, counts) {
@@ -144,6 +157,20 @@ pub fn is_ordered(
     partitions_sound(board, t, top, order, counts, &mark)
 }
 
+// .. for who lists its runs
+pub fn is_ordered(
+    board: Board,
+    t: &[u64; 641],
+    top: u32,
+    order: &mut [u8; 512],
+    counts: &mut [u32; 16],
+) -> bool
+    requires { ⌜ Top (now t) top × (length (now order) ≡ 512) × (length (now counts) ≡ 16) ⌝ }
+    ensures { λ r. ⌜ Decided board (now (t .entry)) r (now (order .exit)) (now (counts .exit)) ⌝ }
+{
+    order_told(board, t, top, false, order, counts)
+}
+
 // Exactly the sound tables pass.
 pub fn is_sound(board: Board, t: &[u64; 641], top: u32) -> bool
     requires { ⌜ Top (now t) top ⌝ }
@@ -152,4 +179,14 @@ pub fn is_sound(board: Board, t: &[u64; 641], top: u32) -> bool
     let mut order = [0u8; 512];
     let mut counts = [0u32; 16];
     is_ordered(board, t, top, &mut order, &mut counts)
+}
+
+// .. of those of which S1 to S5 are decided
+pub fn is_sound_formed(board: Board, t: &[u64; 641], top: u32) -> bool
+    requires { ⌜ Top (now t) top × (formed (now t) ≡ true) ⌝ }
+    ensures { λ r. ⌜ r ≡ sound board (now (t .entry)) ⌝ }
+{
+    let mut order = [0u8; 512];
+    let mut counts = [0u32; 16];
+    order_told(board, t, top, true, &mut order, &mut counts)
 }

@@ -1,12 +1,14 @@
 ghost use mathlib.Core.Path.{_≡_};
-ghost use mathlib.Core.Bool.{cond};
+ghost use mathlib.Core.Bool.{true, cond};
 ghost use lib.ListN.{length};
 ghost use Rattle.tables.specs.View.{view};
+ghost use Rattle.tables.specs.Top.{Top};
 ghost use Rattle.memory.specs.Bytes.{bytesOf};
 ghost use Rattle.memory.specs.ByteRecords.{HeaderTells, BytesTell};
+ghost use Rattle.sound.specs.Clauses.{sound};
 ghost use Rattle.sound.specs.Whole.{Right};
 ghost use Rattle.sheet.specs.Touched.{Named, sheetKept};
-ghost use Rattle.facesheet.specs.Sheets.{BootSheetLent, CallSheetLent};
+ghost use Rattle.facesheet.specs.Sheets.{SoundBeside, BootSheetLent, CallSheetLent};
 use face::packed;
 use shapes::Board;
 use sheet::calls::Whose;
@@ -49,6 +51,21 @@ fn store_both(t: &[u64; 641], stands: bool, x: Whose, table: &mut [u8], sheet: &
     sheet::kept::keep_sheet(t, x, sheet);
 }
 
+// Exactly the sound tables pass. Of such a table `same` tells whether the bytes are its sheet: it is compared in the pass that decides S1 to S5.
+fn is_sound_beside(board: Board, t: &[u64; 641], top: u32, sheet: &[u8], same: &mut bool) -> bool
+    requires { ⌜ Top (now t) top × (sound board (now t) ≡ true → Right (view (now t))) × (now same ≡ true) ⌝ }
+    ensures { λ r. ⌜ SoundBeside board (now (t .entry)) (now (sheet .entry)) r (now (same .exit)) ⌝ }
+{
+    if sheet.len() != 256 {
+        *same = false;
+        return decide::is_sound(board, t, top);
+    }
+    if !sheet::once::is_formed(t, top, sheet, same) {
+        return false;
+    }
+    decide::is_sound_formed(board, t, top)
+}
+
 // A call: 1 first, then 20 where the sheet is not the table's, then as `call_bytes`.
 pub fn call_sheet_bytes(
     board: Board,
@@ -64,10 +81,11 @@ pub fn call_sheet_bytes(
     }
     let mut a = [0u64; 641];
     let top = memory::load(table, &mut a);
-    if !decide::is_sound(board, &a, top) {
+    let mut same = true;
+    if !is_sound_beside(board, &a, top, sheet, &mut same) {
         return packed(1, Partition(0), 0);
     }
-    if !sheet::is_sheet(&a, sheet) {
+    if !same {
         let first = tables::read::first(&a);
         return packed(20, first.current, 0);
     }

@@ -6,7 +6,7 @@ use Prim.Native.Nat.{ℕ, _<_}
 use Rattle.loops.specs.Loops.{all}
 use Rattle.shapes.specs.declared.Board.{Board}
 use Rattle.tables.specs.View.{view}
-use Rattle.sound.specs.Clauses.{s2, s3, s4, s5, s6, s7, s8Backed, s9, s10, s11}
+use Rattle.sound.specs.Clauses.{s1, s2, s3First, s3, s4, s5, s6, s7, s8Backed, s9, s10, s11}
 
 -- S3 to S5, S6 and S7, S8's entries, S9 to S11, at partition p
 unfoldable pub restAt : Board → List ℕ → ℕ → Bool
@@ -25,3 +25,7 @@ shapeAt l p = s2 l (view l .k) p && (s3 l p && s4 l (view l .k) p && s5 l (view 
 -- every record has its shape: this is decided first
 pub record Shaped (l : List ℕ) : Type 0 where
   pub at : (p : ℕ) → p < 16 → shapeAt l p ≡ true
+
+-- S1 to S5: word 0, and every record
+unfoldable pub formed : List ℕ → Bool
+formed l = (s1 (view l .k) && s3First l) && all 16 (shapeAt l)

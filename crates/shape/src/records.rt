@@ -171,7 +171,7 @@ pub fn regions_sound(t: &[u64; 641], p: Partition) -> bool
 }
 
 // S5 of slot i, whose structure is present: a zero word, or an entry, start < end
-fn slot_sound(t: &[u64; 641], p: Partition, i: Slot) -> bool
+pub fn slot_sound(t: &[u64; 641], p: Partition, i: Slot) -> bool
     requires { ⌜ (p .0 < 16) × (i .0 < 32) × HasStructure (now t) (p .0) (i .0 / 8) ⌝ }
     ensures { λ r. ⌜ r ≡ s5Slot (now (t .entry)) (view (now (t .entry)) .k) (p .0) (i .0) ⌝ }
 {

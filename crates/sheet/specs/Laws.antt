@@ -5,6 +5,7 @@ pub mod Sums
 pub mod Walk
 pub mod Words
 pub mod Bytes
+pub mod Once
 pub mod Reading
 pub mod Kept
 pub mod Those

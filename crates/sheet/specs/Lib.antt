@@ -2,5 +2,6 @@
 pub mod Sheet
 pub mod Bytes
 pub mod Sums
+pub mod Once
 pub mod Touched
 pub mod Laws

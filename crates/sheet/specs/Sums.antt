@@ -7,7 +7,7 @@ use Rattle.loops.specs.Loops.{sum, mapOf}
 use Rattle.loops.specs.Laws.Map.{Mapping}
 use Rattle.words.specs.declared.Written.{Written}
 use Rattle.words.specs.declared.Written.the-variants.{Word, Refused}
-use Rattle.tables.specs.State.{K, Table}
+use Rattle.tables.specs.State.{some, Entry, K, Table}
 use Rattle.tables.specs.Search.{child}
 use Rattle.sheet.specs.Sheet.{occupied, heldAt, openedAt}
 use Rattle.sheet.specs.declared.sums.Sums.{Sums}
@@ -22,6 +22,10 @@ pub record Ending (f : ℕ → ℕ) (i x : ℕ) : Type 0 where
   pub within : i ≤ 32
   pub few : x + i * 0x7ff_ffff ≤ 32 * 0x7ff_ffff
   pub made : x + sum i f ≡ sum 32 f
+
+-- The entry in slot i of p, if there is one, ends behind its start.
+pub record Ranged (t : Table) (p i : ℕ) : Type 0 where
+  pub ends : (e : Entry) → t .k .slot p i ≡ some e → e .start < e .stop
 
 -- At i, the slots of p from i on are gathered.
 pub record Adding (t : Table) (p i : ℕ) (x : Sums) : Type 0 where

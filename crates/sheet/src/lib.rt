@@ -1,17 +1,17 @@
 ghost use mathlib.Core.Path.{_≡_};
 ghost use Prim.Native.Nat.{_^_, _<_};
 ghost use lib.ListN.{length};
-ghost use Rattle.loops.specs.Loops.{all};
 ghost use Rattle.tables.specs.View.{view};
 ghost use Rattle.sound.specs.Whole.{Right};
-ghost use Rattle.sheet.specs.Sheet.{linesWord, sheetOf, matches};
-ghost use Rattle.sheet.specs.Sums.{childrenOf, ChildrenTo};
+ghost use Rattle.sheet.specs.Sheet.{linesWord, sheetOf};
+ghost use Rattle.sheet.specs.Sums.{ChildrenTo};
 ghost use Rattle.sheet.specs.Touched.{masksWith};
-ghost use Rattle.sheet.specs.Bytes.{handedSheet, sheetBytes, pairIs, pairMatches, pairPut};
+ghost use Rattle.sheet.specs.Bytes.{sheetBytes, pairIs, pairPut};
 
 // A sheet beside the table: two words a partition, worked out of its record, for diagnostics that would scan the whole table else.
 pub mod calls;
 pub mod kept;
+pub mod once;
 pub mod pairs;
 pub mod sums;
 
@@ -27,47 +27,6 @@ fn pair_is(sheet: &[u8], p: Partition, masks: u64, lines: u64) -> bool
         return false;
     }
     memory::word(sheet, at + 8) == lines
-}
-
-// The two words of p, which has these children, are those of the sheet. Who is absent costs one look.
-fn pair_matches(t: &[u64; 641], p: Partition, children: u32, sheet: &[u8]) -> bool
-    requires { ⌜ (p .0 < 16) × (children ≡ childrenOf (view (now t) .k) (p .0)) × (length (now sheet) ≡ 256) × Right (view (now t)) ⌝ }
-    ensures { λ r. ⌜ r ≡ pairMatches (now (sheet .entry)) (view (now (t .entry))) (p .0) ⌝ }
-{
-    if !searching::is_present(t, p) {
-        return pair_is(sheet, p, 0, 0);
-    }
-    let x = pairs::words_of(t, p, children);
-    pair_is(sheet, p, x.masks, x.lines)
-}
-
-// .. so are those of all.
-fn pairs_match(t: &[u64; 641], masks: &[u32; 16], sheet: &[u8]) -> bool
-    requires { ⌜ ChildrenTo (view (now t) .k) 16 (now masks) × (length (now sheet) ≡ 256) × Right (view (now t)) ⌝ }
-    ensures { λ r. ⌜ r ≡ all 16 (pairMatches (now (sheet .entry)) (view (now (t .entry)))) ⌝ }
-{
-    let mut p = 0u32;
-    while p < 16 {
-        let children = pairs::mask_of(masks, Partition(p));
-        if !pair_matches(t, Partition(p), children, sheet) {
-            return false;
-        }
-        p += 1;
-    }
-    true
-}
-
-// The bytes are the sheet of the table.
-pub fn is_sheet(t: &[u64; 641], sheet: &[u8]) -> bool
-    requires { ⌜ Right (view (now t)) ⌝ }
-    ensures { λ r. ⌜ r ≡ matches (handedSheet (now (sheet .entry))) (view (now (t .entry))) ⌝ }
-{
-    if sheet.len() != 256 {
-        return false;
-    }
-    let mut masks = [0u32; 16];
-    pairs::children(t, &mut masks);
-    pairs_match(t, &masks, sheet)
 }
 
 // Puts the two words of p, with these children, to their place.

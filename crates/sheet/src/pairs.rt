@@ -1,12 +1,16 @@
 ghost use mathlib.Core.Path.{_≡_};
+ghost use mathlib.Core.Bool.{true};
 ghost use Prim.Native.Nat.{_+_, _^_, _≤_, _<_};
 ghost use lib.ListN.{length, replicate};
 ghost use Rattle.loops.specs.Loops.{bitOf, mapOf};
 ghost use Rattle.tables.specs.View.{view};
+ghost use Rattle.tables.specs.Search.{present};
 ghost use Rattle.sound.specs.Whole.{Right};
 ghost use Rattle.sheet.specs.Sheet.{structured, linesWord};
 ghost use Rattle.sheet.specs.Touched.{masksWith};
-ghost use Rattle.sheet.specs.Sums.{wordIn, maskOf, ChildrenTo};
+ghost use Rattle.sheet.specs.Sums.{wordIn, Adding, maskOf, ChildrenTo};
+ghost use Rattle.sheet.specs.Once.{WordsIfRight};
+use crate::sums::Sums;
 use words::Partition;
 use words::Written;
 use words::lines_word::LinesFields;
@@ -90,15 +94,11 @@ fn word_in(w: Written) -> u64
     }
 }
 
-// The two words of p, worked out of its record and the mask of its children: an absent partition's are zero.
-pub fn words_of(t: &[u64; 641], p: Partition, children: u32) -> Pair
-    requires { ⌜ (p .0 < 16) × (children < 2 ^ 16) × Right (view (now t)) ⌝ }
-    ensures { λ r. ⌜ (r .masks ≡ masksWith children (view (now (t .entry))) (p .0)) × (r .lines ≡ linesWord (view (now (t .entry))) (p .0)) ⌝ }
+// The two words of p, which is present, from what was gathered of its slots and the mask of its children.
+pub fn words_from(t: &[u64; 641], p: Partition, children: u32, x: Sums) -> Pair
+    requires { ⌜ (p .0 < 16) × (children < 2 ^ 16) × (present (view (now t) .k) (p .0) ≡ true) × Adding (view (now t)) (p .0) 0 x ⌝ }
+    ensures { λ r. ⌜ WordsIfRight (view (now (t .entry))) (p .0) children r ⌝ }
 {
-    if !searching::is_present(t, p) {
-        return Pair { masks: 0, lines: 0 };
-    }
-    let x = crate::sums::gather(t, p);
     let masks = otherwords::masks_word::write(MasksFields {
         children,
         slots: x.slots,
@@ -112,4 +112,16 @@ pub fn words_of(t: &[u64; 641], p: Partition, children: u32) -> Pair
         masks: word_in(masks),
         lines: word_in(lines),
     }
+}
+
+// .. worked out of its record: an absent partition's are zero
+pub fn words_of(t: &[u64; 641], p: Partition, children: u32) -> Pair
+    requires { ⌜ (p .0 < 16) × (children < 2 ^ 16) × Right (view (now t)) ⌝ }
+    ensures { λ r. ⌜ (r .masks ≡ masksWith children (view (now (t .entry))) (p .0)) × (r .lines ≡ linesWord (view (now (t .entry))) (p .0)) ⌝ }
+{
+    if !searching::is_present(t, p) {
+        return Pair { masks: 0, lines: 0 };
+    }
+    let x = crate::sums::gather(t, p);
+    words_from(t, p, children, x)
 }

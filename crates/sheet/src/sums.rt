@@ -4,7 +4,7 @@ ghost use Prim.Native.Nat.{_-_, _+_, _*_, _<_};
 ghost use Rattle.tables.specs.View.{view, entryIn};
 ghost use Rattle.sound.specs.Whole.{Right};
 ghost use Rattle.sheet.specs.Sheet.{numberOfLines};
-ghost use Rattle.sheet.specs.Sums.{Adding};
+ghost use Rattle.sheet.specs.Sums.{Ranged, Adding};
 use tables::read;
 use words::Partition;
 use words::Slot;
@@ -37,8 +37,8 @@ fn open_lines(f: SlotFields) -> u32
 }
 
 // Slots from i on are in; slot i - 1 joins them. Most slots have no entry, which one test tells.
-fn add_slot(t: &[u64; 641], p: Partition, i: u32, x: Sums) -> Sums
-    requires { ⌜ (p .0 < 16) × (0 < i) × Adding (view (now t)) (p .0) i x × Right (view (now t)) ⌝ }
+pub fn add_slot(t: &[u64; 641], p: Partition, i: u32, x: Sums) -> Sums
+    requires { ⌜ (p .0 < 16) × (0 < i) × Adding (view (now t)) (p .0) i x × Ranged (view (now t)) (p .0) (i - 1) ⌝ }
     ensures { λ r. ⌜ Adding (view (now (t .entry))) (p .0) (i - 1) r ⌝ }
 {
     let f = read::entry(t, p, Slot(i - 1));

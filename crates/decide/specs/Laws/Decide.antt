@@ -19,7 +19,7 @@ use Rattle.sound.specs.Clauses.{s1, s2, s3First, s3, s4, s5, s6, s7, s9, s10, s
 use Rattle.sound.specs.Laws.Tests.{and-says, and-true, not-says, never}
 use Rattle.ordering.specs.Laws.Present.{absent-zero}
 use Rattle.shape.specs.Laws.Absent.{absent-s3, absent-s4, absent-s5, absent-s6, absent-s7, absent-s8, absent-s9, absent-s10, absent-s11}
-use Rattle.shape.specs.AtOnce.{restAt, shapeAt, Shaped}
+use Rattle.shape.specs.AtOnce.{restAt, shapeAt, Shaped, formed}
 use Rattle.shape.specs.Laws.AtOnce.{areasApart, atOnce, Passes, rest-true, rest-says, sound-at-once}
 use Rattle.ordering.specs.Laws.Order.{SameOrders, orders-one}
 use Rattle.decide.specs.Decide.{Decided}
@@ -113,6 +113,13 @@ module _ (board : Board) (l : List ℕ) where
         partitions = u;
       }
 
+  pub parts-formed : PartsPassed → formed l ≡ true
+  unfolding formed
+  parts-formed h = and-true _ _ (h .first) (h .shapes)
+
+  pub sound-formed : sound board l ≡ true → formed l ≡ true
+  sound-formed q = parts-formed (parts q)
+
   -- a part that fails: nothing is left to do, and no order is promised
   pub not-sound-so : {o c : List ℕ} → (sound board l ≡ true → ⊥) → Decided board l false o c
   not-sound-so h = record { says = never (sound board l) h; orders = λ q. absurd (false≢true q) }
@@ -120,6 +127,12 @@ module _ (board : Board) (l : List ℕ) where
   pub not-sound : {o c : List ℕ} → (PartsPassed → ⊥) → Decided board l false o c
   not-sound h = not-sound-so (λ q. h (parts q))
 
--- the records that pass have their shape
-pub shaped : {l : List ℕ} → all 16 (shapeAt l) ≡ true → Shaped l
-shaped {l} h = record { at = all-at 16 (shapeAt l) h }
+-- what passes S1 to S5: word 0 does, and the records have their shape
+module _ (l : List ℕ) (h : formed l ≡ true) where
+  pub formed-first : s1 (view l .k) && s3First l ≡ true
+  unfolding formed
+  formed-first = and-says (s1 (view l .k) && s3First l) (all 16 (shapeAt l)) h .0
+
+  pub formed-shaped : Shaped l
+  unfolding formed
+  formed-shaped = record { at = all-at 16 (shapeAt l) (and-says (s1 (view l .k) && s3First l) (all 16 (shapeAt l)) h .1) }

@@ -18,7 +18,7 @@ use Rattle.tables.specs.Seen.{Seen}
 use Rattle.tables.specs.Laws.Seen.{entry-there}
 use Rattle.sound.specs.Whole.{Right}
 use Rattle.sheet.specs.Sheet.{occupied, structured, numberOfLines, heldLines, openLines}
-use Rattle.sheet.specs.Sums.{Ending, Adding}
+use Rattle.sheet.specs.Sums.{Ending, Ranged, Adding}
 use Rattle.sheet.specs.declared.sums.Sums.{Sums}
 
 -- ── a sum from the last number down ──
@@ -102,8 +102,11 @@ with-nothing {a = a} {b} {c} z =
     rw (d, e, f) at z
 
 -- an entry ends behind its start
-pub entry-range : {l : List ℕ} {p i : ℕ} {f : SlotFields} → Right (view l) → Seen l p i f → f .present ≡ true → (f .present ≡ true) × (f .start .0 < f .end .0)
-entry-range {p = p} {i} {f} h seen q = (q, h .core .s5-range p i (entryOf f) (entry-there seen q))
+pub right-ranged : {t : Table} → Right t → (p i : ℕ) → Ranged t p i
+right-ranged h p i = record { ends = h .core .s5-range p i }
+
+pub entry-range : {l : List ℕ} {p i : ℕ} {f : SlotFields} → Ranged (view l) p i → Seen l p i f → f .present ≡ true → (f .present ≡ true) × (f .start .0 < f .end .0)
+entry-range {f = f} h seen q = (q, h .ends (entryOf f) (entry-there seen q))
 
 -- slot i - 1 joins
 module _ {l : List ℕ} {p i : ℕ} {x : Sums} {f : SlotFields} (seen : Seen l p (i - 1) f) (inv : Adding (view l) p i x) (h : 0 < i) where
@@ -139,19 +142,19 @@ module _ {t : Table} {p : ℕ} (j : ℕ) {x : Sums} (inv : Adding t p (8 * j + 8
   pub absent-room : 256 * x .slots < 2 ^ 32
   absent-room = skip-room (8 * j) (inv .slots)
 
-  pub add-absent : Right t → structured (t .k) p j ≡ false → Adding t p (8 * j) (record { slots = 256 * x .slots; held = x .held; opened = x .opened })
+  pub add-empty : ((k : ℕ) → 8 * j ≤ k → k < 8 * j + 8 → t .k .slot p k ≡ none) → Adding t p (8 * j) (record { slots = 256 * x .slots; held = x .held; opened = x .opened })
   unfolding numberOfLines
-  add-absent h q = record {
+  add-empty empty = record {
     slots = skip-map (8 * j) (inv .slots) (λ k a b. ap isSome (empty k a b));
     held = ending-skip (8 * j) (inv .held) (λ k a b. ap numberOfLines (empty k a b));
     opened = ending-skip (8 * j) (inv .opened) (λ k a b. rw (empty k a b) (nothing (t .opened p k)));
   }
-    where
-      empty : (k : ℕ) → 8 * j ≤ k → k < 8 * j + 8 → t .k .slot p k ≡ none
-      empty k a b = never-some (t .k .slot p k) (λ e u.
-          let (y, v) = h .core .s5 p k e u in
-          let z : k / 8 ≡ j = omega arith in
-          false≢true (sym q ∙ ap isSome (rw z at v)))
+
+  pub add-absent : Right t → structured (t .k) p j ≡ false → Adding t p (8 * j) (record { slots = 256 * x .slots; held = x .held; opened = x .opened })
+  add-absent h q = add-empty (λ k a b. never-some (t .k .slot p k) (λ e u.
+      let (y, v) = h .core .s5 p k e u in
+      let z : k / 8 ≡ j = omega arith in
+      false≢true (sym q ∙ ap isSome (rw z at v))))
 
 -- all of them
 pub adding-end : {t : Table} {p : ℕ} {x : Sums} → Adding t p 0 x

@@ -5,7 +5,7 @@ use borrow.Author.Tests.{not-true}
 use Rattle.tables.specs.View.{view}
 use Rattle.tables.specs.Laws.Search.{structure-some}
 use Rattle.sheet.specs.Sums.{Adding}
-use Rattle.sheet.specs.Laws.Sums.{absent-room, add-absent}
+use Rattle.sheet.specs.Laws.Sums.{right-ranged, absent-room, add-absent}
 use native.Mathlib.Omega.{arith}
 use borrow.Author.Needs.{needs}
 use Rattle.sheet.proofs.sums.add_structure.Statement.{statement}
@@ -30,7 +30,7 @@ add-structure-spec =
     (λ c. search needs)
     (λ c. (omega arith, c .before .before .before .pre .3))
     (λ c. search needs)
-    (λ c κs. let asked = c .before .before .before .before .before .pre in (asked .0, omega arith, c .before .loop .inv .1, asked .2))
+    (λ c κs. let asked = c .before .before .before .before .before .pre in (asked .0, omega arith, c .before .loop .inv .1, right-ranged (asked .2) _ _))
     (λ c. search needs)
     (λ c. search needs)
     (λ c. (omega arith, c .add-slot .ensures))
