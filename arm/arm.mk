@@ -68,11 +68,12 @@ $(arm_module): $(lib_folder)/libulavrepit.a arm/as_text arm/gives_archive arm/kn
 
 # Functions that are not inlined. The marks of runs lie in an array of leave_marks: in the frame of its caller they would lie beside
 # all that decides the table, which has ended when they are made; so is the order of the entries in is_sound_beside, for a call with a
-# sheet. The others but walk_entries and has_lent are for text: without them it is 3,370 bytes more on a Cortex-M0 and 2,220 on an M3.
-# Those two are for the walk, which has the registers to itself then: find takes 400 to 3,700 less on the densest table.
+# sheet. The others but the three that follow are for text: without them it is 3,370 bytes more on a Cortex-M0 and 2,220 on an M3.
+# walk_entries and has_lent are for the walk, which has the registers to itself then: find takes 400 to 3,700 less on the densest table.
+# store is for its loop over eight words, which is unrolled once more by itself.
 arm_apart := runs::walk::leave_marks searching::holding_slot marking::backing::equal_slot loaded::limit::entry_pieces \
     settling::areas::zero_record settling::areas::clear_of settling::came::settle \
-    decide::walk::walk_entries decide::entries::has_lent sheet::pairs::words_of facesheet::is_sound_beside
+    decide::walk::walk_entries decide::entries::has_lent sheet::pairs::words_of facesheet::is_sound_beside memory::store
 keep_apart = sed $(patsubst %,-e '/^define.*@"%"./s/ #0 {/ #0 noinline {/',$($(1)))
 has_apart = [ $$(grep -c '^define.* noinline {$$' $(@D)/board.ll) -eq $(words $($(1))) ] || { echo '$(1) names a function that the module has not' >&2; false; }
 
@@ -98,13 +99,15 @@ native: $(lib_folder)/native/libulavrepit.a $(lib_headers)
 # build/aarch64: for that processor, whatever the one at hand; make bench-aarch64 counts its instructions.
 native_processor_native = $$(uname -m)
 native_processor_aarch64 := aarch64
-# What is kept apart here: a call saves more registers one by one, so that it counts for more than on a Cortex-M.
-native_apart := decide::walk::walk_entries decide::entries::has_lent loaded::limit::entry_pieces
+# Text does not count here, so more is inlined than the compiler would by itself. What is kept apart: the search for the end, whose
+# loop would else carry what is made of its answer, and the pieces of an entry, for which the loop over regions has too few registers.
+native_inlined := -mllvm -inline-threshold=500
+native_apart := memory::zero_end loaded::limit::entry_pieces
 $(lib_folder)/native/libulavrepit.a $(lib_folder)/aarch64/libulavrepit.a: $(arm_module) arm/arm.mk
 	@mkdir -p $(@D)
 	@$(call keep_apart,native_apart) $< >$(@D)/board.ll
 	@$(call has_apart,native_apart)
-	@$(arm_bin)/clang --target=$(native_processor_$(notdir $(@D)))-unknown-linux-gnu --no-default-config $(arm_library_flags) -fPIC -c -x ir $(@D)/board.ll -o $(@D)/board.o
+	@$(arm_bin)/clang --target=$(native_processor_$(notdir $(@D)))-unknown-linux-gnu --no-default-config $(arm_library_flags) $(native_inlined) -fPIC -c -x ir $(@D)/board.ll -o $(@D)/board.o
 	@rm -f $@
 	@$(arm_bin)/llvm-ar rcs $@ $(@D)/board.o
 

@@ -11,9 +11,11 @@ use Rattle.tables.specs.View.{view}
 use Rattle.sound.specs.Laws.Core.{sound-core}
 use Rattle.sound.specs.Laws.Properties.{holder-present}
 use Rattle.rules.specs.Rules.{callOn, wordsAfter}
+use Rattle.rules.specs.Ran.{outcomeOf}
+use Rattle.rules.specs.Calls.{callerOf}
 use Rattle.isolation.specs.Laws.Fits.{Good}
 use Rattle.isolation.specs.Whole.{afterAll}
-use Rattle.ledger.specs.Ledger.{Ledger, opening, Event, noted, answerOn, linesNamed, keptOn}
+use Rattle.ledger.specs.Ledger.{Ledger, opening, Event, noted, linesNamed, keptOn}
 use Rattle.ledger.specs.Laws.Kept.{Keeps, after-kept, from-boot-kept}
 use Rattle.loops.specs.Loops.{names}
 use Rattle.engine.specs.Engine.{startMasks, engineRefusal, Memory, StartLent}
@@ -53,7 +55,7 @@ module _ (board : Board) {base end : ℕ} (first : List ℕ) (fit : Memory (leng
     unfolding keptOn afterAll
     kept =
         let (_, q) = next (t .good) here in
-        let k : Keeps base end (noted w (answerOn board (handed b) w) (linesNamed board (handed b) w) g) (view (wordsAfter (handed b) (callOn board (handed b) w)) .k) =
+        let k : Keeps base end (noted w (callerOf board (handed b)) (outcomeOf (callOn board (handed b) w)) (linesNamed board (handed b) w) g) (view (wordsAfter (handed b) (callOn board (handed b) w)) .k) =
         after-kept (t .good) (t .keeps) (w ∷ []) in
         subst (λ (l : List ℕ). Keeps base end (entered board b w r g) (view l .k)) (sym q)
         (subst (λ (x : Ledger). Keeps base end x (view (wordsAfter (handed b) (callOn board (handed b) w)) .k)) (sym (call-noted (t .good .small) here g)) k)

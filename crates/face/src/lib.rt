@@ -49,11 +49,12 @@ pub fn call_bytes(board: Board, table: &mut [u8], word: u64, second: &mut u64) -
     let answer = calls::call_table(board, &mut a, top, word);
     let caller = answer.caller;
     let stands = answer.stands;
+    let changed = answer.changed;
     let outcome = answer.outcome;
     match outcome {
         Outcome::Done(first, value) => {
             if !stands {
-                memory::store(&a, table);
+                memory::store(&a, changed, table);
             }
             *second = value;
             packed(0, caller, first)

@@ -4,7 +4,7 @@ ghost use lib.ListN.{length};
 ghost use Rattle.tables.specs.View.{view};
 ghost use Rattle.tables.specs.Top.{Top};
 ghost use Rattle.memory.specs.Bytes.{bytesOf};
-ghost use Rattle.memory.specs.ByteRecords.{HeaderTells, BytesTell};
+ghost use Rattle.memory.specs.ByteRecords.{HeaderTells, BytesTell, StoredBut};
 ghost use Rattle.sound.specs.Clauses.{sound};
 ghost use Rattle.sound.specs.Whole.{Right};
 ghost use Rattle.sheet.specs.Touched.{Named, sheetKept};
@@ -39,15 +39,22 @@ pub fn boot_sheet_bytes(table: &mut [u8], sheet: &mut [u8], base: u64, end: u64)
     }
 }
 
-// Table and sheet are written back, but for a call after which every word is as it was; of the sheet the words of those that it touched.
-fn store_both(t: &[u64; 641], stands: bool, x: Whose, table: &mut [u8], sheet: &mut [u8])
-    requires { ⌜ (length (now table) ≡ 5128) × (length (now sheet) ≡ 256) × HeaderTells (now t) × BytesTell (now table) × Right (view (now t)) × Named x ⌝ }
+// Table and sheet are written back, but for a call after which every word is as it was: of the table the records that it changed, of the sheet the words of those that it touched.
+fn store_both(
+    t: &[u64; 641],
+    stands: bool,
+    changed: u32,
+    x: Whose,
+    table: &mut [u8],
+    sheet: &mut [u8],
+)
+    requires { ⌜ (length (now table) ≡ 5128) × (length (now sheet) ≡ 256) × HeaderTells (now t) × BytesTell (now table) × StoredBut changed (now t) (now table) × Right (view (now t)) × Named x ⌝ }
     ensures { λ _. ⌜ (now (table .exit) ≡ cond stands (now (table .entry)) (bytesOf (now (t .entry)))) × (now (sheet .exit) ≡ cond stands (now (sheet .entry)) (sheetKept x (view (now (t .entry))) (now (sheet .entry)))) ⌝ }
 {
     if stands {
         return;
     }
-    memory::store(t, table);
+    memory::store(t, changed, table);
     sheet::kept::keep_sheet(t, x, sheet);
 }
 
@@ -93,10 +100,11 @@ pub fn call_sheet_bytes(
     let answer = calls::serve_word(board, &mut a, word);
     let caller = answer.caller;
     let stands = answer.stands;
+    let changed = answer.changed;
     let outcome = answer.outcome;
     match outcome {
         Outcome::Done(first, value) => {
-            store_both(&a, stands, touched, table, sheet);
+            store_both(&a, stands, changed, touched, table, sheet);
             *second = value;
             packed(0, caller, first)
         }

@@ -28,3 +28,4 @@ pub mod Boot
 pub mod Few
 pub mod Exact
 pub mod Lent
+pub mod Elsewhere

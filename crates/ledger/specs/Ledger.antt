@@ -18,8 +18,6 @@ use Rattle.tables.specs.declared.Outcome.the-variants.{Done, Refused}
 use Rattle.rules.specs.Rules.{recordsZero, branch, callOn, wordsAfter}
 use Rattle.rules.specs.Ran.{outcomeOf}
 use Rattle.rules.specs.Calls.{callerOf}
-use Rattle.rules.specs.Reads.{standsAfter}
-use Rattle.rules.specs.declared.Answer.{Answer}
 
 -- whether partition p stands in it for line l; and the tree, which tells whose child one is and who goes with a partition that is cleared out
 pub record Ledger : Type 0 where
@@ -84,15 +82,11 @@ unfoldable pub eventOf : Ledger → CallFields → ℕ → Outcome → Lines →
 eventOf g f caller (Done v w) r = accepted g f caller v r
 eventOf g f caller (Refused n) r = nothing
 
--- the reader's work for a call: its word, its answer, and the lines of its entry
-unfoldable pub noted : ℕ → Answer → Lines → Ledger → Ledger
-noted w a r g = apply (eventOf g (fieldsIn call w) (a .caller .0) (a .outcome) r) g
+-- the reader's work for a call: its word, the caller and the outcome that it answered, and the lines of its entry
+unfoldable pub noted : ℕ → ℕ → Outcome → Lines → Ledger → Ledger
+noted w caller o r g = apply (eventOf g (fieldsIn call w) caller o r) g
 
 -- ── over a list of calls ──
--- the answer of a call of word w on the words l
-abbrev pub answerOn : Board → List ℕ → ℕ → Answer
-answerOn b l w = record { caller = record { 0 = callerOf b l }; outcome = outcomeOf (callOn b l w); stands = standsAfter b l w }
-
 -- no entry has no line
 unfoldable pub linesIn : Opt Entry → Lines
 linesIn none = record { start = 0; stop = 0 }
@@ -105,4 +99,4 @@ linesNamed b l w = linesIn (view l .k .slot (callerOf b l) (fieldsIn call w .slo
 -- the ledger g of the table of words l, kept on over the calls of these words, in order
 unfoldable pub keptOn : Board → List ℕ → Ledger → List ℕ → Ledger
 keptOn b l g [] = g
-keptOn b l g (w ∷ ws) = keptOn b (wordsAfter l (callOn b l w)) (noted w (answerOn b l w) (linesNamed b l w) g) ws
+keptOn b l g (w ∷ ws) = keptOn b (wordsAfter l (callOn b l w)) (noted w (callerOf b l) (outcomeOf (callOn b l w)) (linesNamed b l w) g) ws

@@ -1,12 +1,13 @@
 -- The bytes of a table, record by record. Of a record that is zero nothing has to be loaded or stored.
 use mathlib.Core.Path.{_≡_}
+use mathlib.Core.Bool.{false}
 use mathlib.Core.List.{List}
 use Prim.Native.Nat.{ℕ, _+_, _*_, _≤_, _<_}
 use lib.ListN.{length, getD, replicate}
-use Rattle.loops.specs.Loops.{Filling}
+use Rattle.loops.specs.Loops.{names, Filling}
 use Rattle.tables.specs.View.{areaWordAt}
 use Rattle.tables.specs.Spelling.{ZeroWords}
-use Rattle.memory.specs.Bytes.{wordFrom, wordAt}
+use Rattle.memory.specs.Bytes.{wordFrom, wordAt, byteOf}
 
 -- the words of the bytes b from word n on are zero
 pub record ZeroEnd (b : List ℕ) (n : ℕ) : Type 0 where
@@ -24,6 +25,15 @@ pub record TellsAt (b : List ℕ) (p : ℕ) : Type 0 where
 -- .. and of every partition's
 pub record BytesTell (b : List ℕ) : Type 0 where
   pub at : (p : ℕ) → p < 16 → TellsAt b p
+
+-- Where the bit of p is not set in m, its bytes in b are those of the words l ..
+pub record StoredAt (m : ℕ) (l b : List ℕ) (p : ℕ) : Type 0 where
+  pub there : names m p ≡ false → (n : ℕ) → 8 + 320 * p ≤ n → n < 328 + 320 * p → getD b n 0 ≡ byteOf l n
+
+-- .. and so every partition's; m has no other bits
+pub record StoredBut (m : ℕ) (l b : List ℕ) : Type 0 where
+  pub small : m < 0x1_0000
+  pub at : (p : ℕ) → p < 16 → StoredAt m l b p
 
 -- The words of l are zero but for the first, the root's header, its first structure and its first slot.
 pub record RootOnly (l : List ℕ) : Type 0 where

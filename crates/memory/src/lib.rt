@@ -4,7 +4,7 @@ ghost use lib.ListN.{length, replicate};
 ghost use Rattle.memory.specs.Bytes.{wordFrom, wordsOf, byteOf, bytesOf, putWord};
 ghost use Rattle.memory.specs.Quads.{Quad, putQuad, turned, zeroEight};
 ghost use Rattle.tables.specs.Top.{Top};
-ghost use Rattle.memory.specs.ByteRecords.{ZeroEnd, HeaderTells, Loading, Wrote, TellsAt, BytesTell, RootOnly};
+ghost use Rattle.memory.specs.ByteRecords.{ZeroEnd, HeaderTells, Loading, Wrote, TellsAt, BytesTell, StoredBut, RootOnly};
 
 // A table as the bytes that C hands over: words most significant byte first.
 use words::Partition;
@@ -172,15 +172,19 @@ fn store_record(t: &[u64; 641], p: Partition, b: &mut [u8])
     }
 }
 
-// The table as bytes, over those of the table before. Most partitions were and stay absent: their records are left alone.
-pub fn store(t: &[u64; 641], b: &mut [u8])
-    requires { ⌜ (length (now b) ≡ 5128) × HeaderTells (now t) × BytesTell (now b) ⌝ }
+// The table as bytes, over those of the table before: word 0, and the records of whose bit is set. The others' are there already.
+pub fn store(t: &[u64; 641], changed: u32, b: &mut [u8])
+    requires { ⌜ (length (now b) ≡ 5128) × HeaderTells (now t) × BytesTell (now b) × StoredBut changed (now t) (now b) ⌝ }
     ensures { λ _. ⌜ now (b .exit) ≡ bytesOf (now (t .entry)) ⌝ }
 {
     put(b, 0, t[0]);
     let mut p = 0u32;
-    while p < 16 {
-        store_record(t, Partition(p), b);
+    let mut rest = changed;
+    while rest > 0 {
+        if rest % 2 == 1 {
+            store_record(t, Partition(p), b);
+        }
+        rest = rest / 2;
         p += 1;
     }
 }

@@ -10,13 +10,15 @@ use Rattle.rules.specs.declared.Answer.{Answer}
 use Rattle.rules.specs.Rules.{callOn}
 use Rattle.rules.specs.Ran.{Ran}
 use Rattle.rules.specs.Reads.{standsAfter}
+use Rattle.rules.specs.Changes.{changedAfter}
 
 -- the caller's number before the call; 0 where refusal 1 is given
 unfoldable pub callerOf : Board → List ℕ → ℕ
 callerOf b l = cond (sound b l) (view l .k .current) 0
 
--- the answer: the caller beside the outcome of the rule, and whether it stands; and every word afterwards
+-- the answer: the caller beside the outcome of the rule, whether it stands, and whose records it can have changed; and every word afterwards
 pub record CallAnswers (b : Board) (before : List ℕ) (w : ℕ) (r : Answer) (after : List ℕ) : Type 0 where
   pub caller : r .caller .0 ≡ callerOf b before
   pub ran : Ran (callOn b before w) before (r .outcome) after
   pub stands : r .stands ≡ standsAfter b before w
+  pub changed : r .changed ≡ changedAfter b before w

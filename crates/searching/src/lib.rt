@@ -2,7 +2,7 @@ ghost use mathlib.Core.Path.{_≡_};
 ghost use Prim.Native.Nat.{_*_, _≤_, _<_};
 ghost use Rattle.loops.specs.Loops.{bitOf, mapFrom, mapOf};
 ghost use Rattle.tables.specs.View.{view};
-ghost use Rattle.tables.specs.Search.{lowest, present, child, hasChild, absentChild, noStructure, isNone, free, holds, lookFor};
+ghost use Rattle.tables.specs.Search.{lowest, present, child, hasChild, absentChild, noStructure, isNone, free, givenIn, holds, lookFor};
 ghost use Rattle.tables.specs.Answers.{foundOf, lookedOf, whichOf, structureOf};
 // What a table is asked: who is present, whose child, which slot is free, where a line is held; and the way from a partition to the root.
 pub mod climb;
@@ -172,4 +172,16 @@ pub fn holding_slot(t: &[u64; 641], p: Partition, l: Line) -> Looked
         found: Found::Nothing,
         count: 32,
     }
+}
+
+// The partition that slot i of p is given to; 0 where it has no entry.
+pub fn given_to(t: &[u64; 641], p: Partition, i: Slot) -> Partition
+    requires { ⌜ (p .0 < 16) × (i .0 < 32) ⌝ }
+    ensures { λ r. ⌜ (r .0 ≡ givenIn (view (now (t .entry)) .k .slot (p .0) (i .0))) × (r .0 < 16) ⌝ }
+{
+    let f = tables::read::entry(t, p, i);
+    if !f.present {
+        return Partition(0);
+    }
+    f.given
 }

@@ -10,8 +10,8 @@ use Rattle.words.specs.Kind.{fieldsIn, wordOf}
 use Rattle.words.specs.Words.{call, masks}
 use Rattle.words.specs.declared.Partition.{Partition}
 use Rattle.words.specs.declared.call_word.CallFields.{CallFields}
-use Rattle.tables.specs.State.{Opt, none, some, Entry, K, Table}
-use Rattle.tables.specs.Search.{lowest, present, absent, absentChild}
+use Rattle.tables.specs.State.{Opt, none, some, K, Table}
+use Rattle.tables.specs.Search.{lowest, present, absent, absentChild, givenIn}
 use Rattle.memory.specs.Bytes.{wordAt, byteOf}
 use Rattle.rules.specs.Rules.{branch}
 use Rattle.sheet.specs.Sheet.{occupied, structured, linesWord, sheetOf}
@@ -20,11 +20,6 @@ use Rattle.sheet.specs.declared.calls.Whose.{Whose}
 use Rattle.sheet.specs.declared.calls.Whose.the-variants.{Nobody, One, Up, Gone}
 
 -- ── whose ──
--- the partition that what a slot holds is given to
-unfoldable pub givenIn : Opt Entry → ℕ
-givenIn none = 0
-givenIn (some e) = e .given
-
 -- the number of the next child: the lowest that is absent
 unfoldable pub nextIn : Opt ℕ → ℕ
 nextIn none = 0

@@ -4,7 +4,7 @@ ghost use Prim.Native.Nat.{_<_};
 ghost use lib.Dec.{eqb};
 ghost use Rattle.tables.specs.View.{view};
 ghost use Rattle.tables.specs.Search.{lowest, absentChild};
-ghost use Rattle.sheet.specs.Touched.{givenIn, nextIn, touchedOfCaller, touched, Named};
+ghost use Rattle.sheet.specs.Touched.{nextIn, touchedOfCaller, touched, Named};
 use tables::Which;
 use words::Partition;
 use words::Slot;
@@ -15,18 +15,6 @@ pub enum Whose {
     One(Partition),
     Up(Partition),
     Gone,
-}
-
-// The partition that slot i of p is given to; 0 where it has no entry.
-fn given_to(t: &[u64; 641], p: Partition, i: Slot) -> Partition
-    requires { ⌜ (p .0 < 16) × (i .0 < 32) ⌝ }
-    ensures { λ r. ⌜ (r .0 ≡ givenIn (view (now (t .entry)) .k .slot (p .0) (i .0))) × (r .0 < 16) ⌝ }
-{
-    let f = tables::read::entry(t, p, i);
-    if !f.present {
-        return Partition(0);
-    }
-    f.given
 }
 
 // The number of the next child; 0 where there is none.
@@ -62,7 +50,7 @@ fn touched_of_caller(t: &[u64; 641], service: u32, i: Slot) -> Whose
     let first = tables::read::first(t);
     let caller = first.current;
     if service == 6 {
-        let child = given_to(t, caller, i);
+        let child = searching::given_to(t, caller, i);
         return Whose::One(child);
     }
     if is_either(service, 7, 8) {

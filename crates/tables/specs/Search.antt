@@ -54,6 +54,11 @@ unfoldable pub holds : ℕ → Opt Entry → Bool
 holds l none = false
 holds l (some e) = leb (e .start) l && ltb l (e .stop)
 
+-- the partition that what a slot holds is given to
+unfoldable pub givenIn : Opt Entry → ℕ
+givenIn none = 0
+givenIn (some e) = e .given
+
 -- slot i of p holds line l
 abbrev pub holdsAt : K → ℕ → ℕ → ℕ → Bool
 holdsAt k p l i = holds l (k .slot p i)

@@ -18,6 +18,10 @@ serve-word-spec =
     (λ c. search needs)
     (λ c κs.
     let fields = c .before .before in
+    let caller = fields .before .before .before .before in
+    (caller .first .ensures .current, caller .first .ensures .current-small, read-small _ (sym (fields .before .before .read .ensures) ∙ fields .read2 .given .1)))
+    (λ c κs.
+    let fields = c .before .before .before .before in
     let fitting = fields .before .before .before .before .before .before in
     let h = sound-means _ _ .0 (fitting .before .before .pre) in
     let canon = sound-canon (fitting .fits2 .ensures) h in
@@ -26,10 +30,11 @@ serve-word-spec =
     (λ c. search needs)
     (λ c.
     let served = c .before .before .before in
-    let fields = served .before .before .before in
+    let told = served .before .before in
+    let fields = told .before .before .before in
     let caller = fields .before .before .before .before in
     let begun = caller .before .before .before .before in
-    answers-served _ _ _ (begun .pre) (caller .first .ensures .current) (sym (fields .before .before .read .ensures) ∙ fields .read2 .given .1) (served .serve .ensures) (c .either .ensures))
+    answers-served _ _ _ (begun .pre) (caller .first .ensures .current) (sym (fields .before .before .read .ensures) ∙ fields .read2 .given .1) (served .serve .ensures) (c .either .ensures) (told .changed-by .ensures))
     (λ c.
     let parted = c .before .before .before in
     let caller = parted .before .before in

@@ -35,7 +35,7 @@ use Rattle.isolation.specs.Ladder.{Ladder, Answers}
 use Rattle.isolation.specs.Ladders.{callLadder}
 use Rattle.isolation.specs.Laws.Exact.{call-exact}
 use Rattle.isolation.specs.Whole.{call-right, afterAll, next-good}
-use Rattle.ledger.specs.Ledger.{Ledger, Event, apply, eventOf, noted, answerOn, linesNamed, keptOn}
+use Rattle.ledger.specs.Ledger.{Ledger, Event, apply, eventOf, noted, linesNamed, keptOn}
 use Rattle.face.specs.Face.{handed, resultOf, secondAfter, bytesAfter, CallLent}
 use Rattle.face.specs.Laws.Face.{handed-is}
 use Rattle.demands.specs.Demands.{Bytes, refusalIn, callerIn, firstIn, Accepted, fails, Answered, Changed, happened, entered, Called, no-call, one-call}
@@ -126,7 +126,7 @@ module _ {board : Board} {b : List ℕ} {w s r : ℕ} {c : List ℕ} {s′ : ℕ
       go (refused n) a e = let ((i, k, j), _) = result-read (call-rises board (handed b) w) (caller-byte board b) (refused n) a e in rw (i, ne-eqb n 0 (omega arith)) refl
 
   -- so the ledger is kept as by the rule
-  pub call-noted : (g : Ledger) → entered board b w r g ≡ noted w (answerOn board (handed b) w) (linesNamed board (handed b) w) g
+  pub call-noted : (g : Ledger) → entered board b w r g ≡ noted w (callerOf board (handed b)) (outcomeOf (callOn board (handed b) w)) (linesNamed board (handed b) w) g
   unfolding noted
   call-noted g = ap (λ (e : Event). apply e g) (call-event g)
 

@@ -6,7 +6,7 @@ use borrow.Author.Tests.{not-false}
 use Rattle.memory.specs.Bytes.{bytesOf}
 use Rattle.tables.specs.Laws.Top.{top-at}
 use Rattle.rules.specs.Laws.Brief.{call-brief, brief-first, number-small}
-use Rattle.face.specs.Laws.Face.{call-none, call-lent, call-tells, call-told, call-stands, call-lent-refused, call-caller-small}
+use Rattle.face.specs.Laws.Face.{call-none, call-lent, call-tells, call-told, call-stored, call-stands, call-lent-refused, call-caller-small}
 use native.Mathlib.Omega.{arith}
 use borrow.Author.Needs.{needs}
 use Rattle.face.proofs.call_bytes.Statement.{statement}
@@ -31,7 +31,7 @@ call-bytes-spec =
     let answer = answered .call-table .ensures in
     let small = sized .before .slice-known .given in
     let done = served .outcome .given .1 in
-    (size, call-tells _ size load answer (λ i. small i .fits) done, call-told _ size load answer (λ i. small i .fits) done))
+    (size, call-tells _ size load answer (λ i. small i .fits) done, call-told _ size load answer (λ i. small i .fits) done, call-stored _ size load answer (λ i. small i .fits) done))
     (λ c κs.
     let served = c .before .before in
     let answered = served .before .before .before in
@@ -44,7 +44,7 @@ call-bytes-spec =
     let loaded = answered .before .before in
     let sized = loaded .before .before .before in
     (omega (arith, number-small (call-brief _ _ _) (sym (answered .call-table .ensures .ran .outcome) ∙ c .before .outcome2 .given .1)), omega (arith, call-caller-small _ (sized .if1 .left) (loaded .load .ensures .0) (answered .call-table .ensures)), omega arith))
-    (λ c. ⊎-elim (λ z. ap length (z .6) ∙ z .3 .kept .1 .0) (λ z. ap length (z .1)) (c .before .if2 .came))
+    (λ c. ⊎-elim (λ z. ap length (z .6) ∙ z .3 .kept .1 .1 .0) (λ z. ap length (z .1)) (c .before .if2 .came))
     (λ c.
     let served = c .before .before .before in
     let answered = served .before .before .before in

@@ -7,16 +7,17 @@ use native.Mathlib.Omega.{arith}
 use lib.ListN.{length, getD}
 use lib.Dec.{eqb, leb, ltb}
 use borrow.Author.Tests.{eq-eqb, ne-eqb}
+use Rattle.loops.specs.Loops.{names}
 use Rattle.shapes.specs.declared.Board.{Board}
 use Rattle.tables.specs.State.{none, Table}
-use Rattle.tables.specs.View.{view}
+use Rattle.tables.specs.View.{recordWord, view}
 use Rattle.tables.specs.Encode.{encode}
 use Rattle.tables.specs.Fitting.{Words}
 use Rattle.memory.specs.Bytes.{wordsOf, bytesOf}
 use Rattle.tables.specs.Laws.Update.{upd-other}
 use Rattle.tables.specs.Settle.{keep, settle}
-use Rattle.memory.specs.ByteRecords.{HeaderTells, BytesTell, RootOnly}
-use Rattle.memory.specs.Laws.ByteRecords.{bytes-tell, root-only}
+use Rattle.memory.specs.ByteRecords.{HeaderTells, BytesTell, StoredBut, RootOnly}
+use Rattle.memory.specs.Laws.ByteRecords.{bytes-tell, stored-but, root-only}
 use Rattle.memory.specs.Laws.ByteTrips.{length-wordsOf, words-small, bytes-words}
 use Rattle.tables.specs.declared.Outcome.{Outcome}
 use Rattle.tables.specs.declared.Outcome.the-variants.{Done, Refused}
@@ -31,10 +32,11 @@ use Rattle.rules.specs.Ran.{outcomeOf, Ran}
 use Rattle.rules.specs.Laws.Ran.{ran-refused, ran-as, refused-done, done-first, refused-number}
 use Rattle.services.specs.Laws.Boot.{boot-any, boot-length}
 use Rattle.rules.specs.declared.Answer.{Answer}
-use Rattle.rules.specs.Laws.Calls.{caller-small, answers-unsound}
+use Rattle.rules.specs.Laws.Calls.{caller-small, changed-small, answers-unsound}
 use Rattle.rules.specs.Calls.{CallAnswers}
 use Rattle.rules.specs.Laws.Reads.{answers-stand}
 use Rattle.isolation.specs.Whole.{call-sound}
+use Rattle.isolation.specs.Laws.Elsewhere.{call-elsewhere}
 use Rattle.face.specs.Face.{handed, resultPacked, resultOf, secondAfter, bytesAfter, Lent, CallLent, ListLent}
 
 -- two results are equal: the result, and every byte
@@ -163,6 +165,18 @@ module _ {board : Board} (b : List ℕ) {a m : List ℕ} {w : ℕ} {x : Answer} 
       go : (s : Bool) → sound board a ≡ s → Sound board a
       go true e = sound-means board a .0 e
       go false e = let u : callOn board a w ≡ refused 1 = rw e refl in absurd (refused-done (sym (ap outcomeOf u) ∙ sym (h .ran .outcome) ∙ q))
+
+  -- of whom it did not change, the bytes are there already
+  pub call-stored : {v y : ℕ} → ((i : ℕ) → getD b i 0 < 256) → x .outcome ≡ Done v y → StoredBut (x .changed) m b
+  unfolding outcomeOf wordsAfter
+  call-stored small q = stored-but (rw (h .changed) (changed-small board a w)) size (λ i _. small i) (go (callOn board a w) refl)
+    where
+      go : (r : Result) → callOn board a w ≡ r → (p : ℕ) → p < 16 → names (x .changed) p ≡ false → (o : ℕ) → o < 40 → recordWord m p o ≡ recordWord (wordsOf b) p o
+      go (done v y t) e p k z o d =
+          ap (λ (l : List ℕ). recordWord l p o) (h .ran .words ∙ ap (wordsAfter a) e)
+          ∙ call-elsewhere board a w (subst Words (sym load) (words-small b small)) e p k (sym (ap (λ (n : ℕ). names n p) (h .changed)) ∙ z) o d
+          ∙ ap (λ (l : List ℕ). recordWord l p o) load
+      go (refused n) e p k z o d = absurd (refused-done (sym (ap outcomeOf e) ∙ sym (h .ran .outcome) ∙ q))
 
   -- where its answer stands, the bytes are those of the table already
   pub call-stands : ((i : ℕ) → getD b i 0 < 256) → x .stands ≡ true → b ≡ bytesOf m

@@ -4,7 +4,7 @@ use borrow.Author.Tests.{not-true, not-false}
 use Rattle.tables.specs.Laws.Top.{top-at}
 use Rattle.rules.specs.Laws.Brief.{call-brief, brief-first, number-small}
 use Rattle.sheet.specs.Laws.Bytes.{matches-length}
-use Rattle.face.specs.Laws.Face.{call-tells, call-told, call-caller-small}
+use Rattle.face.specs.Laws.Face.{call-tells, call-told, call-stored, call-caller-small}
 use Rattle.facesheet.specs.Laws.Sheets.{loaded-right, called-right, call-short, call-unsound, call-mismatch, call-neither, call-both}
 use native.Mathlib.Omega.{arith}
 use borrow.Author.Needs.{needs}
@@ -61,7 +61,7 @@ call-sheet-bytes-spec =
     let small = lent .slice-known .given in
     let answer = served .serve-word .ensures in
     let done = told .outcome .given .1 in
-    (size, matches-length _ _ (sym (judged .is-sound-beside .ensures .same (not-false _ (decided .if2 .left))) ∙ not-false _ (matched .if3 .left)), call-tells _ size load answer (λ i. small i .fits) done, call-told _ size load answer (λ i. small i .fits) done, called-right _ _ load (λ i. small i .fits) answer done, asked .touched .ensures .1))
+    (size, matches-length _ _ (sym (judged .is-sound-beside .ensures .same (not-false _ (decided .if2 .left))) ∙ not-false _ (matched .if3 .left)), call-tells _ size load answer (λ i. small i .fits) done, call-told _ size load answer (λ i. small i .fits) done, call-stored _ size load answer (λ i. small i .fits) done, called-right _ _ load (λ i. small i .fits) answer done, asked .touched .ensures .1))
     (λ c κs.
     let told = c .before .before .before .before .before .before .before .before .before in
     let served = told .before .before .before in

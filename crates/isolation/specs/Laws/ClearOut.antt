@@ -3,7 +3,6 @@ use mathlib.Core.Path.{_≡_, refl, sym, subst, _∙_}
 use mathlib.Core.Logic.{_⊎_, inl, inr, _↔_}
 use mathlib.Core.Bool.{Bool, true, false, cond, _||_, or-false, false≢true}
 use Prim.Native.Nat.{ℕ, _+_, _<_}
-use native.Mathlib.Omega.{arith}
 use Rattle.loops.specs.Loops.{count}
 use Rattle.loops.specs.Laws.Count.{count-ext, count-apart}
 use Rattle.tables.specs.State.{Opt, none, some, Entry, Area, K, Table, givenTo}

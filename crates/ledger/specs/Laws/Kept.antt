@@ -31,7 +31,6 @@ use Rattle.rules.specs.Rules.{Result, done, refused, recordsZero, remove, branc
 use Rattle.rules.specs.Laws.Each.{done-each}
 use Rattle.rules.specs.Ran.{outcomeOf}
 use Rattle.rules.specs.Calls.{callerOf, CallAnswers}
-use Rattle.rules.specs.Reads.{standsAfter}
 use Rattle.rules.specs.declared.Answer.{Answer}
 use Rattle.isolation.specs.Ladder.{Ends}
 use Rattle.isolation.specs.Laws.Ladder.{ends}
@@ -53,7 +52,7 @@ use Rattle.isolation.specs.Laws.ClearOut.{branch-goes, clear-done}
 use Rattle.isolation.specs.Laws.Pack.{pack-done, pack-holds}
 use Rattle.isolation.specs.Laws.Boot.{boot-exact, boot-holds, boot-right}
 use Rattle.isolation.specs.Whole.{serve-right, served, call-good, boot-good, afterAll}
-use Rattle.ledger.specs.Ledger.{Ledger, opening, Lines, among, adopt, enter, strikeAll, apply, childFor, struck, accepted, eventOf, noted, answerOn, linesIn, linesNamed, keptOn}
+use Rattle.ledger.specs.Ledger.{Ledger, opening, Lines, among, adopt, enter, strikeAll, apply, childFor, struck, accepted, eventOf, noted, linesIn, linesNamed, keptOn}
 
 -- g is the ledger of a table of base to end: its partitions are those that hold the line, its tree is the table's
 pub record Keeps (base end : ℕ) (g : Ledger) (k : K) : Type 0 where
@@ -177,8 +176,8 @@ module _ {base end : ℕ} {g : Ledger} {t : Table} (h : Right t) (s : Keeps base
 
 -- ── any list of calls ──
 -- the reader has the answers that `call` promises
-pub told-answers : {board : Board} {l m : List ℕ} {w : ℕ} {a : Answer} → CallAnswers board l w a m → a ≡ answerOn board l w
-told-answers h = λ x. record { caller = record { 0 = h .caller x }; outcome = h .ran .outcome x; stands = h .stands x }
+pub told-answers : {board : Board} {l m : List ℕ} {w : ℕ} {a : Answer} → CallAnswers board l w a m → (a .caller .0 ≡ callerOf board l) × (a .outcome ≡ outcomeOf (callOn board l w))
+told-answers h = (h .caller, h .ran .outcome)
 
 module _ {base end : ℕ} where
   pub after-kept : {board : Board} {l : List ℕ} → Good board l → {g : Ledger} → Keeps base end g (view l .k) → (ws : List ℕ) → Keeps base end (keptOn board l g ws) (view (afterAll board l ws) .k)
@@ -187,7 +186,7 @@ module _ {base end : ℕ} where
   after-kept {board} {l} h {g} s (w ∷ ws) = let (a, b) = one (callOn board l w) refl in after-kept a b ws
     where
       one : (r : Result) → callOn board l w ≡ r
-          → Good board (wordsAfter l r) × Keeps base end (noted w (record { caller = record { 0 = callerOf board l }; outcome = outcomeOf r; stands = standsAfter board l w }) (linesNamed board l w) g) (view (wordsAfter l r) .k)
+          → Good board (wordsAfter l r) × Keeps base end (noted w (callerOf board l) (outcomeOf r) (linesNamed board l w) g) (view (wordsAfter l r) .k)
       one (done v x t′) z =
           let (_, a, y) = served board l w (h .small) z in
           let q = serve-right board a (fieldsIn call w) y in

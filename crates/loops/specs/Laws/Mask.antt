@@ -82,6 +82,6 @@ names-one c p = said (2 ^ c) p (go (ℕ-discrete p c) (decLt p c))
         let e : 0 * 2 ^ p + 2 ^ c ≡ 2 ^ c = omega arith in
         rw (ne-eqb p c n) (ap (λ (x : ℕ). x % 2 ^ 1) (rw e at none))
 
--- the mask with bit i, as 32 bits have it
-pub with-bit : (m i : ℕ) → i < 32 → bitOr m (1 * 2 ^ i % 2 ^ 32) ≡ bitOr m (2 ^ i)
-with-bit m i h = let e : 1 * 2 ^ i ≡ 2 ^ i = omega arith in ap (bitOr m) (shl-exact 1 i 32 (omega arith) (omega arith) ∙ e)
+-- bit i alone, as 32 bits have it
+pub bit-alone : (i : ℕ) → i < 32 → 1 * 2 ^ i % 2 ^ 32 ≡ 2 ^ i
+bit-alone i h = shl-exact 1 i 32 (omega arith) (omega arith) ∙ omega arith

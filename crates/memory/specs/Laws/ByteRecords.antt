@@ -1,16 +1,17 @@
 -- Records loaded or stored one by one, those that are zero passed over, are the whole table; and two results are equal.
 use mathlib.Core.Path.{_≡_, refl, ap, sym, subst, _∙_}
-use mathlib.Core.Bool.{true}
+use mathlib.Core.Bool.{true, false}
 use mathlib.Core.List.{List}
-use Prim.Native.Nat.{ℕ, _+_, _-_, _*_, _/_, _%_, _≤_, _<_}
+use Prim.Native.Nat.{ℕ, _+_, _-_, _*_, _/_, _%_, _^_, _≤_, _<_}
 use native.Mathlib.Nat.{add-zero, add-assoc}
 use native.Mathlib.Omega.{arith}
 use native.Mathlib.Decide.{ℕ-discrete, decLt}
 use lib.ListN.{length, getD, set, replicate, length-replicate, getD-replicate, length-set}
 use borrow.Author.Tests.{eq-eqb, ne-eqb, lt-ltb, le-ltb}
+use lib.Pow.{shr-shr, shr-le}
 use lib.Seq.{ext-getD, getD-set-same, getD-set-other}
 use Rattle.loops.specs.Laws.Carry.{done-keeps}
-use Rattle.loops.specs.Loops.{tabFrom}
+use Rattle.loops.specs.Loops.{tabFrom, names}
 use Rattle.loops.specs.Laws.Rewrite.{tab-at, tab-is, tab-ext, fill-start, fill-put}
 use Rattle.words.specs.Parts.{packParts}
 use Rattle.tables.specs.View.{recordWord, areaWordAt}
@@ -20,11 +21,11 @@ use Rattle.tables.specs.Laws.Encode.{regions-none, encode-at}
 use Rattle.tables.specs.Spelling.{ZeroWords}
 use Rattle.tables.specs.Laws.ZeroRecord.{zero-record-means}
 use Rattle.tables.specs.Top.{Top}
-use Rattle.memory.specs.Bytes.{octets, wordFrom, wordAt, byteAt, byteOf, wordsOf, bytesOf, putWord}
+use Rattle.memory.specs.Bytes.{octets, wordFrom, wordAt, byteAt, byteOf, wordsOf, bytesOf, recordByte, putWord}
 use Rattle.memory.specs.Quads.{zeroEight}
 use Rattle.memory.specs.Laws.Quads.{zero-eight}
-use Rattle.memory.specs.Laws.ByteTrips.{byte-place, bytes-words}
-use Rattle.memory.specs.ByteRecords.{ZeroEnd, HeaderTells, TellsAt, BytesTell, RootOnly, Loading, Wrote}
+use Rattle.memory.specs.Laws.ByteTrips.{byte-place, bytes-words, record-byte as record-place}
+use Rattle.memory.specs.ByteRecords.{ZeroEnd, HeaderTells, TellsAt, BytesTell, StoredAt, StoredBut, RootOnly, Loading, Wrote}
 
 -- two results of one that loads or writes are equal
 pub loading-one : (b : List ℕ) {k : ℕ} {s t : List ℕ} → Loading b k s → Loading b k t → s ≡ t
@@ -182,6 +183,60 @@ tells-after {b = b} {s} {p = p} w h t = record {
       w .after i (omega arith)
       ∙ t .zero (ap (packParts octets) (tab-ext 8 (λ n. getD b (8 + 320 * p + n) 0) _ (λ n q. sym (w .after (8 + 320 * p + n) (omega arith)))) ∙ e) i x y;
 }
+
+-- ── a record that is there already ──
+pub there-already : {m : ℕ} {l b : List ℕ} (p : ℕ) → length b ≡ 5128 → StoredAt m l b p → names m p ≡ false → Wrote (byteOf l) b (8 + 320 * p) (328 + 320 * p) b
+there-already p size h x = record { size = size; at = h .there x; before = λ n _. refl; after = λ n _. refl }
+
+pub stored-after : {g : ℕ → ℕ} {m : ℕ} {l b s : List ℕ} {j p : ℕ} → Wrote g b 0 j s → j ≤ 8 + 320 * p → StoredAt m l b p → StoredAt m l s p
+stored-after w h k = record { there = λ x n a e. w .after n (omega arith) ∙ k .there x n a e }
+
+-- .. for its words are those of the bytes
+pub stored-but : {m : ℕ} {l b : List ℕ} → m < 0x1_0000 → length b ≡ 5128 → ((i : ℕ) → i < 5128 → getD b i 0 < 256) → ((p : ℕ) → p < 16 → names m p ≡ false → (o : ℕ) → o < 40 → recordWord l p o ≡ recordWord (wordsOf b) p o) → StoredBut m l b
+unfolding recordByte bytesOf
+stored-but {m} {l} {b} few size small same = record { small = few; at = λ p a. record { there = λ x n h k. go p a x (n - (8 + 320 * p)) (omega arith) n (omega arith) } }
+  where
+    go : (p : ℕ) → p < 16 → names m p ≡ false → (i : ℕ) → i < 320 → (n : ℕ) → 8 + 320 * p + i ≡ n → getD b n 0 ≡ byteOf l n
+    go p a x i h n e =
+        subst (λ (n : ℕ). getD b n 0 ≡ byteOf l n) e
+        (ap (λ (s : List ℕ). recordByte s p i) (sym (bytes-words b size small))
+        ∙ record-place (wordsOf b) p i a h
+        ∙ ap (λ (w : ℕ). byteAt w (i % 8)) (sym (same p a x (i / 8) (omega arith)))
+        ∙ sym (record-place l p i a h)
+        ∙ tab-at 5128 (byteOf l) (8 + 320 * p + i) (omega arith))
+
+-- ── the bits that are left ──
+-- r, the bits of m from p on: whether the first of them is set, the others, and that there are none from 16 on
+module _ (m p : ℕ) {r : ℕ} (e : r ≡ m / 2 ^ p) where
+  pub bit-not : (r % 2 ≡ 1 → ⊥) → names m p ≡ false
+  unfolding names
+  bit-not h = ne-eqb (m / 2 ^ p % 2 ^ 1) 1 (λ z. h (ap (λ (n : ℕ). n % 2) e ∙ z))
+
+  pub bits-half : r / 2 ≡ m / 2 ^ (p + 1)
+  bits-half = ap (λ (n : ℕ). n / 2) e ∙ shr-shr m p 1
+
+  pub bits-few : m < 0x1_0000 → p ≤ 16 → (r ≡ 0 → ⊥) → p < 16
+  bits-few h k x = go (ℕ-discrete p 16)
+    where
+      go : Dec (p ≡ 16) → p < 16
+      go (yes z) = let f : r ≡ m / 0x1_0000 = e ∙ ap (λ (n : ℕ). m / 2 ^ n) z in absurd (x (omega arith))
+      go (no z) = omega arith
+
+-- where none is left, the records from p on are there already
+pub wrote-rest : {m p : ℕ} {l b s : List ℕ} → StoredBut m l b → Wrote (byteOf l) b 0 (8 + 320 * p) s → p ≤ 16 → 0 ≡ m / 2 ^ p → Wrote (byteOf l) b 0 5128 s
+wrote-rest {m} {p} {l} {b} {s} k w h e = record { size = w .size; at = λ n _ y. go n y (decLt n (8 + 320 * p)); before = w .before; after = λ n y. w .after n (omega arith) }
+  where
+    none-from : (q : ℕ) → p ≤ q → names m q ≡ false
+    none-from q x =
+        let f : p + (q - p) ≡ q = omega arith in
+        let zero : 0 / 2 ^ (q - p) ≤ 0 = shr-le 0 (q - p) in
+        bit-not m q (ap (λ (n : ℕ). n / 2 ^ (q - p)) e ∙ shr-shr m p (q - p) ∙ ap (λ (n : ℕ). m / 2 ^ n) f) (λ z. omega arith)
+
+    go : (n : ℕ) → n < 5128 → Dec (n < 8 + 320 * p) → getD s n 0 ≡ byteOf l n
+    go n y (yes x) = w .at n (omega arith) x
+    go n y (no x) =
+        let q = (n - 8) / 320 in
+        w .after n (omega arith) ∙ k .at q (omega arith) .there (none-from q (omega arith)) n (omega arith) (omega arith)
 
 -- ── the root alone ──
 -- zeros, and then four words

@@ -18,14 +18,12 @@ use Rattle.words.specs.Laws.Kinds.{masks-lawful}
 use Rattle.words.specs.declared.Partition.{Partition}
 use Rattle.words.specs.declared.call_word.CallFields.{CallFields}
 use Rattle.words.specs.declared.masks_word.MasksFields.{MasksFields}
-use Rattle.words.specs.declared.slot_word.SlotFields.{SlotFields}
 use Rattle.shapes.specs.declared.Board.{Board}
 use Rattle.tables.specs.State.{Opt, none, some, Entry, givenTo, Area, K, Table}
 use Rattle.tables.specs.Update.{upd}
 use Rattle.tables.specs.Laws.Update.{upd-same, upd-other, row-other}
-use Rattle.tables.specs.View.{entryIn, view}
-use Rattle.tables.specs.Seen.{Seen}
-use Rattle.tables.specs.Search.{isSome, isNone, lowest, present, absent, absentChild, child}
+use Rattle.tables.specs.View.{view}
+use Rattle.tables.specs.Search.{isSome, isNone, lowest, present, absent, absentChild, child, givenIn}
 use Rattle.tables.specs.Write.{withSlot, withCurrent}
 use Rattle.tables.specs.Settle.{openBit, openAt, settle}
 use Rattle.tables.specs.Fitting.{Words}
@@ -61,7 +59,7 @@ use Rattle.isolation.specs.Whole.{serve-right, served}
 use Rattle.sheet.specs.Sheet.{numberOfLines, masksOf, masksWord, linesWord, sheetWord, sheetOf}
 use Rattle.sheet.specs.Bytes.{sheetBytes, pairPut}
 use Rattle.sheet.specs.Sums.{childrenOf}
-use Rattle.sheet.specs.Touched.{givenIn, nextIn, touchedOfCaller, touchedBy, touched, Named, above, touches, masksWith, keptPair, putThose, sheetKept}
+use Rattle.sheet.specs.Touched.{nextIn, touchedOfCaller, touchedBy, touched, Named, above, touches, masksWith, keptPair, putThose, sheetKept}
 use Rattle.sheet.specs.declared.calls.Whose.{Whose}
 use Rattle.sheet.specs.declared.calls.Whose.the-variants.{Nobody, One, Up, Gone}
 use Rattle.sheet.specs.Laws.Words.{masks-in}
@@ -309,16 +307,6 @@ numberIn Gone = 0
 
 named-by : {x : Whose} → numberIn x < 16 → Named x
 named-by {x} h = record { one = λ q e. omega (arith, ap numberIn e); up = λ q e. omega (arith, ap numberIn e) }
-
--- slot i of p, which was read as f
-module _ {l : List ℕ} {p i : ℕ} {f : SlotFields} (seen : Seen l p i f) where
-  pub given-none : f .present ≡ false → 0 ≡ givenIn (view l .k .slot p i)
-  unfolding givenIn entryIn
-  given-none q = rw (seen .slot, q) refl
-
-  pub given-some : f .present ≡ true → f .given .0 ≡ givenIn (view l .k .slot p i)
-  unfolding givenIn entryIn
-  given-some q = rw (seen .slot, q) refl
 
 -- the next child
 pub next-some : (k : K) {x : Which} {p : Partition} → x ≡ whichOf (lowest 16 (absentChild k)) → x ≡ Number p → (p .0 ≡ nextIn (lowest 16 (absentChild k))) × (p .0 < 16)

@@ -14,6 +14,7 @@ use Rattle.words.specs.declared.slot_word.SlotFields.{SlotFields}
 use Rattle.words.specs.declared.structure_word.StructureFields.{StructureFields}
 use Rattle.tables.specs.State.{none, some}
 use Rattle.tables.specs.View.{firstWord, areaWordAt, regionsWordAt, slotWordAt, entryOf, entryIn, headerArea, structureArea, areaIn, nthRegion, named, firstAt, slotAt, headerAt, structureAt, regionsAt, areaAt, regionAt, parentAt, viewK, view}
+use Rattle.tables.specs.Search.{givenIn}
 use Rattle.tables.specs.Laws.View.{inside-in}
 use Rattle.tables.specs.Encode.{slotWord}
 use Rattle.tables.specs.Laws.Spelling.{canon-spells}
@@ -137,3 +138,13 @@ seen-area-one x y = x .is ∙ sym (y .is)
 -- ── the word of slot i of p ──
 pub word-of : (l : List ℕ) (p i : ℕ) → CanRead l p i → slotWordAt l p i ≡ slotWord (view l .k .slot p i) (view l .opened p i)
 word-of l p i h = canon-spells (h .canon) .at p (h .inP) .slot i (h .inI)
+
+-- whom slot i of p is given to, which was read as f
+module _ {l : List ℕ} {p i : ℕ} {f : SlotFields} (seen : Seen l p i f) where
+  pub given-none : f .present ≡ false → 0 ≡ givenIn (view l .k .slot p i)
+  unfolding givenIn entryIn
+  given-none q = rw (seen .slot, q) refl
+
+  pub given-some : f .present ≡ true → f .given .0 ≡ givenIn (view l .k .slot p i)
+  unfolding givenIn entryIn
+  given-some q = rw (seen .slot, q) refl

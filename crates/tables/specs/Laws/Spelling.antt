@@ -133,7 +133,12 @@ canon-spells {l} c = spells-of l (view l) (canon-at c)
 pub spells-canon : {l : List ℕ} → length l ≡ 641 → Spells l (view l) → Canon l
 spells-canon {l} size s = record { same = encode-is (view l) l size (each-of l (view l) s) }
 
--- .. word by word: word o of the 40 of p, and so that of its slot i
+-- .. word by word: word o of the 40 of p
+pub encode-record : (t : Table) (p o : ℕ) → p < 16 → o < 40 → recordWord (encode t) p o ≡ partWord t p o
+unfolding recordWord
+encode-record t p o a b = encode-at t (1 + 40 * p + o) (omega arith) ∙ at-part t p o b
+
+-- .. of canonical words, and so that of its slot i
 module _ {l : List ℕ} (c : Canon l) (p : ℕ) where
   pub canon-record : (o : ℕ) → p < 16 → o < 40 → recordWord l p o ≡ partWord (view l) p o
   unfolding recordWord

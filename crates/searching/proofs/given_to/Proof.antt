@@ -1,10 +1,10 @@
--- src/calls.rt, given_to: (r .0 ≡ givenIn (view t .k .slot (p .0) (i .0))) × (r .0 < 16)
+-- src/lib.rt, given_to: (r .0 ≡ givenIn (view t .k .slot (p .0) (i .0))) × (r .0 < 16)
 use borrow.Author.Tests.{not-true, not-false}
-use Rattle.sheet.specs.Laws.Touched.{given-none, given-some}
+use Rattle.tables.specs.Laws.Seen.{given-none, given-some}
 use native.Mathlib.Omega.{arith}
 use borrow.Author.Needs.{needs}
-use Rattle.sheet.proofs.calls.given_to.Statement.{statement}
-use Rattle.sheet.proofs.calls.given_to.Tie as tie
+use Rattle.searching.proofs.given_to.Statement.{statement}
+use Rattle.searching.proofs.given_to.Tie as tie
 
 pub given-to-spec : {M : Type 1} → statement M
 given-to-spec =
