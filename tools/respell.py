@@ -19,6 +19,7 @@ CODE = re.compile(r'"(?:[^"\\]|\\.)*"|//[^\n]*|' + r"[^\s(){}\[\].;,@\"<>&*!?:|]
 DECLARED = re.compile(rf"^\s*(?:(?:abbrev|unfoldable|pub|record|data) )*({NAME})(?: [({{][^(){{}}\n]*[)}}])* :(?: |$)", re.M)
 DASH = re.compile(r"(?<=[\w'₀-₉])-(?=[\w'])")
 HUMP = re.compile(r"(?<=[a-z0-9])[A-Z]")
+USE = re.compile(r"^(?:pub |ghost )*use ([^\s{]+)\.\{([^}]*)\}", re.M)
 # What the code of a function proves, and what Rattle calls it
 MADE = re.compile(r"^(?:loop|if|then|else|returns|match|overflow|After|Then|Else|Need|Start)[\d-]|^(?:invariant|measure)-")
 
@@ -79,14 +80,22 @@ def apart(root, names):
     return told
 
 
-def turned(text, names, word, comment):
+def brought(text, own):
+    """The names that a file brings from a library that is not the repository's."""
+    of_library = (m for m in USE.finditer(text) if m[1].split(".")[:2][-1] not in own)
+    return {name.strip() for m in of_library for it in m[2].split(",") for name in it.split(" as ")}
+
+
+def turned(text, names, own, word, comment):
+    stays = brought(text, own)
+
     def one(m):
         w = m[0]
         if w.startswith('"'):
             return w
         if w.startswith(comment):
             return re.sub(r"[\w'-]+", lambda c: names.get(c[0], c[0]) if HUMP.search(c[0]) else c[0], w)
-        if w not in names or w == snake(w) and (comment == "//" or "." in (text[m.start() - 1 : m.start()], text[m.end() : m.end() + 1])):
+        if w in stays or w not in names or w == snake(w) and (comment == "//" or "." in (text[m.start() - 1 : m.start()], text[m.end() : m.end() + 1])):
             return w  # a function or a module of that name stays
         return names[w]
 
@@ -104,9 +113,10 @@ def main(args):
     if told:
         print("\n".join(told), file=sys.stderr)
         return 1
+    own = set(os.listdir(os.path.join(root, "crates")))
     for path in texts(root, (".antt", ".rt")):
         old = read(path)
-        new = turned(old, names, WORD, "--") if path.endswith(".antt") else turned(old, names, CODE, "//")
+        new = turned(old, names, own, *((WORD, "--") if path.endswith(".antt") else (CODE, "//")))
         if new != old:
             with open(path, "w", encoding="utf-8") as f:
                 f.write(new)

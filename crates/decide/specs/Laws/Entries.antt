@@ -1,6 +1,6 @@
 -- S7 of a present partition from its parts, S11 of the root slot by slot; empty slots pass both.
 use Rattle.std.specs.Prelude.{◌≡◌, refl, Bool, true, false, not, ◌&&◌, ◌||◌, List, ℕ, ◌≤◌, ◌<◌}
-use Rattle.std.proofs.Math.Bool.{and_false}
+use Rattle.std.proofs.Math.Bool.{and-false}
 use Rattle.std.proofs.Common.{eq-eqb, ne_eqb}
 use Rattle.loops.specs.Loops.{all}
 use Rattle.tables.specs.State.{Entry, K, Table}
@@ -31,7 +31,7 @@ not_whole w u c q e = rw q e
 
 pub given_divides : (k : K) (p : ℕ) (o : Bool) (e : Entry) → (e.given ≡ 0 → ⊥) → undivided k p o e ≡ false
 unfolding undivided
-given_divides k p o e n = rw (ne_eqb e.given 0 n, and_false) refl
+given_divides k p o e n = rw (ne_eqb e.given 0 n, and-false) refl
 
 -- an empty slot lends nothing
 pub lends_empty : {l : List ℕ} {q m : ℕ} (p : ℕ) (e : Entry) → Bound l q m → (i : ℕ) → m ≤ i → i < 32 → has (lends p e) ((view l).k.slot q i) ≡ false

@@ -2,7 +2,7 @@
 use Rattle.std.specs.Prelude.{◌≡◌, Bool, true, false, not, ◌&&◌, List, ℕ, ◌+◌, ◌≤◌, ◌<◌, eqb}
 use Rattle.std.proofs.Math.Path.{refl}
 use Rattle.std.proofs.Common.{sym, ◌∙◌, arith, ne_eqb}
-use Rattle.std.proofs.Math.Bool.{and_true as and-unit}
+use Rattle.std.proofs.Math.Bool.{and-true as and-unit}
 use Rattle.std.proofs.Math.Decide.{dec_lt}
 use Rattle.loops.specs.Loops.{all}
 use Rattle.words.specs.declared.Rights.{Rights}

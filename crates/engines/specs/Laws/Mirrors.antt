@@ -2,7 +2,7 @@
 use Rattle.std.specs.Prelude.{◌≡◌, Bool, ◌&&◌, List, ℕ, ◌-◌, ◌^◌, ◌≤◌, ◌<◌, leb, eqb, length, get_or}
 use Rattle.std.proofs.Math.Path.{refl, ap₂}
 use Rattle.std.proofs.Common.{ap, sym, ◌∙◌, arith}
-use Rattle.std.proofs.Math.Bool.{not, ◌||◌, and_true, and_false, or_false}
+use Rattle.std.proofs.Math.Bool.{not, ◌||◌, and-true, and-false, or-false}
 use Rattle.std.proofs.Math.Decide.{dec_lt}
 use Rattle.std.proofs.Math.Dec.{ltb}
 use borrow.Author.Tests.{le-leb, lt-leb, le-ltb, lt-ltb}
@@ -34,7 +34,7 @@ module _ {base end : ℕ} (ms : List ℕ) (room : end - base ≤ length ms) wher
   pub start_mirrors : Mirrors base end (opening base end) (start_masks ms base end)
   unfolding opening
   start_mirrors = record {
-    line = λ p l b x y. bit_all ms room (λ m. 1) x y p ∙ names_one 0 p ∙ rw (le-leb base l x, lt-ltb l end y) (sym (and_true (eqb p 0)));
+    line = λ p l b x y. bit_all ms room (λ m. 1) x y p ∙ names_one 0 p ∙ rw (le-leb base l x, lt-ltb l end y) (sym (and-true (eqb p 0)));
   }
 
   module _ {g : Ledger} (s : Mirrors base end g ms) where
@@ -46,13 +46,13 @@ module _ {base end : ℕ} (ms : List ℕ) (room : end - base ≤ length ms) wher
             → names (get_or (give_masks ms base c e.start e.stop) (l - base) 0) p ≡ g.stands p l || (eqb p c && (leb e.start l && ltb l e.stop))
         go p l b x y (yes j) _ =
             bit_below ms room (joined (2 ^ c)) x y e.start e.stop p j ∙ s.line p l b x y
-            ∙ rw (lt-leb e.start l j, and_false (eqb p c)) (sym (or_false (g.stands p l)))
+            ∙ rw (lt-leb e.start l j, and-false (eqb p c)) (sym (or-false (g.stands p l)))
         go p l b x y (no j) (yes k) =
             bit_in ms room (joined (2 ^ c)) x y e.start e.stop p i (omega arith) k ∙ names_or _ (2 ^ c) p ∙ ap₂ ◌||◌ (s.line p l b x y) (names_one c p)
-            ∙ rw (le-leb e.start l (omega arith), lt-ltb l e.stop k, and_true (eqb p c)) refl
+            ∙ rw (le-leb e.start l (omega arith), lt-ltb l e.stop k, and-true (eqb p c)) refl
         go p l b x y (no j) (no k) =
             bit_from ms room (joined (2 ^ c)) x y e.start e.stop p (omega arith) ∙ s.line p l b x y
-            ∙ rw (le-leb e.start l (omega arith), le-ltb l e.stop (omega arith), and_false (eqb p c)) (sym (or_false (g.stands p l)))
+            ∙ rw (le-leb e.start l (omega arith), le-ltb l e.stop (omega arith), and-false (eqb p c)) (sym (or-false (g.stands p l)))
 
     pub take_mirrors : (c : ℕ) (e : Lines) → base ≤ e.start → Mirrors base end (apply (strike c e) g) (take_masks ms base c e.start e.stop)
     unfolding apply among
@@ -62,14 +62,14 @@ module _ {base end : ℕ} (ms : List ℕ) (room : end - base ≤ length ms) wher
             → names (get_or (take_masks ms base c e.start e.stop) (l - base) 0) p ≡ g.stands p l && not (eqb p c && (leb e.start l && ltb l e.stop))
         go p l b x y (yes j) _ =
             bit_below ms room (mask_struck (2 ^ c)) x y e.start e.stop p j ∙ s.line p l b x y
-            ∙ rw (lt-leb e.start l j, and_false (eqb p c)) (sym (and_true (g.stands p l)))
+            ∙ rw (lt-leb e.start l j, and-false (eqb p c)) (sym (and-true (g.stands p l)))
         go p l b x y (no j) (yes k) =
             bit_in ms room (mask_struck (2 ^ c)) x y e.start e.stop p i (omega arith) k ∙ names_struck _ (2 ^ c) p
             ∙ ap₂ (λ (u v : Bool). u && not v) (s.line p l b x y) (names_one c p)
-            ∙ rw (le-leb e.start l (omega arith), lt-ltb l e.stop k, and_true (eqb p c)) refl
+            ∙ rw (le-leb e.start l (omega arith), lt-ltb l e.stop k, and-true (eqb p c)) refl
         go p l b x y (no j) (no k) =
             bit_from ms room (mask_struck (2 ^ c)) x y e.start e.stop p (omega arith) ∙ s.line p l b x y
-            ∙ rw (le-leb e.start l (omega arith), le-ltb l e.stop (omega arith), and_false (eqb p c)) (sym (and_true (g.stands p l)))
+            ∙ rw (le-leb e.start l (omega arith), le-ltb l e.stop (omega arith), and-false (eqb p c)) (sym (and-true (g.stands p l)))
 
     -- w is the mask of m
     pub strike_mirrors : (w : ℕ) (m : ℕ → Bool) → ((p : ℕ) → p < 16 → names w p ≡ m p) → Mirrors base end (apply (strike_all m) g) (strike_masks ms base end w)

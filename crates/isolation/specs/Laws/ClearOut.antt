@@ -2,7 +2,7 @@
 use Rattle.std.specs.Prelude.{◌≡◌, ◌⊎◌, ◌↔◌, true, false, cond, ◌||◌}
 use Rattle.std.proofs.Math.Path.{refl}
 use Rattle.std.proofs.Common.{sym, subst, ◌∙◌, inl, inr}
-use Rattle.std.proofs.Math.Bool.{Bool, or_false}
+use Rattle.std.proofs.Math.Bool.{Bool, or-false}
 use Rattle.std.proofs.lemmas.Bool.{false≢true}
 use Prim.Native.Nat.{ℕ, ◌+◌, ◌<◌}
 use Rattle.loops.specs.Loops.{count}
@@ -103,7 +103,7 @@ module _ {t : Table} (h : Right t) (p : ℕ) where
 
       both : (b : Bool) (q : ℕ) → (b ≡ true → present t.k q ≡ true) → present t.k q ≡ is_some (cond b (λ j. none) (t.k.area q) 0) || b
       both true q u = u refl
-      both false q u = sym (or_false (present t.k q))
+      both false q u = sym (or-false (present t.k q))
 
       counts : Child t.k t.k.current p → count 16 (present t.k) ≡ count 16 (present (remove_k t.k p m)) + count 16 m
       counts c =

@@ -2,7 +2,7 @@
 use Rattle.std.specs.Prelude.{◌≡◌, Bool, ◌&&◌, ◌||◌, List, ℕ, ◌+◌, ◌^◌, ◌≤◌, ◌<◌, leb, eqb}
 use Rattle.std.proofs.Math.Path.{refl, ap}
 use Rattle.std.proofs.Common.{ap₂, sym, subst, ◌∙◌, add-zero, arith, leb-true}
-use Rattle.std.proofs.Math.Bool.{true, false, cond, not, or_false, not-not}
+use Rattle.std.proofs.Math.Bool.{true, false, cond, not, or-false, not-not}
 use Rattle.std.specs.Int.Bits.{bit_or}
 use Rattle.loops.specs.Loops.{sum, all, names}
 use Rattle.loops.specs.Laws.Mask.{names_none, names_or, names_one}
@@ -50,7 +50,7 @@ names_noted m x i = go x.loaded refl
   where
     go : (y : Bool) → x.loaded ≡ y → names (slot_noted m x) i ≡ names m i || not (other i x)
     go true q = rw q (names_or m (2 ^ x.slot.0) i ∙ ap (λ (y : Bool). names m i || y) (names_one x.slot.0 i ∙ sym (not-not _)))
-    go false q = rw q (sym (or_false (names m i)))
+    go false q = rw q (sym (or-false (names m i)))
 
 -- what S10 says of region r and those before it
 unfoldable pub region_right : Table → ℕ → ℕ → Bool

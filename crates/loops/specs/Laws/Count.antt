@@ -2,7 +2,7 @@
 use Rattle.std.specs.Prelude.{◌≡◌, refl, Bool, true, false, not, ◌&&◌, ◌||◌, ℕ, zero, suc, ◌+◌, ◌*◌, ◌≤◌, ◌<◌}
 use Rattle.std.proofs.Common.{ap, ap₂, subst, ◌∙◌, true≢false, suc-mul, add-one, arith, eq-eqb, ne_eqb, eqb-true}
 use Rattle.std.proofs.Math.Path.{sym}
-use Rattle.std.proofs.Math.Bool.{and_true, and_false}
+use Rattle.std.proofs.Math.Bool.{and-true, and-false}
 use Rattle.std.proofs.lemmas.Bool.{false≢true, eqb-false}
 use Rattle.std.proofs.Math.Decide.{ℕ_discrete}
 use Rattle.std.proofs.Math.Dec.{eqb}
@@ -108,10 +108,10 @@ abbrev pub without : (ℕ → Bool) → ℕ → ℕ → Bool
 without f x k = f k && not (eqb k x)
 
 pub without_same : (f : ℕ → Bool) (x : ℕ) → without f x x ≡ false
-without_same f x = rw (eq-eqb x x refl) (and_false (f x))
+without_same f x = rw (eq-eqb x x refl) (and-false (f x))
 
 pub without_other : (f : ℕ → Bool) (x k : ℕ) → (k ≡ x → ⊥) → without f x k ≡ f k
-without_other f x k h = rw (ne_eqb k x h) (and_true (f k))
+without_other f x k h = rw (ne_eqb k x h) (and-true (f k))
 
 -- a count without one number that counts is one less
 pub count_without : (f : ℕ → Bool) (x n : ℕ) → x < n → f x ≡ true → count n f ≡ count n (without f x) + 1

@@ -2,7 +2,7 @@
 use Rattle.std.specs.Prelude.{◌≡◌, Bool, true, false, not, ◌&&◌, List, ◌⊎◌, ℕ, zero, suc, ◌+◌, ◌-◌, ◌*◌, ◌/◌, ◌%◌, ◌^◌, ◌≤◌, ◌<◌, eqb, length, get_or, set, replicate}
 use Rattle.std.proofs.Math.Path.{refl}
 use Rattle.std.proofs.Common.{ap, sym, subst, ◌∙◌, inl, inr, ⊎_elim, arith, length-set, get_or-set_other}
-use Rattle.std.proofs.Math.Bool.{or-true, or_false, false≢true}
+use Rattle.std.proofs.Math.Bool.{or-true, or-false, false≢true}
 use Rattle.std.proofs.Math.Decide.{ℕ_discrete, dec_lt}
 use Rattle.std.specs.Int.Bits.{bit_or}
 use Rattle.std.proofs.lemmas.List.{length-replicate}
@@ -227,7 +227,7 @@ module _ (m : List ℕ) (q i : ℕ) (few : i < 32) where
   mark_kept b y n = go (ℕ_discrete (y / 32) q)
     where
       go : Dec (y / 32 ≡ q) → slot_marked with_mark y ≡ slot_marked m y
-      go (yes z) = rw (z, get_or-set_same m q (bit_or (get_or m q 0) (2 ^ i)) 0 b) (names_or (get_or m q 0) (2 ^ i) (y % 32) ∙ rw (names_one i (y % 32), ne_eqb (y % 32) i (λ w. n (omega arith))) (or_false (names (get_or m q 0) (y % 32))))
+      go (yes z) = rw (z, get_or-set_same m q (bit_or (get_or m q 0) (2 ^ i)) 0 b) (names_or (get_or m q 0) (2 ^ i) (y % 32) ∙ rw (names_one i (y % 32), ne_eqb (y % 32) i (λ w. n (omega arith))) (or-false (names (get_or m q 0) (y % 32))))
       go (no z) = rw (get_or-set_other m q (y / 32) (bit_or (get_or m q 0) (2 ^ i)) 0 z) refl
 
 -- ── what a step says ──

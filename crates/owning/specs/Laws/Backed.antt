@@ -2,7 +2,7 @@
 use Rattle.std.specs.Prelude.{◌≡◌, Bool, true, false, List, ℕ, ◌+◌, ◌-◌, ◌<◌, ltb}
 use Rattle.std.proofs.Math.Path.{refl}
 use Rattle.std.proofs.Common.{ap, sym, ◌∙◌, inl, inr, arith}
-use Rattle.std.proofs.Math.Bool.{and_false, or-true, or_false}
+use Rattle.std.proofs.Math.Bool.{and-false, or-true, or-false}
 use borrow.Author.Tests.{ne_eqb, lt-ltb, le-ltb}
 use Rattle.loops.specs.Laws.Every.{any_of, none_of}
 use Rattle.loops.specs.Laws.Scan.{Sought, seek_law}
@@ -36,7 +36,7 @@ module _ {l : List ℕ} {p : ℕ} {f : HeaderFields} (v : SeenHeader l p f) (q :
 
   pub backed_header_parent : {b : Bool} → f.present ≡ true → b ≡ equals (view l).k f.parent.0 (area_between f.start.0 f.end.0) → b ≡ s8_backed (view l).k p 0
   unfolding s8_backed when header_area
-  backed_header_parent u x = rw (q, v.area, u, v.parent, or_false) x
+  backed_header_parent u x = rw (q, v.area, u, v.parent, or-false) x
 
 -- a structure's
 module _ {l : List ℕ} {p : ℕ} (j : ℕ) {f : StructureFields} (h : 0 < j) (v : SeenStructure l p (j - 1) f) (q : rooted p j ≡ false) where
@@ -55,4 +55,4 @@ module _ {l : List ℕ} {p : ℕ} (j : ℕ) {f : StructureFields} (h : 0 < j) (v
 
     pub backed_structure_parent : {b : Bool} {g : HeaderFields} → own ≡ false → SeenHeader l p g → b ≡ equals (view l).k g.parent.0 (area_between f.start.0 f.end.0) → b ≡ s8_backed (view l).k p j
     unfolding s8_backed when structure_area
-    backed_structure_parent y w z = rw (q, is, u, ← x, y, and_false, w.parent, or_false) z
+    backed_structure_parent y w z = rw (q, is, u, ← x, y, and-false, w.parent, or-false) z

@@ -2,7 +2,7 @@
 use Rattle.std.specs.Prelude.{◌≡◌, refl, Bool, true, false, cond, not, ◌&&◌, ◌||◌, ◌⊎◌, List, ℕ, ◌+◌, ◌≤◌, ◌<◌, eqb}
 use Rattle.std.proofs.Math.Path.{ap}
 use Rattle.std.proofs.Common.{sym, subst, ◌∙◌, inl, inr, ⊎_elim, arith, eq-eqb, ne_eqb, eqb-true}
-use Rattle.std.proofs.Math.Bool.{and_true, and_false}
+use Rattle.std.proofs.Math.Bool.{and-true, and-false}
 use Rattle.std.proofs.lemmas.Bool.{false≢true}
 use Rattle.std.proofs.Math.Decide.{ℕ_discrete, dec_lt}
 use Rattle.loops.specs.Laws.Every.{bool_ext}
@@ -49,8 +49,8 @@ unfolding present
 present_left t m q = go (m q)
   where
     go : (b : Bool) → is_some (cond b (λ j. none) (t.k.area q) 0) ≡ is_some (t.k.area q 0) && not b
-    go true = sym (and_false (is_some (t.k.area q 0)))
-    go false = sym (and_true (is_some (t.k.area q 0)))
+    go true = sym (and-false (is_some (t.k.area q 0)))
+    go false = sym (and-true (is_some (t.k.area q 0)))
 
 -- a number above 15 is no partition's
 far : {t : Table} → Fit t → (q : ℕ) → 16 ≤ q → t.k.parent q ≡ 0

@@ -2,7 +2,7 @@
 use Rattle.std.specs.Prelude.{◌≡◌, refl, Bool, true, false, not, ◌&&◌, List, eqb}
 use Rattle.std.proofs.Common.{ap, sym, ◌∙◌, ⊎_elim, arith, lt-ltb}
 use Rattle.std.proofs.Math.Path.{subst}
-use Rattle.std.proofs.Math.Bool.{cond, and_false}
+use Rattle.std.proofs.Math.Bool.{cond, and-false}
 use Prim.Native.Nat.{ℕ, ◌+◌, ◌*◌, ◌/◌, ◌%◌, ◌≤◌, ◌<◌}
 use Rattle.std.proofs.Math.Decide.{ℕ_discrete}
 use Rattle.loops.specs.Laws.Every.{all_at, bool_ext}
@@ -95,7 +95,7 @@ module _ {t : Table} (h : Right t) (n j : ℕ) (x : Area) (hn : n < 16) (hj : j 
       house p i (a, w) (no z) = (a, upd_other t.k.area n j (some x) p (1 + i / 8) z ∙ w)
 
       bit : (p i : ℕ) (o : Opt Entry) → t.k.slot p i ≡ o → open_bit (upd t.k.area n j (some x)) o ≡ t.opened p i && off_entry x.lo x.hi o
-      bit p i none u = sym (and_false (t.opened p i))
+      bit p i none u = sym (and-false (t.opened p i))
       bit p i (some e) u =
           clear_more t.k.area n j x hn hj free e.start e.stop hx (h.core.s5_range p i e u)
           ∙ ap (λ (b : Bool). b && off x.lo x.hi e.start e.stop) (entry_clear (right_settled h) u)

@@ -1,5 +1,5 @@
 -- src/regions_word.rt, no_zero_bit: r ≡ zeroed regions w
-use mathlib.Core.Bool.{and_true}
+use mathlib.Core.Bool.{and-true}
 use Rattle.words.specs.Words.{regions}
 use borrow.Author.Rules.{rules}
 use Rattle.regionwords.proofs.regions_word.no_zero_bit.Statement.{statement}
@@ -10,4 +10,4 @@ unfolding regions
 no_zero_bit_spec =
     tie.close
     (tie.spec
-    (λ c. simp and_true))
+    (λ c. simp and-true))

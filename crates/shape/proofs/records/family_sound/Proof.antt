@@ -1,6 +1,6 @@
 -- src/records.rt, family_sound: r ≡ s2 t (view t).k p.0
 use mathlib.Core.Path.{refl}
-use mathlib.Core.Bool.{and_false}
+use mathlib.Core.Bool.{and-false}
 use borrow.Author.Rules.{rules}
 use borrow.Author.Tests.{not-true, not-false, eq-eqb, ne_eqb}
 use Rattle.tables.specs.View.{header_area}
@@ -35,7 +35,7 @@ family_sound_spec =
     let read = present.before.before in
     let below = read.before in
     let h = read.header in
-    rw (ne_eqb _ 0 below.if1.false, h.ensures.area, not-false h.result.present present.if2.false, ← c.before.is_nowhere_law.ensures, c.if4.true, and_false) refl)
+    rw (ne_eqb _ 0 below.if1.false, h.ensures.area, not-false h.result.present present.if2.false, ← c.before.is_nowhere_law.ensures, c.if4.true, and-false) refl)
     (λ c κs. search rules)
     (λ c.
     let somewhere = c.before.before in

@@ -1,6 +1,6 @@
 -- src/records.rt, structure_sound: r ≡ structure_test t (view t).k p.0 j
 use mathlib.Core.Path.{refl, ap}
-use mathlib.Core.Bool.{not, and_true}
+use mathlib.Core.Bool.{not, and-true}
 use borrow.Author.Rules.{rules}
 use borrow.Author.Tests.{not-true, not-false}
 use Rattle.tables.specs.View.{structure_area}
@@ -22,7 +22,7 @@ structure_sound_spec =
     (λ c.
     let d = c.before.before in
     let b = d.before.before.structure_bits in
-    rw (← b.ensures, not-false b.result d.before.if1.false, d.structure.ensures.area, c.before.if2.true, and_true)
+    rw (← b.ensures, not-false b.result d.before.if1.false, d.structure.ensures.area, c.before.if2.true, and-true)
     c.area-sound.ensures)
     (λ c κs. search rules)
     (λ c.
