@@ -1,0 +1,28 @@
+-- src/lib.rt, take: TakeLent base end child from to masks r masks'
+use mathlib.Core.Path.{sym, ◌∙◌}
+use native.Mathlib.Omega.{arith}
+use borrow.Author.Tests.{not-true, not-false}
+use Rattle.engine.specs.Laws.Exits.{lines_say, engine_refused, take_masks_done}
+use borrow.Author.Rules.{rules}
+use Rattle.engine.proofs.take.Goals as goal
+
+pub returns-then-not-lines_right : goal.returns-then-not-lines_right
+returns-then-not-lines_right c = engine_refused _ _ _ (sym c.lines_right.ensures ∙ c.if-not-lines_right.true)
+
+pub overflow_sub-from : goal.overflow_sub-from
+overflow_sub-from c = let m = lines_say _ _ _ _ _ _ (sym c.lines_right.ensures ∙ c.if-not-lines_right.false) in omega (arith, m.low)
+
+pub overflow_sub-to : goal.overflow_sub-to
+overflow_sub-to c = let m = lines_say _ _ _ _ _ _ (sym c.lines_right.ensures ∙ c.if-not-lines_right.false) in omega (arith, m.low, m.long, m.high)
+
+pub overflow_cast-child : goal.overflow_cast-child
+overflow_cast-child c = let m = lines_say _ _ _ _ _ _ (sym c.lines_right.ensures ∙ c.if-not-lines_right.false) in omega (arith, m.child_high)
+
+pub overflow_shl-child : goal.overflow_shl-child
+overflow_shl-child c = let m = lines_say _ _ _ _ _ _ (sym c.lines_right.ensures ∙ c.if-not-lines_right.false) in omega (arith, m.child_high)
+
+pub clear-requires : goal.clear-requires
+clear-requires c = let m = lines_say _ _ _ _ _ _ (sym c.lines_right.ensures ∙ c.if-not-lines_right.false) in (omega (arith, m.long, m.high), omega (arith, m.high, m.low, m.memory.room))
+
+pub returns : goal.returns
+returns c = take_masks_done _ _ _ _ _ _ (sym c.lines_right.ensures ∙ c.if-not-lines_right.false) c.clear.ensures

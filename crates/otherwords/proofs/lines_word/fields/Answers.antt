@@ -1,0 +1,9 @@
+-- src/lines_word.rt, fields: r ≡ fields_in lines w
+use mathlib.Core.Path.{refl}
+use Rattle.words.specs.Words.{lines}
+use borrow.Author.Rules.{rules}
+use Rattle.otherwords.proofs.lines_word.fields.Goals as goal
+
+pub returns : goal.returns
+unfolding lines
+returns c = refl

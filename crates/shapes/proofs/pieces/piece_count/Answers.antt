@@ -1,0 +1,7 @@
+-- src/pieces.rt, piece_count: (r ≡ length (pieces_for board start end)) × (r ≤ 52)
+use Rattle.shapes.specs.Laws.Counting.{pieces_counted}
+use borrow.Author.Rules.{rules}
+use Rattle.shapes.proofs.pieces.piece_count.Goals as goal
+
+pub returns-in-V7 : goal.returns-in-V7
+returns-in-V7 c = pieces_counted _ _ c.in-V7.is c.requires c.shaped_count.ensures

@@ -1,0 +1,11 @@
+use Prim.Native.Nat.{◌-◌}
+use native.Mathlib.Omega.{arith}
+use Rattle.shapes.specs.Laws.Widest.{Growing, grow_start, grow_some, grow_on, grow_odd, grow_full}
+use borrow.Author.Rules.{rules}
+use Rattle.shapes.proofs.pieces.widest.Given as goal
+
+abbrev pub invariant-loop-rest : goal.invariant-loop-rest
+invariant-loop-rest l = Growing l.start l.end l.lines l.rest
+
+abbrev pub decreases-loop-rest : goal.decreases-loop-rest
+decreases-loop-rest l = l.end - l.lines

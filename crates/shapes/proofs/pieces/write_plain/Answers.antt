@@ -1,0 +1,7 @@
+-- src/pieces.rt, write_plain: ShapesListed (pieces_for V8 start end) list r list'
+use Rattle.shapes.specs.Laws.Listing.{plain_listed}
+use borrow.Author.Rules.{rules}
+use Rattle.shapes.proofs.pieces.write_plain.Goals as goal
+
+pub returns : goal.returns
+returns c = plain_listed _ _ _ c.requires c.piece_word.ensures

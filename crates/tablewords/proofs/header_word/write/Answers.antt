@@ -1,0 +1,25 @@
+-- src/header_word.rt, write: r ≡ writing header f
+use mathlib.Core.Path.{sym, ap, ◌∙◌}
+use Rattle.words.specs.Laws.Kind.{write_done, write_refused}
+use Rattle.words.specs.Laws.Kinds.{header_range}
+use Rattle.words.specs.Words.{header}
+use Rattle.words.specs.declared.Written.TheVariants.{Word}
+use native.Mathlib.Omega.{arith}
+use borrow.Author.Rules.{rules}
+use Rattle.tablewords.proofs.header_word.write.Goals as goal
+
+pub returns-then-parent-ge16 : goal.returns-then-parent-ge16
+unfolding header
+returns-then-parent-ge16 c = sym (write_refused header c.args.f (λ h. omega arith))
+
+pub returns-then-start-ge134217728 : goal.returns-then-start-ge134217728
+unfolding header
+returns-then-start-ge134217728 c = sym (write_refused header c.args.f (λ h. omega arith))
+
+pub returns-then-end-ge134217728 : goal.returns-then-end-ge134217728
+unfolding header
+returns-then-end-ge134217728 c = sym (write_refused header c.args.f (λ h. omega arith))
+
+pub returns : goal.returns
+unfolding header
+returns c = let f = c.args.f in ap Word (omega arith) ∙ sym (write_done header f (header_range f (omega arith) (omega arith) (omega arith)))

@@ -1,0 +1,21 @@
+-- src/structure_word.rt, write: r ≡ writing structure f
+use mathlib.Core.Path.{sym, ap, ◌∙◌}
+use Rattle.words.specs.Laws.Kind.{write_done, write_refused}
+use Rattle.words.specs.Laws.Kinds.{structure_range}
+use Rattle.words.specs.Words.{structure}
+use Rattle.words.specs.declared.Written.TheVariants.{Word}
+use native.Mathlib.Omega.{arith}
+use borrow.Author.Rules.{rules}
+use Rattle.tablewords.proofs.structure_word.write.Goals as goal
+
+pub returns-then-start-ge134217728 : goal.returns-then-start-ge134217728
+unfolding structure
+returns-then-start-ge134217728 c = sym (write_refused structure c.args.f (λ h. omega arith))
+
+pub returns-then-end-ge134217728 : goal.returns-then-end-ge134217728
+unfolding structure
+returns-then-end-ge134217728 c = sym (write_refused structure c.args.f (λ h. omega arith))
+
+pub returns : goal.returns
+unfolding structure
+returns c = let f = c.args.f in ap Word (omega arith) ∙ sym (write_done structure f (structure_range f (omega arith) (omega arith)))
