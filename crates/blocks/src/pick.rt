@@ -5,7 +5,7 @@ use words::Slot;
 use words::slot_word::SlotFields;
 
 // What the checks 4, 5, 6 of slot S find: the entry, or the number of the refusal.
-#[derive(Drop)]
+#[derive(Clone, Copy)]
 pub enum Picked {
     Entry(SlotFields),
     Refused(u64),

@@ -20,7 +20,7 @@ use words::{Partition, Slot};
 // What is compared counts only if the table is sound, which is decided after it.
 
 // What a walk over slots gathered, and whether all were as S5 wants them; where one was not, the walk ended there.
-#[derive(Drop)]
+#[derive(Clone, Copy)]
 pub struct Checked {
     pub sound: bool,
     pub sums: Sums,

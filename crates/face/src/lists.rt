@@ -7,7 +7,7 @@ use tables::Outcome;
 use words::Partition;
 
 // What is settled before a record is written: how many runs are written, and the answer.
-#[derive(Drop)]
+#[derive(Clone, Copy)]
 pub struct Ready {
     pub number: usize,
     pub answer: u64,

@@ -14,14 +14,14 @@ use tables::{Found, Outcome};
 use words::{Line, Partition};
 
 // One step down: whom a partition gave its entry that holds the line (0 is nobody), and how many slot words the search looked at.
-#[derive(Drop)]
+#[derive(Clone, Copy)]
 struct Step {
     heir: Partition,
     count: u32,
 }
 
 // The way down at its end: the deepest holder, and the sum of the searches of all holders.
-#[derive(Drop)]
+#[derive(Clone, Copy)]
 struct Descent {
     deepest: Partition,
     count: u32,

@@ -11,14 +11,14 @@ use words::slot_word::SlotFields;
 use words::{Line, Partition, Rights, Written};
 
 // The two registers: base address and limit address.
-#[derive(Drop)]
+#[derive(Clone, Copy)]
 pub struct Registers {
     pub rbar: u32,
     pub rlar: u32,
 }
 
 // What writing answers: the two registers, or refused with the number of the refusal.
-#[derive(Drop)]
+#[derive(Clone, Copy)]
 pub enum PairWritten {
     Pair(Registers),
     Refused(u64),

@@ -6,7 +6,7 @@ ghost use Rattle.pairs.specs.Word.{pair};
 use words::{Line, Written, bit};
 
 // The two registers as one word: base address in the high half, limit address in the low one. Here, and nowhere above, it is known which bits their fields are.
-#[derive(Drop)]
+#[derive(Clone, Copy)]
 pub struct PairFields {
     pub base: Line,
     pub access: u32,

@@ -10,7 +10,7 @@ use words::Partition;
 // lowest partition where it fails; or "length".
 
 // A line of text with its end: the first len bytes. The longest is that of S11 at partition 15.
-#[derive(Drop)]
+#[derive(Clone, Copy)]
 pub struct TextLine {
     pub bytes: [u8; 8],
     pub len: usize,

@@ -9,7 +9,7 @@ use shapes::Board;
 use tables::Outcome;
 
 // What is settled before a record is written: how many runs are written, and the outcome.
-#[derive(Drop)]
+#[derive(Clone, Copy)]
 pub struct Plan {
     pub number: usize,
     pub outcome: Outcome,

@@ -7,7 +7,7 @@ use words::{Line, Partition};
 
 // Lines start to end, end excluded, whose deepest holder is the same.
 #[repr(C)]
-#[derive(Drop)]
+#[derive(Clone, Copy)]
 pub struct Run {
     pub start: Line,
     pub end: Line,

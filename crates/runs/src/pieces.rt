@@ -12,14 +12,14 @@ use otherwords::mark_word;
 use words::{Line, Partition};
 
 // Whom a partition gave its entry that holds a line (0 is nobody), and where that entry ends.
-#[derive(Drop)]
+#[derive(Clone, Copy)]
 pub struct Hop {
     pub heir: Partition,
     pub end: Line,
 }
 
 // Where a piece ends, its deepest holder, and how many steps below the root that is.
-#[derive(Drop)]
+#[derive(Clone, Copy)]
 pub struct PieceEnd {
     pub end: Line,
     pub deepest: Partition,

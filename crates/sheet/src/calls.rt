@@ -5,7 +5,7 @@ ghost use Rattle.sheet.specs.Touched.{areas_move, touched_of_caller, touched, Na
 use words::{Partition, Slot};
 
 // Whose two words a call can change: one partition's; those of whose records it can change.
-#[derive(Drop)]
+#[derive(Clone, Copy)]
 pub enum Whose {
     Nobody,
     One(Partition),

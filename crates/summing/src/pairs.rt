@@ -12,7 +12,7 @@ use words::masks_word::MasksFields;
 use words::{Partition, Written};
 
 // The two words of a partition.
-#[derive(Drop)]
+#[derive(Clone, Copy)]
 pub struct Pair {
     pub masks: u64,
     pub lines: u64,

@@ -9,7 +9,7 @@ use words::slot_word::SlotFields;
 use words::{Partition, Slot};
 
 // What one walk over the slots of a partition gathers: the mask of the occupied ones, the lines held, the lines open.
-#[derive(Drop)]
+#[derive(Clone, Copy)]
 pub struct Sums {
     pub slots: u32,
     pub held: u32,

@@ -12,35 +12,35 @@ pub mod zeros;
 use words::{Partition, Slot, Written};
 
 // What a search for a slot answers.
-#[derive(Drop)]
+#[derive(Clone, Copy)]
 pub enum Found {
     At(Slot),
     Nothing,
 }
 
 // What the search of a record for a line answers: the slot, and how many slot words it looked at.
-#[derive(Drop)]
+#[derive(Clone, Copy)]
 pub struct Looked {
     pub found: Found,
     pub count: u32,
 }
 
 // What a search for a partition answers.
-#[derive(Drop)]
+#[derive(Clone, Copy)]
 pub enum Which {
     Number(Partition),
     Nobody,
 }
 
 // What a search for an absent structure answers.
-#[derive(Drop)]
+#[derive(Clone, Copy)]
 pub enum Structure {
     Index(u32),
     Full,
 }
 
 // What a service answers: two words, or the number of the refusal.
-#[derive(Drop)]
+#[derive(Clone, Copy)]
 pub enum Outcome {
     Done(u64, u64),
     Refused(u64),

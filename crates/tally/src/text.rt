@@ -1,5 +1,5 @@
 // A line of text that is put together byte by byte. The longest, a run with sixteen holders, has 58 bytes with its end.
-#[derive(Drop)]
+#[derive(Clone, Copy)]
 pub struct Text {
     pub bytes: [u8; 64],
     pub len: usize,

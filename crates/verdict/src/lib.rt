@@ -11,7 +11,7 @@ use shapes::Board;
 use words::Partition;
 
 // What is said of an image: it is sound; or this clause fails, at this partition; or it is no table.
-#[derive(Drop)]
+#[derive(Clone, Copy)]
 pub enum Verdict {
     Accepted,
     Fails(u32, Partition),

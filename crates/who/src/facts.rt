@@ -104,7 +104,7 @@ pub fn shares(t: &[u64; 641], q: Partition, j: u32, lo: Line, hi: Line) -> bool
 }
 
 // Where a partition has a line: in which slot, and where the entry there ends.
-#[derive(Drop)]
+#[derive(Clone, Copy)]
 pub struct Place {
     pub slot: Slot,
     pub end: Line,

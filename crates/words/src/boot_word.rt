@@ -1,12 +1,12 @@
 use crate::Line;
 
-#[derive(Drop)]
+#[derive(Clone, Copy)]
 pub struct BootFields {
     pub base: Line,
     pub end: Line,
 }
 
-#[derive(Drop)]
+#[derive(Clone, Copy)]
 pub enum BootRead {
     Fields(BootFields),
     Refused(u64),

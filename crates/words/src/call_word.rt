@@ -1,6 +1,6 @@
 use crate::{Line, Partition, Rights, Slot};
 
-#[derive(Drop)]
+#[derive(Clone, Copy)]
 pub struct CallFields {
     pub service: u32,
     pub partition: Partition,
@@ -11,7 +11,7 @@ pub struct CallFields {
     pub whole: bool,
 }
 
-#[derive(Drop)]
+#[derive(Clone, Copy)]
 pub enum CallRead {
     Fields(CallFields),
     Refused(u64),

@@ -1,13 +1,13 @@
 use crate::{Line, Partition};
 
-#[derive(Drop)]
+#[derive(Clone, Copy)]
 pub struct FirstFields {
     pub base: Line,
     pub end: Line,
     pub current: Partition,
 }
 
-#[derive(Drop)]
+#[derive(Clone, Copy)]
 pub enum FirstRead {
     Fields(FirstFields),
     Refused(u64),

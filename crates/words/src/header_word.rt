@@ -1,6 +1,6 @@
 use crate::{Line, Partition};
 
-#[derive(Drop)]
+#[derive(Clone, Copy)]
 pub struct HeaderFields {
     pub present: bool,
     pub parent: Partition,
@@ -8,7 +8,7 @@ pub struct HeaderFields {
     pub end: Line,
 }
 
-#[derive(Drop)]
+#[derive(Clone, Copy)]
 pub enum HeaderRead {
     Fields(HeaderFields),
     Refused(u64),

@@ -16,17 +16,17 @@ pub mod structure_word;
 
 // Three kinds of number that are never taken for one another. C sees a list of runs, and so lines and partitions.
 #[repr(C)]
-#[derive(Drop)]
+#[derive(Clone, Copy)]
 pub struct Line(pub u32);
 
-#[derive(Drop)]
+#[derive(Clone, Copy)]
 pub struct Slot(pub u32);
 
 #[repr(C)]
-#[derive(Drop)]
+#[derive(Clone, Copy)]
 pub struct Partition(pub u32);
 
-#[derive(Drop)]
+#[derive(Clone, Copy)]
 pub struct Rights {
     pub read: bool,
     pub write: bool,
@@ -34,7 +34,7 @@ pub struct Rights {
 }
 
 // What a writer answers: the word, or refused with the number of the refusal.
-#[derive(Drop)]
+#[derive(Clone, Copy)]
 pub enum Written {
     Word(u64),
     Refused(u64),

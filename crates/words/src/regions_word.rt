@@ -1,13 +1,13 @@
 use crate::Slot;
 
 // One region is a byte of the word.
-#[derive(Drop)]
+#[derive(Clone, Copy)]
 pub struct Region {
     pub loaded: bool,
     pub slot: Slot,
 }
 
-#[derive(Drop)]
+#[derive(Clone, Copy)]
 pub struct RegionsFields {
     pub region0: Region,
     pub region1: Region,
@@ -19,7 +19,7 @@ pub struct RegionsFields {
     pub region7: Region,
 }
 
-#[derive(Drop)]
+#[derive(Clone, Copy)]
 pub enum RegionsRead {
     Fields(RegionsFields),
     Refused(u64),

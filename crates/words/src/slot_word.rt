@@ -1,6 +1,6 @@
 use crate::{Line, Partition, Rights};
 
-#[derive(Drop)]
+#[derive(Clone, Copy)]
 pub struct SlotFields {
     pub present: bool,
     pub opened: bool,
@@ -11,7 +11,7 @@ pub struct SlotFields {
     pub whole: bool,
 }
 
-#[derive(Drop)]
+#[derive(Clone, Copy)]
 pub enum SlotRead {
     Fields(SlotFields),
     Refused(u64),

@@ -1,13 +1,13 @@
 use crate::Line;
 
-#[derive(Drop)]
+#[derive(Clone, Copy)]
 pub struct StructureFields {
     pub present: bool,
     pub start: Line,
     pub end: Line,
 }
 
-#[derive(Drop)]
+#[derive(Clone, Copy)]
 pub enum StructureRead {
     Fields(StructureFields),
     Refused(u64),

@@ -1,0 +1,9 @@
+-- src/masks.rt, has_slot: r ≡ names mask i.0
+use mathlib.Core.Path.{refl}
+use Rattle.loops.specs.Loops.{names}
+use borrow.Author.Rules.{rules}
+use Rattle.tables.proofs.masks.has_slot.Goals as goal
+
+pub returns : goal.returns
+unfolding names
+returns c = refl

@@ -1,0 +1,9 @@
+-- src/read.rt, entry: Seen t p.0 i.0 r
+use Rattle.tables.specs.Laws.Seen.{see}
+use Rattle.tables.specs.View.{slot_word_at}
+use borrow.Author.Rules.{rules}
+use Rattle.tables.proofs.read.entry.Goals as goal
+
+pub returns : goal.returns
+unfolding slot_word_at
+returns c = let a = c.args in see a.t.now a.p.0 a.i.0 _ c.requires.0 c.requires.1 c.fields.ensures

@@ -1,0 +1,9 @@
+-- src/read.rt, regions_word: r ≡ regions_word_at t p.0
+use mathlib.Core.Path.{refl}
+use Rattle.tables.specs.View.{regions_word_at}
+use borrow.Author.Rules.{rules}
+use Rattle.tables.proofs.read.regions_word.Goals as goal
+
+pub returns : goal.returns
+unfolding regions_word_at
+returns c = refl

@@ -1,0 +1,10 @@
+-- src/zeros.rt, header_bits: r ≡ zeroed header (area_word_at t p.0 0)
+use mathlib.Core.Path.{◌∙◌}
+use Rattle.words.specs.Laws.Kind.{zeroed_sum}
+use Rattle.words.specs.Words.{header}
+use Rattle.tables.specs.Laws.Spelling.{area_word}
+use borrow.Author.Rules.{rules}
+use Rattle.tables.proofs.zeros.header_bits.Goals as goal
+
+pub returns : goal.returns
+returns c = rw (← (c.word.ensures ∙ area_word _ _ 0)) (zeroed_sum header _ c.zero_bits.ensures)
