@@ -1,7 +1,7 @@
 -- DEMAND 3: a ledger kept by hand from an accepted boot always equals the listing of holders, for each line, after any list of calls.
 use Rattle.std.specs.Prelude.{◌≡◌, refl, true, false, List, ℕ, ◌≤◌, ◌<◌, length}
 use Rattle.std.proofs.Common.{ap, sym, arith}
-use Rattle.std.proofs.Math.Logic.{Iff·symm}
+use mathlib.Core.Logic.Iff
 use Rattle.std.proofs.Math.Decide.{dec_lt}
 use Rattle.loops.specs.Loops.{count}
 use Rattle.shapes.specs.declared.Board.{Board}
@@ -39,7 +39,7 @@ pub record Demand3 (b : Board) (base end : ℕ) (g : Ledger) (t : List ℕ) : Ty
 -- ── a sound table whose ledger is right ──
 module _ {board : Board} {base end : ℕ} {g : Ledger} {t : List ℕ} (h : Sound board t) (s : Keeps base end g (view t).k) where
   lists : (m : ℕ) → base ≤ m → m < end → Lists (λ p. g.stands p m ≡ true) g.parent (holders_of (view t).k m)
-  lists m a b = rw s.tree (lists_same (λ p. Iff·symm (s.holders p m)) (holders_list (sound_core t h) (rw s.base_is a, rw s.end_is b)))
+  lists m a b = rw s.tree (lists_same (λ p. Iff.symm (s.holders p m)) (holders_list (sound_core t h) (rw s.base_is a, rw s.end_is b)))
 
   number : (m : ℕ) → base ≤ m → m < end → length (holders_of (view t).k m) ≡ count 16 (λ p. g.stands p m)
   number m a b =

@@ -4,7 +4,7 @@ use Rattle.std.proofs.Math.Path.{refl}
 use Rattle.std.proofs.Common.{sym, ◌∙◌, arith, leb-true, le-leb}
 use Rattle.std.proofs.Math.Bool.{true, false, false≢true}
 use mathlib.Core.List.{List}
-use Rattle.std.proofs.Math.Logic.{Iff·trans, Iff·symm}
+use mathlib.Core.Logic.Iff
 use Rattle.std.proofs.Math.ListN.{length}
 use Rattle.shapes.specs.declared.Board.{Board}
 use Rattle.tables.specs.State.{Opt, none, some, K, Table}
@@ -43,7 +43,7 @@ module _ {Holder : ℕ → ℕ → Type 0} {up : ℕ → ℕ} (k : K) (range : k
 
   -- two lines have the same list exactly if they have the same holders
   alike : (l m : ℕ) → Inside l → Inside m → holders_of k l ≡ holders_of k m → (p : ℕ) → Holder p l ↔ Holder p m
-  alike l m a b q p = Iff·trans (rw q at (Iff·symm ((lists l a.0 a.1).exactly p))) ((lists m b.0 b.1).exactly p)
+  alike l m a b q p = Iff.trans (rw q at (Iff.symm ((lists l a.0 a.1).exactly p))) ((lists m b.0 b.1).exactly p)
 
   one : (l m : ℕ) → Inside l → Inside m → ((p : ℕ) → Holder p l ↔ Holder p m) → holders_of k l ≡ holders_of k m
   one l m a b f = one_list (lists_same f (lists l a.0 a.1)) (lists m b.0 b.1)

@@ -2,7 +2,7 @@
 use Rattle.std.specs.Prelude.{◌≡◌, refl, Bool, true, false, not, ◌||◌, List, ◌↔◌, ℕ, eqb}
 use Rattle.std.proofs.Common.{sym, subst, true≢false}
 use Rattle.std.proofs.lemmas.Bool.{false≢true}
-use Rattle.std.proofs.Math.Logic.{Iff·rfl}
+use mathlib.Core.Logic.Iff
 use Rattle.words.specs.Kind.{fields_in}
 use Rattle.words.specs.Laws.Kind.{zeroed_means}
 use Rattle.words.specs.Words.{call}
@@ -65,7 +65,7 @@ region_means : (f : CallFields) → (region_call f ≡ true) ↔ RegionCall f
 unfolding region_call
 region_means f =
     let g = f.rights in
-    and_means (and_means (unset_means g.read) (unset_means g.write)) (only_means g.execute Iff·rfl (eq_means f.slot.0 0))
+    and_means (and_means (unset_means g.read) (unset_means g.write)) (only_means g.execute Iff.rfl (eq_means f.slot.0 0))
 
 known_means : (f : CallFields) → (known f ≡ true) ↔ Known f
 unfolding known

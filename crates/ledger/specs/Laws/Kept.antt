@@ -4,7 +4,7 @@ use Rattle.std.proofs.Math.Path.{refl, ap, sym}
 use Rattle.std.proofs.Common.{subst, ◌∙◌, true≢false, arith}
 use Rattle.std.proofs.Math.Bool.{not}
 use mathlib.Core.List.{List, [], ◌∷◌}
-use Rattle.std.proofs.Math.Logic.{Iff·rfl, Iff·symm, Iff·trans}
+use mathlib.Core.Logic.Iff
 use Prim.Native.Nat.{ℕ, ◌+◌, ◌-◌, ◌≤◌, ◌<◌}
 use Rattle.std.proofs.lemmas.Bool.{not-true}
 use Rattle.loops.specs.Laws.Every.{all_at, all_of}
@@ -87,7 +87,7 @@ module _ {base end : ℕ} {g : Ledger} {t : Table} (h : Right t) (s : Keeps base
   -- nobody is entered, nobody struck
   quiet : {k : K} → k.base ≡ t.k.base → k.stop ≡ t.k.stop → k.parent ≡ t.k.parent
       → ((p l : ℕ) → Holds k.slot p l ↔ Holds t.k.slot p l) → Keeps base end g k
-  quiet b e u f = kept b e (s.tree ∙ sym u) (λ p l. Iff·trans (s.holders p l) (Iff·symm (f p l)))
+  quiet b e u f = kept b e (s.tree ∙ sym u) (λ p l. Iff.trans (s.holders p l) (Iff.symm (f p l)))
 
   -- the lines of entry i of the caller
   abbrev lines : ℕ → Lines
@@ -98,13 +98,13 @@ module _ {base end : ℕ} {g : Ledger} {t : Table} (h : Right t) (s : Keeps base
   create_kept i {v} x =
       let (_, ok, z) = create_done h i x in
       rw z (kept refl refl (ap (λ (u : ℕ → ℕ). upd1 u v t.k.current) s.tree)
-      (λ p l. Iff·trans (s.holders p l) (Iff·symm (create_holds h.core ok p l))))
+      (λ p l. Iff.trans (s.holders p l) (Iff.symm (create_holds h.core ok p l))))
 
   give_kept : (c i : ℕ) (r : Rights) (m : Bool) {v w : ℕ} {t' : Table} → give t c i r m ≡ done v w t' → Keeps base end (apply (enter c (lines i)) g) t'.k
   unfolding apply settle
   give_kept c i r m x =
       let (e, ok, z) = give_done h c i r m x in
-      rw z (kept refl refl s.tree λ p l. Iff·trans (or_means (s.holders p l) (at_lines c p l ok.entry.at)) (Iff·symm (give_holds m h.core ok p l)))
+      rw z (kept refl refl s.tree λ p l. Iff.trans (or_means (s.holders p l) (at_lines c p l ok.entry.at)) (Iff.symm (give_holds m h.core ok p l)))
 
   -- the caller's child that stands for the lines of an entry which take may have back is the one that the entry is given to: it has them, and no other child has
   pub child_for_law : {i j : ℕ} {e f : Entry} → TakeOk t.k i j e f → lowest 16 (child_for g t.k.current (lines i)) ≡ some e.given
@@ -131,14 +131,14 @@ module _ {base end : ℕ} {g : Ledger} {t : Table} (h : Right t) (s : Keeps base
   take_kept i x =
       let (j, e, f, ok, z) = take_done h i x in
       rw (z, child_for_law ok) (kept refl refl s.tree
-      λ p l. Iff·trans (and_means (s.holders p l) (not_means (at_lines e.given p l ok.at))) (Iff·symm (take_holds h.core ok p l)))
+      λ p l. Iff.trans (and_means (s.holders p l) (not_means (at_lines e.given p l ok.at))) (Iff.symm (take_holds h.core ok p l)))
 
   -- who goes is struck
   remove_kept : {c : ℕ} {m : ℕ → Bool} → Goes t.k c m → Keeps base end (apply (strike_all m) g) (remove t c m).k
   unfolding apply settle
   remove_kept {c} {m} ok =
       kept refl refl (ap (records_zero m 0) s.tree)
-      (λ p l. Iff·trans (and_means (s.holders p l) (not-true (m p), λ q. ap not q)) (Iff·symm (remove_holds h.core ok p l)))
+      (λ p l. Iff.trans (and_means (s.holders p l) (not-true (m p), λ q. ap not q)) (Iff.symm (remove_holds h.core ok p l)))
 
   delete_kept : (c : ℕ) {v w : ℕ} {t' : Table} → delete t c ≡ done v w t' → Keeps base end (apply (strike_all (λ q. eqb q c)) g) t'.k
   delete_kept c x = let (ok, z) = delete_done h c x in rw z (remove_kept ok)
@@ -169,7 +169,7 @@ module _ {base end : ℕ} {g : Ledger} {t : Table} (h : Right t) (s : Keeps base
         unload = λ y _ x. let (_, _, q) = unload_done h p u x in rw (y, q) s;
         read_region = λ y x. rw (y, read_region_same_law h p u x) s;
         find = λ y x. rw (y, find_same h p m x) s;
-        switch = λ y x. let (_, q) = switch_done h p x in rw (y, q) (quiet refl refl refl (λ p l. Iff·rfl));
+        switch = λ y x. let (_, q) = switch_done h p x in rw (y, q) (quiet refl refl refl (λ p l. Iff.rfl));
         clear_out = λ y x. rw y (clear_kept p x);
         pack = λ y x. let (_, _, q) = pack_done h p x in rw (y, q) (quiet refl refl refl (pack_holds h p));
       })
@@ -201,7 +201,7 @@ module _ {base end : ℕ} where
     tree = refl;
     holders = λ p m.
         let q = and_means (eq_means p 0) (and_means (le_means base m) (lt_means m end)) in
-        Iff·trans q (Iff·symm (boot_holds base end p m));
+        Iff.trans q (Iff.symm (boot_holds base end p m));
   })
 
   -- from an accepted boot the ledger is right after any list of calls

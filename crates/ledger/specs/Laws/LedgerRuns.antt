@@ -1,7 +1,7 @@
 -- DEMAND 3, of runs: they are the longest runs of lines for which the same names stand in the ledger, and their number is the ledger's.
 use Rattle.std.specs.Prelude.{◌≡◌, refl, Bool, true, false, List, [], ◌∷◌, ◌↔◌, ℕ, zero, suc, ◌-◌, ◌≤◌, ◌<◌, length}
 use Rattle.std.proofs.Common.{ap, sym, ◌∙◌, arith}
-use Rattle.std.proofs.Math.Logic.{Iff·trans, Iff·symm}
+use mathlib.Core.Logic.Iff
 use Rattle.shapes.specs.declared.Board.{Board}
 use Rattle.tables.specs.State.{Table, K}
 use Rattle.tables.specs.View.{view}
@@ -72,7 +72,7 @@ module _ {board : Board} {base end : ℕ} {g : Ledger} {t : List ℕ} (h : Sound
   k = (view t).k
 
   lists : (l : ℕ) → base ≤ l → l < end → Lists (λ p. g.stands p l ≡ true) k.parent (holders_of k l)
-  lists l a b = lists_same (λ p. Iff·symm (s.holders p l)) (holders_list (sound_core t h) (rw s.base_is a, rw s.end_is b))
+  lists l a b = lists_same (λ p. Iff.symm (s.holders p l)) (holders_list (sound_core t h) (rw s.base_is a, rw s.end_is b))
 
   -- two lines have the same names exactly if they have the same holders
   module _ (l m : ℕ) (a : (base ≤ l) × (l < end)) (b : (base ≤ m) × (m < end)) where
@@ -80,7 +80,7 @@ module _ {board : Board} {base end : ℕ} {g : Ledger} {t : List ℕ} (h : Sound
     same_names q p =
         let v = (lists l a.0 a.1).exactly p in
         let w = (lists m b.0 b.1).exactly p in
-        same_bool (g.stands p l) (g.stands p m) (Iff·trans (rw q at (Iff·symm v)) w)
+        same_bool (g.stands p l) (g.stands p m) (Iff.trans (rw q at (Iff.symm v)) w)
 
     same_holders : SameNames g l m → holders_of k l ≡ holders_of k m
     same_holders q = one_list (lists_same (λ p. (λ x. sym (q p) ∙ x, λ x. q p ∙ x)) (lists l a.0 a.1)) (lists m b.0 b.1)

@@ -2,7 +2,7 @@
 use Rattle.std.specs.Prelude.{◌≡◌, refl, Bool, true, not, List, [], ◌∷◌, ◌↔◌, ℕ, zero, suc, ◌<◌, length}
 use Rattle.std.proofs.Common.{ap, sym, ◌∙◌, arith, ext_get_or, eqb-true}
 use Rattle.std.proofs.lemmas.Bool.{false≢true}
-use Rattle.std.proofs.Math.Logic.{Iff·trans}
+use mathlib.Core.Logic.Iff
 use Rattle.std.proofs.Math.Decide.{dec_lt}
 use Rattle.loops.specs.Laws.Every.{all_of}
 use Rattle.loops.specs.Loops.{count}
@@ -12,7 +12,7 @@ use Rattle.ledger.specs.Lists.{nth_name, Stands, Once, Lists}
 
 -- of a test that says the same
 pub lists_same : {P Q : ℕ → Type 0} {up : ℕ → ℕ} {hs : List ℕ} → ((p : ℕ) → P p ↔ Q p) → Lists P up hs → Lists Q up hs
-lists_same f w = record { exactly = λ p. Iff·trans (w.exactly p) (f p); root = w.root; next = w.next; once = w.once; few = w.few }
+lists_same f w = record { exactly = λ p. Iff.trans (w.exactly p) (f p); root = w.root; next = w.next; once = w.once; few = w.few }
 
 module _ {P : ℕ → Type 0} {up : ℕ → ℕ} {hs : List ℕ} (w : Lists P up hs) where
   -- who stands in it and is not the root stands after its parent

@@ -2,7 +2,7 @@
 use Rattle.std.specs.Prelude.{◌≡◌, refl, false, cond, ◌&&◌, ◌||◌, ◌↔◌, List, leb, ltb}
 use Rattle.std.proofs.Math.Bool.{Bool, true, not}
 use Rattle.std.proofs.lemmas.Bool.{false≢true}
-use Rattle.std.proofs.Math.Logic.{Iff·rfl}
+use mathlib.Core.Logic.Iff
 use Prim.Native.Nat.{ℕ, ◌-◌, ◌≤◌, ◌<◌}
 use Rattle.std.proofs.Math.Decide.{ℕ_discrete, dec_lt}
 use native.Mathlib.Omega.{arith}
@@ -261,7 +261,7 @@ module _ (t : Table) (slots : Slots32 t.k) (p : ℕ) where
   undivided_means : (i : ℕ) (e : Entry) → (undivided t.k p (t.opened p i) e ≡ true) ↔ Undivided t p i e
   unfolding undivided
   undivided_means i e =
-      let opened : (t.opened p i ≡ true) ↔ (t.opened p i ≡ true) = Iff·rfl in
+      let opened : (t.opened p i ≡ true) ↔ (t.opened p i ≡ true) = Iff.rfl in
       let m = and_means (and_means (and_means opened (eq_means e.given 0)) (not_means (eq_means p 0))) (lends_means e) in (
         λ q. let (((o, z), n), l) = m.0 q in record { opened = o; free = z; other = n; lent = l },
         λ h. m.1 (((h.opened, h.free), h.other), h.lent),

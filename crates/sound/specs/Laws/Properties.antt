@@ -28,14 +28,17 @@ module _ {k : K} (h : Core k) where
   pub siblings_one : {c d l : ℕ} → (c ≡ 0 → ⊥) → (d ≡ 0 → ⊥) → k.parent c ≡ k.parent d → Holds k.slot c l → Holds k.slot d l → c ≡ d
   siblings_one = grants_siblings_one (core_grants h)
 
-  -- what a partition holds every one above it holds
-  pub above_holds : {p q l : ℕ} → Above k.parent q p → Holds k.slot p l → Holds k.slot q l
-  above_holds (itself z) u = rw z at u
-  above_holds {q = q} {l} (higher {p} a) u = go (ℕ_discrete p 0) (above_holds a)
+  up_holds : {q p l : ℕ} → Above k.parent q p → Holds k.slot p l → Holds k.slot q l
+  up_holds (itself z) u = rw z at u
+  up_holds {q} {l = l} (higher {p} a) u = go (ℕ_discrete p 0) (up_holds a)
     where
       go : Dec (p ≡ 0) → (Holds k.slot (k.parent p) l → Holds k.slot q l) → Holds k.slot q l
       go (yes z) f = f (rw (ap k.parent z ∙ h.s2_root_law.2 ∙ sym z) u)
       go (no n) f = f (parent_holds n u)
+
+  -- what a partition holds every one above it holds
+  pub above_holds : {p q l : ℕ} → Above k.parent q p → Holds k.slot p l → Holds k.slot q l
+  above_holds a u = up_holds a u
 
   pub holder_present : {p l : ℕ} → Holds k.slot p l → Present k p
   holder_present = grants_holder_present (core_grants h)

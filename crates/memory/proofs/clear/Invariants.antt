@@ -1,0 +1,13 @@
+use mathlib.Core.Path.{refl, sym, ◌∙◌}
+use Prim.Native.Nat.{◌-◌, ◌≤◌}
+use Rattle.memory.specs.ByteRecords.{Wrote}
+use Rattle.memory.specs.Laws.ByteRecords.{wrote_none, wrote_byte, wrote_at}
+use native.Mathlib.Omega.{arith}
+use borrow.Author.Rules.{rules}
+use Rattle.memory.proofs.clear.Given as goal
+
+abbrev pub invariant-loop-n : goal.invariant-loop-n
+invariant-loop-n l = (l.i ≤ l.n) × (l.n ≤ l.end) × Wrote (λ m. 0) l.initial.b l.i l.n l.b
+
+abbrev pub decreases-loop-n : goal.decreases-loop-n
+decreases-loop-n l = l.end - l.n

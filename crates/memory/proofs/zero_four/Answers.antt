@@ -1,0 +1,23 @@
+-- src/lib.rt, zero_four: r ≡ zero_four b i
+use Prim.Native.Nat.{◌+◌, ◌*◌, ◌-◌}
+use Rattle.loops.specs.Laws.Oring.{Oring, or_start, or_on, or_end}
+use Rattle.memory.specs.Quads.{quad_at, zero_four}
+use native.Mathlib.Omega.{arith}
+use borrow.Author.Rules.{rules}
+use Rattle.memory.proofs.zero_four.Goals as goal
+
+pub loop-q-init : goal.loop-q-init
+unfolding zero_four
+loop-q-init c = or_start
+
+pub quad-x-requires : goal.quad-x-requires
+unfolding zero_four
+quad-x-requires c = omega arith
+
+pub loop-q-preserved : goal.loop-q-preserved
+unfolding zero_four
+loop-q-preserved c = or_on c.loop-q.invariant (omega arith) c.quad-x.ensures.whole
+
+pub returns : goal.returns
+unfolding zero_four
+returns c = or_end c.loop-q.invariant (omega arith)

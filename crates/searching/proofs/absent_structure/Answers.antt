@@ -1,0 +1,28 @@
+-- src/lib.rt, absent_structure: r ≡ structure_of (lowest 4 (no_structure (view t).k p.0))
+use mathlib.Core.Path.{ap}
+use Prim.Native.Nat.{◌-◌}
+use Rattle.loops.specs.Laws.Scan.{Seeking, seek_start, seek_hit, seek_on, seek_end}
+use Rattle.tables.specs.State.{none, some}
+use Rattle.tables.specs.View.{view}
+use Rattle.tables.specs.Search.{lowest, no_structure}
+use Rattle.tables.specs.Laws.Search.{structure_some}
+use Rattle.tables.specs.Answers.{structure_of}
+use native.Mathlib.Omega.{arith}
+use borrow.Author.Rules.{rules}
+use Rattle.searching.proofs.absent_structure.Goals as goal
+
+pub loop-j-init : goal.loop-j-init
+unfolding lowest structure_of no_structure
+loop-j-init c = seek_start
+
+pub returns-then-not-s : goal.returns-then-not-s
+unfolding lowest structure_of no_structure
+returns-then-not-s c = ap structure_of (seek_hit c.loop-j.invariant (omega arith) (rw (c.structure-s.ensures.area, structure_some) c.if-not-s.true))
+
+pub loop-j-preserved : goal.loop-j-preserved
+unfolding lowest structure_of no_structure
+loop-j-preserved c = seek_on c.loop-j.invariant (omega arith) (rw (c.structure-s.ensures.area, structure_some) c.if-not-s.false)
+
+pub returns : goal.returns
+unfolding lowest structure_of no_structure
+returns c = ap structure_of (seek_end c.loop-j.invariant (omega arith))

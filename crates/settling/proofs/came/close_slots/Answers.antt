@@ -1,0 +1,24 @@
+-- src/came.rt, close_slots: RecordDone (Came lo.0 hi.0) p.0 t t'
+use Prim.Native.Nat.{◌-◌}
+use Rattle.settling.specs.Settled.{Came}
+use Rattle.settling.specs.Laws.Settled.{SettledRowTo, settled_row_start, settled_row_more, settled_row_end}
+use native.Mathlib.Omega.{arith}
+use borrow.Author.Rules.{rules}
+use Rattle.settling.proofs.came.close_slots.Goals as goal
+
+pub used_slots-n-requires : goal.used_slots-n-requires
+used_slots-n-requires c = c.requires.2
+
+pub loop-i-init : goal.loop-i-init
+loop-i-init c = settled_row_start c.requires.0 c.requires.1
+
+pub close_slot-requires : goal.close_slot-requires
+close_slot-requires c =
+    let n = c.loop-i.invariant.near in
+    (n.canon, n.still, c.requires.2, omega (arith, c.used_slots-n.ensures.is, c.used_slots-n.ensures.within))
+
+pub loop-i-preserved : goal.loop-i-preserved
+loop-i-preserved c = settled_row_more c.loop-i.invariant c.close_slot.ensures
+
+pub returns : goal.returns
+returns c = settled_row_end c.loop-i.invariant c.requires.1.housed c.loop-i.invariant.near.still.named c.used_slots-n.ensures (omega arith)

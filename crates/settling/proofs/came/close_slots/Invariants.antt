@@ -1,0 +1,12 @@
+use Prim.Native.Nat.{◌-◌}
+use Rattle.settling.specs.Settled.{Came}
+use Rattle.settling.specs.Laws.Settled.{SettledRowTo, settled_row_start, settled_row_more, settled_row_end}
+use native.Mathlib.Omega.{arith}
+use borrow.Author.Rules.{rules}
+use Rattle.settling.proofs.came.close_slots.Given as goal
+
+abbrev pub invariant-loop-i : goal.invariant-loop-i
+invariant-loop-i l = SettledRowTo (Came l.lo.0 l.hi.0) l.initial.t l.p.0 l.i l.t
+
+abbrev pub decreases-loop-i : goal.decreases-loop-i
+decreases-loop-i l = l.n - l.i

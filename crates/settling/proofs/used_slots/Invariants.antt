@@ -1,0 +1,11 @@
+use Rattle.tables.specs.View.{view}
+use Rattle.settling.specs.Laws.Settled.{AbsentStructures, absent_structures_start, absent_more, ends_here, ends_none}
+use native.Mathlib.Omega.{arith}
+use borrow.Author.Rules.{rules}
+use Rattle.settling.proofs.used_slots.Given as goal
+
+abbrev pub invariant-loop-j : goal.invariant-loop-j
+invariant-loop-j l = AbsentStructures (view l.t).k l.p.0 l.j
+
+abbrev pub decreases-loop-j : goal.decreases-loop-j
+decreases-loop-j l = l.j

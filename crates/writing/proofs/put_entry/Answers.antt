@@ -1,0 +1,7 @@
+-- src/lib.rt, put_entry: Is t' (put_slot (view t) p.0 i.0 (some (entryOf f)) f.opened)
+use Rattle.writing.specs.Laws.Stored.{entry_stored}
+use borrow.Author.Rules.{rules}
+use Rattle.writing.proofs.put_entry.Goals as goal
+
+pub returns : goal.returns
+returns c = rw (c.store.ensures, c.write.ensures) (entry_stored c.requires)
