@@ -1,0 +1,28 @@
+-- src/opening.rt, regions_right: r ≡ s10 board (view t) p.0
+use native.Mathlib.Omega.{arith}
+use Rattle.words.specs.Laws.Fields.{regions_small}
+use Rattle.regionwords.specs.Laws.Later.{bytes_left, bytes_fall}
+use Rattle.loaded.specs.Laws.Regions.{WeighingLeft, left_start, left_few, left_on, left_end}
+use borrow.Author.Rules.{rules}
+use Rattle.loaded.proofs.opening.regions_right.Goals as goal
+
+pub loop-left-init : goal.loop-left-init
+loop-left-init c = left_start
+
+pub region_weight-n-requires : goal.region_weight-n-requires
+region_weight-n-requires c = (c.requires, rw c.first_region-x.ensures (regions_small _).region0)
+
+pub overflow_add-n : goal.overflow_add-n
+overflow_add-n c = omega (arith, left_few c.loop-left.invariant (omega arith), c.region_weight-n.ensures.1)
+
+pub noted-mask-requires : goal.noted-mask-requires
+noted-mask-requires c = rw c.first_region-x.ensures (regions_small _).region0
+
+pub loop-left-smaller : goal.loop-left-smaller
+loop-left-smaller c = bytes_fall c.later_regions-left.ensures (omega arith)
+
+pub loop-left-preserved : goal.loop-left-preserved
+loop-left-preserved c = left_on c.loop-left.invariant c.requires c.regions_word-left.ensures (omega arith) c.first_region-x.ensures c.region_weight-n.ensures.0 c.region_weight-n.ensures.1 c.noted-mask.ensures c.later_regions-left.ensures
+
+pub returns : goal.returns
+returns c = left_end c.loop-left.invariant c.requires c.regions_word-left.ensures (omega arith)
