@@ -154,7 +154,7 @@ next_good {b} {l} g w = one (call_on b l w) refl
 pub after_good : {b : Board} {l : List ℕ} → Good b l → (ws : List ℕ) → Good b (after_all b l ws)
 unfolding after_all
 after_good g [] = g
-after_good g (w ∷ ws) = after_good (next_good g w) ws
+after_good {b = b} {l = l} g (w ∷ ws) = after_good {l = words_after l (call_on b l w)} (next_good g w) ws
 
 module _ {b : Board} (l ws : List ℕ) (small : Words l) (s : Sound b l) where
   pub after_sound : Sound b (after_all b l ws)

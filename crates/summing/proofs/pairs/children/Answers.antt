@@ -1,0 +1,24 @@
+-- src/pairs.rt, children: ChildrenTo (view t).k 16 masks'
+use mathlib.Core.Path.{◌≡◌, refl}
+use Prim.Native.Nat.{◌-◌, ◌^◌, ◌≤◌}
+use Rattle.tables.specs.View.{view}
+use Rattle.summing.specs.Sums.{ChildrenTo}
+use Rattle.summing.specs.Laws.Walk.{children_start, children_at, bit_room, bit_next}
+use native.Mathlib.Omega.{arith}
+use borrow.Author.Rules.{rules}
+use Rattle.summing.proofs.pairs.children.Goals as goal
+
+pub loop-c-init : goal.loop-c-init
+loop-c-init c = (omega arith, refl, children_start _ c.requires)
+
+pub note_child-requires : goal.note_child-requires
+note_child-requires c = (omega arith, c.loop-c.invariant.1, c.loop-c.invariant.2)
+
+pub overflow_mul-bit : goal.overflow_mul-bit
+overflow_mul-bit c = record { fits = bit_room c.loop-c.invariant.1 (omega arith) }
+
+pub loop-c-preserved : goal.loop-c-preserved
+loop-c-preserved c = (omega arith, bit_next c.loop-c.c c.loop-c.invariant.1, c.note_child.ensures)
+
+pub returns : goal.returns
+returns c = children_at _ _ (omega (arith, c.loop-c.invariant.0)) c.loop-c.invariant.2

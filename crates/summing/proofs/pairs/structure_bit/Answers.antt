@@ -1,0 +1,12 @@
+-- src/pairs.rt, structure_bit: (r ≡ bitOf (structured (view t).k p.0 j)) × (r ≤ 1)
+use mathlib.Core.Path.{refl}
+use Rattle.tables.specs.Laws.Search.{structure_some}
+use native.Mathlib.Omega.{arith}
+use borrow.Author.Rules.{rules}
+use Rattle.summing.proofs.pairs.structure_bit.Goals as goal
+
+pub returns-then-s : goal.returns-then-s
+returns-then-s c = (rw (c.structure-s.ensures.area, structure_some, c.if-s.true) refl, omega arith)
+
+pub returns-else-s : goal.returns-else-s
+returns-else-s c = (rw (c.structure-s.ensures.area, structure_some, c.if-s.false) refl, omega arith)

@@ -1,0 +1,20 @@
+-- src/sums.rt, gather: Adding (view t) p.0 0 r
+use Prim.Native.Nat.{◌*◌, ◌≤◌}
+use Rattle.tables.specs.View.{view}
+use Rattle.summing.specs.Sums.{Adding}
+use Rattle.summing.specs.Laws.Sums.{adding_start, adding_at}
+use native.Mathlib.Omega.{arith}
+use borrow.Author.Rules.{rules}
+use Rattle.summing.proofs.sums.gather.Goals as goal
+
+pub loop-j-init : goal.loop-j-init
+loop-j-init c = (omega arith, adding_start)
+
+pub add_structure-x-requires : goal.add_structure-x-requires
+add_structure-x-requires c = (c.requires.0, omega arith, c.requires.1, adding_at _ _ (omega arith) c.loop-j.invariant.1)
+
+pub loop-j-preserved : goal.loop-j-preserved
+loop-j-preserved c = (omega arith, c.add_structure-x.ensures)
+
+pub returns : goal.returns
+returns c = adding_at _ _ (omega arith) c.loop-j.invariant.1
