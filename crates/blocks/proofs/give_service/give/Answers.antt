@@ -1,0 +1,33 @@
+-- src/give_service.rt, give: Ran (give (view t) p.0 s.0 r whole) t x t'
+use mathlib.Core.Path.{sym, ◌∙◌}
+use borrow.Author.Tests.{not-true, not-false}
+use Rattle.rules.specs.Rules.{give}
+use Rattle.rules.specs.Laws.Ran.{ran_refused, pass, fail}
+use Rattle.blocks.specs.Laws.Pick.{picked_no, picked_is}
+use Rattle.blocks.specs.Laws.GiveExits.{child_now}
+use borrow.Author.Rules.{rules}
+use Rattle.blocks.proofs.give_service.give.Goals as goal
+
+pub is_child-requires : goal.is_child-requires
+unfolding give
+is_child-requires c = c.requires.1
+
+pub returns-then-not-is_child : goal.returns-then-not-is_child
+unfolding give
+returns-then-not-is_child c = ran_refused (fail 3 _ (child_now _ _ c.first.ensures.current (sym c.is_child.ensures ∙ c.if-not-is_child.true)))
+
+pub free_entry-requires : goal.free_entry-requires
+unfolding give
+free_entry-requires c = c.requires.2
+
+pub give_entry-requires : goal.give_entry-requires
+unfolding give
+give_entry-requires c = record { canon = c.requires.0; now = c.first.ensures.current; caller = c.first.ensures.current_small; in_p = c.requires.1; in_i = c.requires.2; is_child = sym c.is_child.ensures ∙ c.if-not-is_child.false; entry = picked_is c.in-Entry.is c.free_entry.ensures; right = c.requires.3 }
+
+pub returns-in-Refused : goal.returns-in-Refused
+unfolding give
+returns-in-Refused c = ran_refused (pass 3 (child_now _ _ c.first.ensures.current (sym c.is_child.ensures ∙ c.if-not-is_child.false)) (picked_no c.in-Refused.is c.free_entry.ensures _))
+
+pub returns-in-Entry : goal.returns-in-Entry
+unfolding give
+returns-in-Entry c = search rules

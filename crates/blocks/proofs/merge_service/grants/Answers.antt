@@ -1,0 +1,17 @@
+-- src/merge_service.rt, grants: r ≡ grants c.0 (entryOf e) (entryOf g)
+use mathlib.Core.Path.{refl}
+use borrow.Author.Tests.{eq-eqb, ne_eqb, le-leb, lt-leb}
+use Rattle.sound.specs.Clauses.{grants}
+use Rattle.blocks.proofs.merge_service.grants.Goals as goal
+
+pub returns-then-g-c : goal.returns-then-g-c
+unfolding grants
+returns-then-g-c c = rw (ne_eqb _ _ c.if-g-c.true) refl
+
+pub returns-then-g-e : goal.returns-then-g-e
+unfolding grants
+returns-then-g-e c = rw (eq-eqb _ _ c.if-g-c.false, lt-leb _ _ c.if-g-e.true) refl
+
+pub returns : goal.returns
+unfolding grants
+returns c = rw (eq-eqb _ _ c.if-g-c.false, le-leb _ _ c.if-g-e.false) refl

@@ -1,0 +1,25 @@
+-- src/merge_service.rt, join: Is t' (joined_at (view t) c.0 s.0 u.0 e f)
+use Rattle.tables.specs.State.{Table, some, ending_at}
+use Rattle.tables.specs.View.{entry_of}
+use Rattle.tables.specs.Laws.Encode.{is_canon}
+use Rattle.tables.specs.Write.{put_slot}
+use Rattle.writing.specs.Laws.Stored.{is_then}
+use Rattle.blocks.specs.Unloading.{unloaded_at}
+use Rattle.blocks.proofs.merge_service.join.Goals as goal
+
+pub unload_entry-requires : goal.unload_entry-requires
+unload_entry-requires c = record { canon = c.requires.0.canon; in_p = c.requires.0.in_p; in_i = c.requires.0.in_i }
+
+pub put_entry-requires : goal.put_entry-requires
+put_entry-requires c = record { canon = is_canon c.unload_entry.ensures; in_p = c.requires.0.in_p; in_i = c.requires.0.in_i; present = c.requires.0.present; given_small = c.requires.0.given_small; start_small = c.requires.0.start_small; end_small = c.requires.2 }
+
+pub unload_entry-requires-2 : goal.unload_entry-requires-2
+unload_entry-requires-2 c =
+    let canon = is_canon c.put_entry.ensures in
+    record { canon = canon; in_p = c.requires.0.in_p; in_i = c.requires.1 }
+
+pub returns : goal.returns
+returns c =
+    is_then (λ (t : Table). unloaded_at t c.args.c.0 c.args.u.0)
+    (is_then (λ (t : Table). put_slot t c.args.c.0 c.args.s.0 (some (ending_at (entry_of c.args.e) c.args.f.end.0)) c.args.e.opened) c.unload_entry.ensures c.put_entry.ensures)
+    c.unload_entry-2.ensures

@@ -1,0 +1,14 @@
+use Prim.Native.Nat.{◌-◌}
+use Rattle.loops.specs.Laws.Every.{Missing}
+use Rattle.loops.specs.Laws.Scan.{seek_start, seek_hit, seek_on, seek_end}
+use Rattle.tables.specs.View.{view, entry_of}
+use Rattle.sound.specs.Clauses.{contains_both}
+use native.Mathlib.Omega.{arith}
+use borrow.Author.Rules.{rules}
+use Rattle.blocks.proofs.merge_service.one_grant.Given as goal
+
+abbrev pub invariant-loop-i : goal.invariant-loop-i
+invariant-loop-i l = Missing (λ k. contains_both l.c.0 (entry_of l.e) (entry_of l.f) ((view l.t).k.slot l.q.0 k)) 32 l.i
+
+abbrev pub decreases-loop-i : goal.decreases-loop-i
+decreases-loop-i l = 32 - l.i

@@ -1,0 +1,17 @@
+use mathlib.Core.Path.{ap, sym, ◌∙◌}
+use Prim.Native.Nat.{◌-◌}
+use Rattle.loops.specs.Laws.Scan.{Seeking, seek_start, seek_hit, seek_on, seek_end}
+use Rattle.tables.specs.State.{none, some}
+use Rattle.tables.specs.View.{view, entry_of}
+use Rattle.tables.specs.Search.{lowest}
+use Rattle.tables.specs.Answers.{found_of}
+use Rattle.rules.specs.Rules.{returned}
+use native.Mathlib.Omega.{arith}
+use borrow.Author.Rules.{rules}
+use Rattle.blocks.proofs.take_service.returned_slot.Given as goal
+
+abbrev pub invariant-loop-i : goal.invariant-loop-i
+invariant-loop-i l = Seeking (returned (view l.t) (entry_of l.e)) some none 32 l.i
+
+abbrev pub decreases-loop-i : goal.decreases-loop-i
+decreases-loop-i l = 32 - l.i

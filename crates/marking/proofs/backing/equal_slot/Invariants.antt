@@ -1,0 +1,15 @@
+use Prim.Native.Nat.{◌-◌}
+use Rattle.loops.specs.Laws.Scan.{Seeking, seek_start, seek_hit, seek_on}
+use Rattle.tables.specs.View.{view}
+use Rattle.marking.specs.Backing.{area_between, backs}
+use Rattle.marking.specs.Laws.Backing.{backs_empty}
+use Rattle.ordering.specs.Laws.Used.{seek_bound}
+use native.Mathlib.Omega.{arith}
+use borrow.Author.Rules.{rules}
+use Rattle.marking.proofs.backing.equal_slot.Given as goal
+
+abbrev pub invariant-loop-i : goal.invariant-loop-i
+invariant-loop-i l = Seeking (λ k. backs (area_between l.lo.0 l.hi.0) ((view l.t).k.slot l.q.0 k)) (λ k. k) 32 32 l.i
+
+abbrev pub decreases-loop-i : goal.decreases-loop-i
+decreases-loop-i l = l.used - l.i

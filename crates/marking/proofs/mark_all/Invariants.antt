@@ -1,0 +1,16 @@
+use Prim.Native.Nat.{◌*◌, ◌-◌, ◌≤◌}
+use borrow.Author.Tests.{not-false}
+use Rattle.tables.specs.View.{view}
+use Rattle.marking.specs.Marking.{MarkedTo}
+use Rattle.marking.specs.Laws.Marking.{says_fails, can_mark, top_marks}
+use native.Mathlib.Omega.{arith}
+use borrow.Author.Rules.{rules}
+use mathlib.Core.Path.{ap}
+use mathlib.Core.Bool.{not}
+use Rattle.marking.proofs.mark_all.Given as goal
+
+abbrev pub invariant-loop-p : goal.invariant-loop-p
+invariant-loop-p l = (l.p ≤ l.top) × MarkedTo (view l.t).k (5 * l.p) l.mark
+
+abbrev pub decreases-loop-p : goal.decreases-loop-p
+decreases-loop-p l = l.top - l.p

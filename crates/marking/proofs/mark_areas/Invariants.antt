@@ -1,0 +1,16 @@
+use mathlib.Core.Path.{sym, ◌∙◌, ap}
+use Prim.Native.Nat.{◌+◌, ◌*◌, ◌-◌, ◌≤◌}
+use borrow.Author.Tests.{not-true, not-false}
+use Rattle.tables.specs.View.{view}
+use Rattle.marking.specs.Marking.{MarkedTo}
+use Rattle.marking.specs.Laws.Marking.{says_fails, absent_marks, five_marks}
+use native.Mathlib.Omega.{arith}
+use borrow.Author.Rules.{rules}
+use mathlib.Core.Bool.{not}
+use Rattle.marking.proofs.mark_areas.Given as goal
+
+abbrev pub invariant-loop-j : goal.invariant-loop-j
+invariant-loop-j l = (2 ≤ l.j) × (l.j ≤ 5) × MarkedTo (view l.t).k (5 * l.p.0 + l.j) l.mark
+
+abbrev pub decreases-loop-j : goal.decreases-loop-j
+decreases-loop-j l = 5 - l.j

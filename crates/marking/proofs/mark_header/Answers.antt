@@ -1,0 +1,22 @@
+-- src/lib.rt, mark_header: MarkSays (view t).k (5 * p.0 + 1) r mark'
+use mathlib.Core.Path.{sym, ◌∙◌}
+use native.Mathlib.Omega.{arith}
+use borrow.Author.Rules.{rules}
+use borrow.Author.Tests.{not-true, not-false}
+use Rattle.marking.specs.Laws.Marking.{says_rooted, header_absent, header_marks}
+use Rattle.marking.proofs.mark_header.Goals as goal
+
+pub returns-then-is_rooted : goal.returns-then-is_rooted
+returns-then-is_rooted c = let h = c.requires in says_rooted _ h.shaped _ 0 (omega arith) h.marked (sym c.is_rooted.ensures ∙ c.if-is_rooted.true)
+
+pub returns-then-not-h : goal.returns-then-not-h
+returns-then-not-h c = let h = c.requires in let f = c.header-h in header_absent _ h.shaped h.in_p h.marked f.ensures (not-true f.result.present c.if-not-h.true)
+
+pub mark_equal-requires : goal.mark_equal-requires
+mark_equal-requires c = let h = c.requires in (c.header-h.ensures.parent_small, h.shaped, h.marked.size)
+
+pub returns : goal.returns
+returns c =
+    let h = c.requires in
+    let f = c.header-h in
+    header_marks _ h.shaped h.in_p h.marked f.ensures (sym c.is_rooted.ensures ∙ c.if-is_rooted.false) (not-false f.result.present c.if-not-h.false) c.mark_equal.ensures

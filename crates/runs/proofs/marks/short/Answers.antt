@@ -1,0 +1,8 @@
+-- src/marks.rt, short: r ≡ word_written word
+use mathlib.Core.Path.{subst}
+use borrow.Author.Rules.{rules}
+use Rattle.runs.specs.Ways.{Short}
+use Rattle.runs.proofs.marks.short.Goals as goal
+
+pub overflow_cast-result : goal.overflow_cast-result
+overflow_cast-result c = record { fits = subst Short c.in-Word.is c.requires }

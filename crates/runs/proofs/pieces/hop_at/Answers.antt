@@ -1,0 +1,43 @@
+-- src/pieces.rt, hop_at: Hopped (view t).k l.0 p.0 r × Passed (view t).k order l.0 places'
+use native.Mathlib.Omega.{arith}
+use borrow.Author.Rules.{rules}
+use Prim.Native.Nat.{◌-◌}
+use Rattle.tables.specs.View.{view}
+use Rattle.runs.specs.Laws.Pieces.{holder_small}
+use Rattle.runs.specs.Laws.Places.{Hopping, pass_in, pass_on, pass_here, passed_set}
+use Rattle.runs.proofs.pieces.hop_at.Goals as goal
+
+pub offset_bounds-places-at : goal.offset_bounds-places-at
+offset_bounds-places-at c = omega (arith, holder_small c.requires.0 c.requires.3)
+
+pub bounds-places-at : goal.bounds-places-at
+bounds-places-at c = omega (arith, holder_small c.requires.0 c.requires.3)
+
+pub loop-a-init : goal.loop-a-init
+loop-a-init c = record { passing = c.requires.2.at _ (holder_small c.requires.0 c.requires.3); passed = c.requires.2 }
+
+pub entry_at-f-requires : goal.entry_at-f-requires
+entry_at-f-requires c = pass_in c.requires.0 c.requires.1 c.requires.3 c.loop-a.invariant.passing
+
+pub offset_bounds-places-at-then-l-f : goal.offset_bounds-places-at-then-l-f
+offset_bounds-places-at-then-l-f c = omega (arith, holder_small c.requires.0 c.requires.3)
+
+pub bounds-places-at-then-l-f : goal.bounds-places-at-then-l-f
+bounds-places-at-then-l-f c = omega (arith, holder_small c.requires.0 c.requires.3)
+
+pub returns-then-l-f : goal.returns-then-l-f
+returns-then-l-f c =
+    (
+      pass_here c.requires.0 c.requires.1 c.requires.3 c.loop-a.invariant.passing _ c.entry_at-f.ensures.slot (omega arith) c.entry_at-f.ensures.given_small,
+      passed_set c.loop-a.invariant.passed c.loop-a.invariant.passing,
+    )
+
+pub loop-a-preserved : goal.loop-a-preserved
+loop-a-preserved c =
+    record {
+      passing = pass_on c.requires.0 c.requires.1 c.requires.3 c.loop-a.invariant.passing _ c.entry_at-f.ensures.slot (omega arith);
+      passed = c.loop-a.invariant.passed;
+    }
+
+pub returns : goal.returns
+returns c = absurd (omega (arith, (pass_in c.requires.0 c.requires.1 c.requires.3 c.loop-a.invariant.passing).1))

@@ -1,0 +1,13 @@
+use native.Mathlib.Omega.{arith}
+use borrow.Author.Rules.{rules}
+use Prim.Native.Nat.{◌-◌}
+use Rattle.tables.specs.View.{view}
+use Rattle.runs.specs.Laws.Pieces.{holder_small}
+use Rattle.runs.specs.Laws.Places.{Hopping, pass_in, pass_on, pass_here, passed_set}
+use Rattle.runs.proofs.pieces.hop_at.Given as goal
+
+abbrev pub invariant-loop-a : goal.invariant-loop-a
+invariant-loop-a l = Hopping (view l.t).k l.order l.l.0 l.p.0 l.a l.places
+
+abbrev pub decreases-loop-a : goal.decreases-loop-a
+decreases-loop-a l = 32 - l.a

@@ -1,0 +1,46 @@
+-- src/pieces.rt, piece_at: Pieced (view t).k order l.0 r places' way'
+-- `runs::pieces::piece_at` meets its contract: at each turn the descent from p comes to the same piece as from the root.
+use native.Mathlib.Omega.{arith}
+use borrow.Author.Rules.{rules}
+use Prim.Native.Nat.{◌-◌}
+use Rattle.tables.specs.View.{view}
+use Rattle.runs.specs.Laws.Pieces.{stop_small}
+use Rattle.runs.specs.Laws.Ways.{Walking, climbs, walk_from_mark, walk_holds, walk_here, low_small, walk_down, walk_last}
+use Rattle.runs.proofs.pieces.piece_at.Goals as goal
+
+pub climb-d-requires : goal.climb-d-requires
+climb-d-requires c = climbs c.requires.2
+
+pub offset_bounds-way-d : goal.offset_bounds-way-d
+offset_bounds-way-d c = omega (arith, c.climb-d.ensures.climbing.within, c.requires.2.way.deep)
+
+pub bounds-way-d : goal.bounds-way-d
+bounds-way-d c = omega (arith, c.climb-d.ensures.climbing.within, c.requires.2.way.deep, c.requires.2.way.size)
+
+pub loop-d-init : goal.loop-d-init
+loop-d-init c = walk_from_mark c.requires.2 c.climb-d.ensures c.fields-step.ensures
+
+pub hop_at-h-requires : goal.hop_at-h-requires
+hop_at-h-requires c = (c.requires.0, c.requires.1, c.loop-d.invariant.passed, (walk_holds c.requires.0 c.loop-d.invariant).holds)
+
+pub returns-then-q-eq0 : goal.returns-then-q-eq0
+returns-then-q-eq0 c = walk_here c.requires.0 c.loop-d.invariant c.hop_at-h.ensures.0 c.lower-end.ensures c.hop_at-h.ensures.1 (omega arith) c.if-q-eq0.true
+
+pub mark_of-requires : goal.mark_of-requires
+mark_of-requires c =
+    (
+      low_small c.requires.0 c.loop-d.invariant c.hop_at-h.ensures.0 c.lower-end.ensures c.hop_at-h.ensures.1 (omega arith) (stop_small c.args.t.now),
+      c.hop_at-h.ensures.0.small,
+    )
+
+pub offset_bounds-way-d-in-loop-d : goal.offset_bounds-way-d-in-loop-d
+offset_bounds-way-d-in-loop-d c = omega (arith, c.loop-d.invariant.way.deep)
+
+pub bounds-way-d-in-loop-d : goal.bounds-way-d-in-loop-d
+bounds-way-d-in-loop-d c = omega (arith, c.loop-d.invariant.way.deep, c.loop-d.invariant.way.size)
+
+pub loop-d-preserved : goal.loop-d-preserved
+loop-d-preserved c = walk_down c.requires.0 c.loop-d.invariant c.hop_at-h.ensures.0 c.lower-end.ensures c.hop_at-h.ensures.1 (omega arith) (stop_small c.args.t.now) c.mark_of.ensures c.if-q-eq0.false
+
+pub returns : goal.returns
+returns c = walk_last c.requires.0 c.loop-d.invariant (omega arith)

@@ -1,0 +1,13 @@
+use native.Mathlib.Omega.{arith}
+use borrow.Author.Rules.{rules}
+use Prim.Native.Nat.{◌-◌}
+use Rattle.tables.specs.View.{view}
+use Rattle.runs.specs.Laws.Pieces.{stop_small}
+use Rattle.runs.specs.Laws.Ways.{Walking, climbs, walk_from_mark, walk_holds, walk_here, low_small, walk_down, walk_last}
+use Rattle.runs.proofs.pieces.piece_at.Given as goal
+
+abbrev pub invariant-loop-d : goal.invariant-loop-d
+invariant-loop-d l = Walking (view l.t).k l.order l.l.0 l.p.0 l.end.0 l.d l.places l.way
+
+abbrev pub decreases-loop-d : goal.decreases-loop-d
+decreases-loop-d l = 15 - l.d

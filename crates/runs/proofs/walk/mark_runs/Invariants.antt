@@ -1,0 +1,14 @@
+use mathlib.Core.Path.{sym}
+use native.Mathlib.Omega.{arith}
+use borrow.Author.Rules.{rules}
+use Prim.Native.Nat.{◌-◌}
+use Rattle.tables.specs.View.{view}
+use Rattle.runs.specs.Laws.Pieces.{stop_small}
+use Rattle.runs.specs.Laws.Marks.{Walk, walk_begins, standing, walk_past_piece, walk_nearer, marks_few, runs_mark_end}
+use Rattle.runs.proofs.walk.mark_runs.Given as goal
+
+abbrev pub invariant-loop-at : goal.invariant-loop-at
+invariant-loop-at l = Walk (view l.t).k l.order l.initial.marks l.at.0 l.n l.last.0 l.depth l.places l.way l.marks
+
+abbrev pub decreases-loop-at : goal.decreases-loop-at
+decreases-loop-at l = l.f.end.0 - l.at.0
