@@ -1,0 +1,16 @@
+use Prim.Native.Nat.{◌-◌}
+use Rattle.loops.specs.Laws.Every.{Missing}
+use Rattle.loops.specs.Laws.Scan.{seek_start, seek_hit, seek_on}
+use Rattle.tables.specs.View.{entry_of, view}
+use Rattle.sound.specs.Clauses.{has, lends}
+use Rattle.decide.specs.Laws.Entries.{lends_empty}
+use Rattle.ordering.specs.Laws.Used.{seek_bound}
+use native.Mathlib.Omega.{arith}
+use borrow.Author.Rules.{rules}
+use Rattle.decide.proofs.entries.has_lent.Given as goal
+
+abbrev pub invariant-loop-i : goal.invariant-loop-i
+invariant-loop-i l = Missing (λ k. has (lends l.p.0 (entry_of l.f)) ((view l.t).k.slot l.q.0 k)) 32 l.i
+
+abbrev pub decreases-loop-i : goal.decreases-loop-i
+decreases-loop-i l = l.used - l.i

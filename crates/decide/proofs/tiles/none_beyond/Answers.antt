@@ -1,0 +1,7 @@
+-- src/tiles.rt, none_beyond: r ≡ within a b
+use Rattle.decide.specs.Laws.Tiles.{number_within}
+use borrow.Author.Rules.{rules}
+use Rattle.decide.proofs.tiles.none_beyond.Goals as goal
+
+pub returns : goal.returns
+returns c = rw (c.number-n.ensures, c.number.ensures) (number_within _ _)

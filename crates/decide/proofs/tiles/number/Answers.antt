@@ -1,0 +1,9 @@
+-- src/tiles.rt, number: r ≡ rights_number a
+use Rattle.decide.specs.Tiles.{rights_number}
+use mathlib.Core.Path.{refl}
+use borrow.Author.Rules.{rules}
+use Rattle.decide.proofs.tiles.number.Goals as goal
+
+pub returns : goal.returns
+unfolding rights_number
+returns c = rw (c.bit.ensures.0, c.bit-2.ensures.0, c.bit-3.ensures.0) refl

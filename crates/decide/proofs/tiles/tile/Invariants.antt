@@ -1,0 +1,19 @@
+use mathlib.Core.Path.{◌≡◌, refl, sym}
+use mathlib.Core.Bool.{true}
+use mathlib.Core.Logic.{◌↔◌}
+use Prim.Native.Nat.{◌-◌, ◌≤◌}
+use lib.Dec.{eqb}
+use borrow.Author.Tests.{not-true, not-false, eq-eqb}
+use Rattle.sound.specs.Laws.Tests.{not_says}
+use Rattle.sound.specs.Laws.MeansRegions.{beq_means}
+use Rattle.decide.specs.Tiles.{row_of, opened_bit, Tiling, AllSet}
+use Rattle.decide.specs.Laws.Tiles.{ComparedWith, compare_start, set_start, set_on, few, stuck_as, other_bits, same_bits, tile_start, tile_none, tile_elsewhere, tile_over, tile_unlike, tile_next, compare_next, not_first}
+use native.Mathlib.Omega.{arith}
+use borrow.Author.Rules.{rules}
+use Rattle.decide.proofs.tiles.tile.Given as goal
+
+abbrev pub invariant-loop-at : goal.invariant-loop-at
+invariant-loop-at l = (l.k ≤ l.n) × Tiling (row_of l.t l.order l.p.0) l.i l.k l.initial.at.0 l.hi.0 l.at.0 l.initial.s × ComparedWith (row_of l.t l.order l.p.0) l.i l.k l.initial.s l.s × (l.first ≡ eqb l.k l.i) × ((l.all_open ≡ true) ↔ AllSet (opened_bit l.t l.order l.p.0) l.i l.k)
+
+abbrev pub decreases-loop-at : goal.decreases-loop-at
+decreases-loop-at l = l.n - l.k

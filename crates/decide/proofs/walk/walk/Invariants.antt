@@ -1,0 +1,15 @@
+use Prim.Native.Nat.{◌-◌}
+use native.Mathlib.Omega.{arith}
+use borrow.Author.Tests.{not-false}
+use Rattle.decide.specs.Walk.{WalkedTo}
+use Rattle.decide.specs.Laws.Walk.{all_done, walk_says, walk_fails}
+use borrow.Author.Rules.{rules}
+use mathlib.Core.Path.{ap}
+use mathlib.Core.Bool.{not}
+use Rattle.decide.proofs.walk.walk.Given as goal
+
+abbrev pub invariant-loop-q : goal.invariant-loop-q
+invariant-loop-q l = WalkedTo l.t l.order l.counts l.mark l.q 0 l.next
+
+abbrev pub decreases-loop-q : goal.decreases-loop-q
+decreases-loop-q l = l.top - l.q

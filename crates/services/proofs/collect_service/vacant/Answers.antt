@@ -1,0 +1,32 @@
+-- src/collect_service.rt, vacant: r ≡ vacant (view t).k p.0 j
+use Rattle.loops.specs.Laws.Every.{Passing}
+use Rattle.loops.specs.Laws.Scan.{seek_start, seek_hit, seek_on, seek_end}
+use Rattle.tables.specs.View.{view}
+use Rattle.tables.specs.Search.{is_some}
+use Rattle.rules.specs.Rules.{vacant}
+use Rattle.services.specs.Laws.CollectExits.{slot_there}
+use mathlib.Core.Bool.{not}
+use Prim.Native.Nat.{◌+◌, ◌*◌, ◌-◌}
+use native.Mathlib.Omega.{arith}
+use borrow.Author.Rules.{rules}
+use Rattle.services.proofs.collect_service.vacant.Goals as goal
+
+pub loop-i-init : goal.loop-i-init
+unfolding vacant
+loop-i-init c = seek_start
+
+pub entry-f-requires : goal.entry-f-requires
+unfolding vacant
+entry-f-requires c = (c.requires.0, omega (arith, c.requires.1))
+
+pub returns-then-f : goal.returns-then-f
+unfolding vacant
+returns-then-f c = seek_hit c.loop-i.invariant (omega arith) (slot_there c.entry-f.ensures c.if-f.true)
+
+pub loop-i-preserved : goal.loop-i-preserved
+unfolding vacant
+loop-i-preserved c = seek_on c.loop-i.invariant (omega arith) (slot_there c.entry-f.ensures c.if-f.false)
+
+pub returns : goal.returns
+unfolding vacant
+returns c = seek_end c.loop-i.invariant (omega arith)

@@ -1,0 +1,62 @@
+-- src/create_service.rt, create: Ran (create (view t) s.0) t r t'
+use mathlib.Core.Path.{refl, ap, sym, ◌∙◌}
+use mathlib.Core.Bool.{not}
+use borrow.Author.Tests.{lt-leb, le-leb}
+use Rattle.tables.specs.Laws.Encode.{is_canon}
+use Rattle.tables.specs.Laws.Search.{lowest_some}
+use Rattle.tables.specs.Laws.Answers.{which_is}
+use Rattle.sound.specs.Clauses.{long}
+use Rattle.rules.specs.Rules.{create}
+use Rattle.rules.specs.Laws.Ran.{ran_refused, pass, fail, there, missing}
+use Rattle.blocks.specs.Laws.Pick.{picked_no, picked_is}
+use Rattle.services.specs.Laws.Unsettled.{came_header, ran_settled}
+use Rattle.services.specs.Laws.CreateExits.{create_is}
+use Rattle.services.specs.Laws.Masked.{fixed_create}
+use native.Mathlib.Omega.{arith}
+use borrow.Author.Rules.{rules}
+use Rattle.services.proofs.create_service.create.Goals as goal
+
+pub returns-in_default : goal.returns-in_default
+unfolding create long
+returns-in_default c = ran_refused ((picked_is c.in-Entry.is c.free_entry.ensures).rule _ ∙ missing 8 _ (which_is _ (sym c.in_default.is ∙ c.absent_partition-which.ensures)))
+
+pub overflow_add-start : goal.overflow_add-start
+unfolding create long
+overflow_add-start c = omega (arith, (picked_is c.in-Entry.is c.free_entry.ensures).seen.start_small)
+
+pub returns-then-start-end : goal.returns-then-start-end
+unfolding create long
+returns-then-start-end c = ran_refused ((picked_is c.in-Entry.is c.free_entry.ensures).rule _ ∙ there 8 _ _ (which_is _ (sym c.in-Number.is ∙ c.absent_partition-which.ensures)) (fail 9 _ (lt-leb _ _ c.if-start-end.true)))
+
+pub returns-then-e : goal.returns-then-e
+unfolding create long
+returns-then-e c = ran_refused ((picked_is c.in-Entry.is c.free_entry.ensures).rule _ ∙ there 8 _ _ (which_is _ (sym c.in-Number.is ∙ c.absent_partition-which.ensures)) (pass 9 (le-leb _ _ c.if-start-end.false) (fail 18 _ (ap not c.if-e.true))))
+
+pub up_from-above-requires : goal.up_from-above-requires
+unfolding create long
+up_from-above-requires c = c.first.ensures.current_small
+
+pub put_header-requires : goal.put_header-requires
+unfolding create long
+put_header-requires c =
+    let v = (picked_is c.in-Entry.is c.free_entry.ensures).seen in
+    record { canon = c.requires.0; in_p = omega (arith, (lowest_some 16 _ _ (which_is _ (sym c.in-Number.is ∙ c.absent_partition-which.ensures))).below); present = refl; parent_small = c.first.ensures.current_small; start_small = v.start_small; end_small = v.end_small }
+
+pub settle-requires : goal.settle-requires
+unfolding create long
+settle-requires c =
+    let number = which_is _ (sym c.in-Number.is ∙ c.absent_partition-which.ensures) in
+    let now = c.first.ensures.current in (
+      is_canon c.put_header.ensures,
+      came_header _ c.requires.2 c.if-start-end.false _ number c.put_header.ensures,
+      fixed_create _ c.requires.2 c.first.ensures.current_small c.up_from-above.ensures c.put_header.ensures (λ q i. refl) now _
+          (create_is (picked_is c.in-Entry.is c.free_entry.ensures) c.if-start-end.false c.if-e.false number now),
+    )
+
+pub returns-in-Refused : goal.returns-in-Refused
+unfolding create long
+returns-in-Refused c = ran_refused (picked_no c.in-Refused.is c.free_entry.ensures _)
+
+pub returns-else-e : goal.returns-else-e
+unfolding create long
+returns-else-e c = ran_settled (create_is (picked_is c.in-Entry.is c.free_entry.ensures) c.if-start-end.false c.if-e.false (which_is _ (sym c.in-Number.is ∙ c.absent_partition-which.ensures)) c.first.ensures.current) c.put_header.ensures c.settle.ensures

@@ -1,0 +1,21 @@
+-- src/delete_service.rt, ungive: Is t' (ungiven (view t) c.0 p.0)
+use Prim.Native.Nat.{◌-◌}
+use Rattle.tables.specs.View.{view}
+use Rattle.tables.specs.Laws.Encode.{is_canon}
+use Rattle.tables.specs.Laws.FitView.{fit_view}
+use Rattle.services.specs.Laws.DeleteExits.{Ungiving, ungive_start, ungive_more, ungive_end}
+use native.Mathlib.Omega.{arith}
+use borrow.Author.Rules.{rules}
+use Rattle.services.proofs.delete_service.ungive.Goals as goal
+
+pub loop-i-init : goal.loop-i-init
+loop-i-init c = ungive_start c.requires.0
+
+pub ungive_slot-requires : goal.ungive_slot-requires
+ungive_slot-requires c = (is_canon c.loop-i.invariant.is, c.requires.1, omega arith)
+
+pub loop-i-preserved : goal.loop-i-preserved
+loop-i-preserved c = ungive_more c.loop-i.invariant (omega arith) c.ungive_slot.ensures
+
+pub returns : goal.returns
+returns c = ungive_end c.loop-i.invariant (fit_view c.requires.0) (omega arith)

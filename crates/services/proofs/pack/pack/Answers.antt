@@ -1,0 +1,35 @@
+-- src/pack.rt, pack: Ran (pack (view t) p.0) t r t'
+use mathlib.Core.Path.{sym, ◌∙◌}
+use Prim.Native.Nat.{◌-◌}
+use native.Mathlib.Omega.{arith}
+use borrow.Author.Tests.{not-true, not-false}
+use Rattle.tables.specs.View.{view}
+use Rattle.rules.specs.Rules.{pack}
+use Rattle.rules.specs.Laws.Ran.{ran_refused, fail}
+use Rattle.services.specs.Laws.PackExits.{Packs, pack_start, can_turn, pack_more, pack_end}
+use borrow.Author.Rules.{rules}
+use Rattle.services.proofs.pack.pack.Goals as goal
+
+pub own_or_child-requires : goal.own_or_child-requires
+unfolding pack
+own_or_child-requires c = c.requires.1
+
+pub returns-then-not-own_or_child : goal.returns-then-not-own_or_child
+unfolding pack
+returns-then-not-own_or_child c = ran_refused (fail 3 _ (sym c.own_or_child.ensures ∙ c.if-not-own_or_child.true))
+
+pub loop-i-init : goal.loop-i-init
+unfolding pack
+loop-i-init c = pack_start c.requires.0 c.requires.2
+
+pub pack_slot-moved-requires : goal.pack_slot-moved-requires
+unfolding pack
+pack_slot-moved-requires c = can_turn c.loop-i.invariant c.requires.1 (omega arith)
+
+pub loop-i-preserved : goal.loop-i-preserved
+unfolding pack
+loop-i-preserved c = pack_more c.loop-i.invariant (omega arith) c.pack_slot-moved.ensures
+
+pub returns : goal.returns
+unfolding pack
+returns c = pack_end c.requires.2 (sym c.own_or_child.ensures ∙ c.if-not-own_or_child.false) c.loop-i.invariant (omega arith)

@@ -1,0 +1,14 @@
+use Prim.Native.Nat.{◌-◌}
+use Rattle.tables.specs.View.{view}
+use Rattle.tables.specs.Laws.Encode.{is_canon}
+use Rattle.tables.specs.Laws.FitView.{fit_view}
+use Rattle.services.specs.Laws.PackExits.{Renaming, rename_start, rename_more, rename_end}
+use native.Mathlib.Omega.{arith}
+use borrow.Author.Rules.{rules}
+use Rattle.services.proofs.pack.rename_regions.Given as goal
+
+abbrev pub invariant-loop-r : goal.invariant-loop-r
+invariant-loop-r l = Renaming (view l.initial.t) l.p.0 l.i.0 l.j.0 l.r l.t
+
+abbrev pub decreases-loop-r : goal.decreases-loop-r
+decreases-loop-r l = 8 - l.r

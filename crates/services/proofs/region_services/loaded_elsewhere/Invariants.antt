@@ -1,0 +1,16 @@
+use mathlib.Core.Path.{sym, ◌∙◌}
+use Prim.Native.Nat.{◌-◌}
+use Rattle.loops.specs.Laws.Every.{Missing}
+use Rattle.loops.specs.Laws.Scan.{seek_start, seek_hit, seek_on, seek_end}
+use Rattle.tables.specs.View.{view}
+use Rattle.rules.specs.Rules.{elsewhere}
+use Rattle.services.specs.RegionExits.{in_another}
+use native.Mathlib.Omega.{arith}
+use borrow.Author.Rules.{rules}
+use Rattle.services.proofs.region_services.loaded_elsewhere.Given as goal
+
+abbrev pub invariant-loop-q : goal.invariant-loop-q
+invariant-loop-q l = Missing (in_another (view l.t) l.p.0 l.s.0 l.r) 8 l.q
+
+abbrev pub decreases-loop-q : goal.decreases-loop-q
+decreases-loop-q l = 8 - l.q

@@ -1,0 +1,26 @@
+-- src/region_services.rt, unload: Ran (unload (view t) p.0 r) t o t'
+use mathlib.Core.Path.{refl, sym, ◌∙◌}
+use borrow.Author.Tests.{not-true, not-false}
+use Rattle.sound.specs.Laws.Settled.{unload_settled, settled_words}
+use Rattle.rules.specs.Rules.{unload}
+use Rattle.rules.specs.Laws.Ran.{ran_refused, ran_done, pass, fail}
+use Rattle.services.specs.Laws.RegionExits.{region_high, region_low}
+use native.Mathlib.Omega.{arith}
+use borrow.Author.Rules.{rules}
+use Rattle.services.proofs.region_services.unload.Goals as goal
+
+pub returns-then-not-own_or_child : goal.returns-then-not-own_or_child
+unfolding unload
+returns-then-not-own_or_child c = ran_refused (fail 3 _ (sym c.own_or_child.ensures ∙ c.if-not-own_or_child.true))
+
+pub returns-then-r-gt7 : goal.returns-then-r-gt7
+unfolding unload
+returns-then-r-gt7 c = ran_refused (pass 3 (sym c.own_or_child.ensures ∙ c.if-not-own_or_child.false) (fail 16 _ (region_high _ c.if-r-gt7.true)))
+
+pub clear_region-requires : goal.clear_region-requires
+unfolding unload
+clear_region-requires c = record { canon = c.requires.0; in_p = c.requires.1; in_i = omega (arith, c.if-r-gt7.false) }
+
+pub returns : goal.returns
+unfolding unload
+returns c = ran_done (pass 3 (sym c.own_or_child.ensures ∙ c.if-not-own_or_child.false) (pass 16 (region_low _ c.if-r-gt7.false) refl)) (settled_words c.clear_region.ensures (unload_settled c.requires.2 _ _))

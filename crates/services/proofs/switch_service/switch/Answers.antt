@@ -1,0 +1,20 @@
+-- src/switch_service.rt, switch: Ran (switch (view t) p.0) t r t'
+use mathlib.Core.Path.{refl, sym, ◌∙◌}
+use borrow.Author.Tests.{not-true, not-false}
+use Rattle.sound.specs.Laws.Settled.{current_settled, settled_words}
+use Rattle.rules.specs.Rules.{switch}
+use Rattle.rules.specs.Laws.Ran.{ran_refused, ran_done, pass, fail}
+use borrow.Author.Rules.{rules}
+use Rattle.services.proofs.switch_service.switch.Goals as goal
+
+pub returns-then-not-parent_or_child : goal.returns-then-not-parent_or_child
+unfolding switch
+returns-then-not-parent_or_child c = ran_refused (fail 3 _ (sym c.parent_or_child.ensures ∙ c.if-not-parent_or_child.true))
+
+pub put_current-requires : goal.put_current-requires
+unfolding switch
+put_current-requires c = record { canon = c.requires.0; in_c = c.requires.1 }
+
+pub returns : goal.returns
+unfolding switch
+returns c = ran_done (pass 3 (sym c.parent_or_child.ensures ∙ c.if-not-parent_or_child.false) refl) (settled_words c.put_current.ensures (current_settled c.requires.2 _))

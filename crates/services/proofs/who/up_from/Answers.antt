@@ -1,0 +1,26 @@
+-- src/who.rt, up_from: r ≡ up_from (view t).k p.0
+use Rattle.tables.specs.View.{view}
+use Rattle.rules.specs.Laws.Changes.{MaskUp, mask_up_start, mask_up_root, mask_up_on, mask_up_end}
+use native.Mathlib.Omega.{arith}
+use borrow.Author.Rules.{rules}
+use Rattle.services.proofs.who.up_from.Goals as goal
+
+pub loop-left-init : goal.loop-left-init
+loop-left-init c = mask_up_start c.requires
+
+pub returns-then-q-eq0 : goal.returns-then-q-eq0
+returns-then-q-eq0 c = mask_up_root c.loop-left.invariant c.if-q-eq0.true
+
+pub header-h-requires : goal.header-h-requires
+header-h-requires c = c.loop-left.invariant.small
+
+pub one_partition-mask-requires : goal.one_partition-mask-requires
+one_partition-mask-requires c = c.loop-left.invariant.small
+
+pub loop-left-preserved : goal.loop-left-preserved
+loop-left-preserved c =
+    let parent = c.header-h.ensures in
+    mask_up_on c.loop-left.invariant c.if-q-eq0.false (omega arith) parent.parent parent.parent_small c.one_partition-mask.ensures
+
+pub returns : goal.returns
+returns c = mask_up_end c.loop-left.invariant (omega arith)

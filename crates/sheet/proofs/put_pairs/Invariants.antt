@@ -1,0 +1,17 @@
+use mathlib.Core.Path.{refl, sym, ◌∙◌}
+use Prim.Native.Nat.{◌*◌, ◌-◌, ◌≤◌}
+use Rattle.loops.specs.Loops.{Filling}
+use Rattle.tables.specs.View.{view}
+use Rattle.memory.specs.Bytes.{byte_of}
+use Rattle.sheetrules.specs.Sheet.{sheet_of}
+use Rattle.sheetrules.specs.Laws.Bytes.{pair_sheet, sheet_start, sheet_on, sheet_end}
+use Rattle.summing.specs.Laws.Written.{children_few, with_children}
+use native.Mathlib.Omega.{arith}
+use borrow.Author.Rules.{rules}
+use Rattle.sheet.proofs.put_pairs.Given as goal
+
+abbrev pub invariant-loop-p : goal.invariant-loop-p
+invariant-loop-p l = (l.p ≤ 16) × Filling (λ k x. byte_of (sheet_of (view l.t)) k) l.initial.sheet 256 (16 * l.p) l.sheet
+
+abbrev pub decreases-loop-p : goal.decreases-loop-p
+decreases-loop-p l = 16 - l.p
