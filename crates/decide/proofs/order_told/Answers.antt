@@ -34,7 +34,7 @@ partitions_sound-requires c =
         shaped = formed_shaped _ (passed c.is_formed.ensures (ap not c.if-not-is_formed.false));
         s6 = passed c.arrange.ensures.says (ap not c.if-not-arrange.false);
         orders = c.arrange.ensures.orders c.if-not-arrange.false;
-        marked = Marked-All.mark-all.ensures.on c.if-not-mark_all.false;
+        marked = c.mark_all.ensures.on c.if-not-mark_all.false;
       },
     )
 
@@ -45,5 +45,5 @@ returns c =
       shaped = formed_shaped _ is;
       s6 = passed c.arrange.ensures.says (ap not c.if-not-arrange.false);
       orders = c.arrange.ensures.orders c.if-not-arrange.false;
-      marked = Marked-All.mark-all.ensures.on c.if-not-mark_all.false;
+      marked = c.mark_all.ensures.on c.if-not-mark_all.false;
     }) c.partitions_sound.ensures

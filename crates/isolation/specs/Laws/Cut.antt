@@ -20,7 +20,7 @@ use Rattle.isolation.specs.Laws.Checks.{FreeEntry, free_answers, unset_means, fr
 use Rattle.isolation.specs.Ladders.{FreeSlot, cut_ladder}
 use Rattle.isolation.specs.Laws.Keep.{still}
 use Rattle.isolation.specs.Laws.Slots.{Fine, AroundStays, EntryCame, slots_core, around_stays, part_fine, old_fine, old_came, came_equal}
-use Rattle.isolation.specs.Laws.Written.{first_at, stays_at, given_stays, closed_stays}
+use Rattle.isolation.specs.Laws.Written.{first_at_law, stays_at, given_stays, closed_stays}
 
 -- what checks 4, 5, 6 (entry), 7 (from, to), 8 (slot) and 18 (plain) say
 pub record CutOk (k : K) (s n m : ℕ) (e : Entry) : Type 0 where
@@ -41,7 +41,7 @@ module _ {k : K} {s n m : ℕ} {e : Entry} (h : Core k) (ok : CutOk k s n m e) w
   inv = two_from k.slot k.current s _ k.current n _
 
   at_s : new k.current s ≡ some (ending_at e m)
-  at_s = first_at ok.entry ok.slot _ _
+  at_s = first_at_law ok.entry ok.slot _ _
 
   at_n : new k.current n ≡ some (starting_at e m)
   at_n = two_second k.slot k.current s _ k.current n _

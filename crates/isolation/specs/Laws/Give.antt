@@ -19,7 +19,7 @@ use Rattle.isolation.specs.Laws.Checks.{FreeEntry, free_answers, unset_means, is
 use Rattle.isolation.specs.Ladders.{FreeSlot, give_ladder}
 use Rattle.isolation.specs.Laws.Keep.{child_other, still}
 use Rattle.isolation.specs.Laws.Slots.{Fine, AroundStays, EntryCame, slots_core, around_stays, part_fine, old_fine, old_came, came_equal}
-use Rattle.isolation.specs.Laws.Written.{first_at, stays_at, given_stays, closed_stays}
+use Rattle.isolation.specs.Laws.Written.{first_at_law, stays_at, given_stays, closed_stays}
 use Rattle.isolation.specs.Laws.Settled.{right_loads, settle_right}
 use Rattle.isolation.specs.Ladder.{Answers, finished, Ends}
 use Rattle.isolation.specs.Laws.Ladder.{ends, check_answers, lowest_answers}
@@ -43,7 +43,7 @@ module _ {k : K} {c s n : ℕ} {r : Rights} {e : Entry} (mark : Bool) (h : Core 
   inv = two_from k.slot k.current s _ c n _
 
   at_s : new k.current s ≡ some (given_to e c)
-  at_s = first_at ok.entry ok.slot _ _
+  at_s = first_at_law ok.entry ok.slot _ _
 
   at_n : new c n ≡ some (range_of e r mark)
   at_n = two_second k.slot k.current s _ c n _

@@ -14,8 +14,8 @@ module _ {k : K} {s q n : ℕ} {e : Entry} (a : FreeEntry k s e) (b : FreeSlot k
   new = two k.slot k.current s x q n y
 
   -- the two slots differ
-  pub first_at : new k.current s ≡ x
-  first_at = two_first k.slot k.current s x q n y (λ z. not_none (k.slot q n) b.empty (rw (z.0, z.1) at a.at))
+  pub first_at_law : new k.current s ≡ x
+  first_at_law = two_first k.slot k.current s x q n y (λ z. not_none (k.slot q n) b.empty (rw (z.0, z.1) at a.at))
 
   -- all but slot s stay ..
   pub stays_at : (p i : ℕ) (f : Entry) → k.slot p i ≡ some f → ((p ≡ k.current) × (i ≡ s) → ⊥) → Has new p f

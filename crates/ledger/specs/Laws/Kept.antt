@@ -183,7 +183,7 @@ module _ {base end : ℕ} where
   pub after_kept : {board : Board} {l : List ℕ} → Good board l → {g : Ledger} → Keeps base end g (view l).k → (ws : List ℕ) → Keeps base end (kept_on board l g ws) (view (after_all board l ws)).k
   unfolding kept_on after_all apply noted event_of outcome_of words_after caller_of
   after_kept h s [] = s
-  after_kept {board} {l} h {g} s (w ∷ ws) = let (a, b) = one (call_on board l w) refl in after_kept a b ws
+  after_kept {board} {l} h {g} s (w ∷ ws) = let (a, b) = one (call_on board l w) refl in after_kept {l = words_after l (call_on board l w)} a b ws
     where
       one : (r : Result) → call_on board l w ≡ r
           → Good board (words_after l r) × Keeps base end (noted w (caller_of board l) (outcome_of r) (lines_named board l w) g) (view (words_after l r)).k

@@ -133,8 +133,8 @@ pub seen_area_one : {l : List ℕ} {p j : ℕ} {f g : StructureFields} → SeenA
 seen_area_one x y = x.is ∙ sym y.is
 
 -- ── the word of slot i of p ──
-pub word_of : (l : List ℕ) (p i : ℕ) → CanRead l p i → slot_word_at l p i ≡ slot_word ((view l).k.slot p i) ((view l).opened p i)
-word_of l p i h = ((canon_spells h.canon).at p h.in_p).slot i h.in_i
+pub word_of_law : (l : List ℕ) (p i : ℕ) → CanRead l p i → slot_word_at l p i ≡ slot_word ((view l).k.slot p i) ((view l).opened p i)
+word_of_law l p i h = ((canon_spells h.canon).at p h.in_p).slot i h.in_i
 
 -- whom slot i of p is given to, which was read as f
 module _ {l : List ℕ} {p i : ℕ} {f : SlotFields} (seen : Seen l p i f) where

@@ -54,9 +54,12 @@ module _ {up : ℕ → ℕ} where
   near_up (inl (below n u)) = inl u
   near_up (inr a) = inr (above_up a)
 
+  near_over : {b y x : ℕ} → Above up y x → Near up b x → Near up b y
+  near_over {b} (itself z) n = subst (Near up b) z n
+  near_over {b} {y} (higher {x} a) n = near_over {b} {y} {up x} a (near_up n)
+
   near_above : {b x y : ℕ} → Above up y x → Near up b x → Near up b y
-  near_above {b} (itself z) n = subst (Near up b) z n
-  near_above (higher a) n = near_above a (near_up n)
+  near_above a n = near_over a n
 
 -- ── who is outside the branch of b ──
 -- its parent, its areas and its entries are as they were

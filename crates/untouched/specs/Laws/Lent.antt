@@ -30,7 +30,7 @@ use Rattle.isolation.specs.Laws.Keep.{given_child, Has}
 use Rattle.isolation.specs.Laws.Lent.{own_stays, take_whole_done}
 use Rattle.isolation.specs.Laws.Switch.{switch_done}
 use Rattle.isolation.specs.Laws.Two.{two_second}
-use Rattle.isolation.specs.Laws.Written.{first_at}
+use Rattle.isolation.specs.Laws.Written.{first_at_law}
 use Rattle.untouched.specs.Untouched.{Within, Outside}
 use Rattle.untouched.specs.Lent.{LentBack}
 use Rattle.untouched.specs.Laws.Theorem.{up_present, call_left, after_left}
@@ -130,7 +130,7 @@ give_lends {board} {l} g w five marked {v} {t = t} y =
     let r = h.core.s5_range (view l).k.current f.slot.0 e ok.entry.at in
     rw (y, view_encode t (right_fit (call_right board l w g.small y)), q) (record {
       e = given_to e f.partition.0;
-      at = first_at ok.entry ok.slot _ _;
+      at = first_at_law ok.entry ok.slot _ _;
       given = refl;
       other = ok.child.other;
       i = v;

@@ -1,11 +1,11 @@
 -- src/kept.rt, put_set: now sheet.exit ≡ put_those (names set) (view t) sheet
 use mathlib.Core.Path.{sym, ◌∙◌}
-use mathlib.Core.Logic.{⊎_elim}
 use Rattle.tables.specs.View.{view}
 use Rattle.summing.specs.Laws.Written.{children_few}
 use Rattle.sheet.specs.Laws.Those.{pair_with, Putting, put_start, put_within, put_on, put_skip, put_end}
 use native.Mathlib.Omega.{arith}
 use Rattle.sheet.proofs.kept.put_set.Goals as goal
+use Rattle.sheet.proofs.kept.put_set.Goals.{then-left-eq1, else-left-eq1}
 
 pub loop-left-init : goal.loop-left-init
 loop-left-init c = put_start c.requires.2
@@ -31,10 +31,10 @@ pub loop-left-preserved : goal.loop-left-preserved
 loop-left-preserved c =
     let asked = c.requires in
     let small = put_within asked.0 c.loop-left.invariant (λ y. omega arith) in
-    ⊎_elim
-    (λ z. rw z.6 (put_on asked.0 c.loop-left.invariant (λ y. omega arith) z.0.taken (pair_with asked.3 _ _ (z.1.ensures ∙ asked.1.at _ small) z.3.ensures)))
-    (λ z. rw z.1 (put_skip asked.0 c.loop-left.invariant (λ y. omega arith) z.0.left))
-    c.if-left-eq1.branch
+    elim c.if-left-eq1.branch [
+      then-left-eq1 w ↦ rw w.sheet-is (put_on asked.0 c.loop-left.invariant (λ y. omega arith) w.if-left-eq1.true (pair_with asked.3 _ _ (w.mask_of-children.ensures ∙ asked.1.at _ small) w.put_pair.ensures))
+    | else-left-eq1 w ↦ rw w.sheet-is (put_skip asked.0 c.loop-left.invariant (λ y. omega arith) w.if-left-eq1.false)
+    ]
 
 pub shape_of-sheet : goal.shape_of-sheet
 shape_of-sheet c = c.loop-left.invariant.filled.size ∙ sym c.requires.2
