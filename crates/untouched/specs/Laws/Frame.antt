@@ -56,7 +56,7 @@ module _ {up : ℕ → ℕ} where
 
   near_over : {b y x : ℕ} → Above up y x → Near up b x → Near up b y
   near_over {b} (itself z) n = subst (Near up b) z n
-  near_over {b} {y} (higher {x} a) n = near_over {b} {y} {up x} a (near_up n)
+  near_over {b} {y} (higher {p} a) n = near_over {x = up p} a (near_up n)
 
   near_above : {b x y : ℕ} → Above up y x → Near up b x → Near up b y
   near_above a n = near_over a n

@@ -1,0 +1,23 @@
+-- src/lib.rt, serve_word: CallAnswers board t word r t'
+use mathlib.Core.Path.{sym, ◌∙◌}
+use Rattle.sound.specs.Laws.List.{sound_means}
+use Rattle.sound.specs.Laws.Whole.{sound_right}
+use Rattle.sound.specs.Laws.Canonical.{sound_canon}
+use Rattle.rules.specs.Laws.Calls.{read_small, answers_served, answers_unread}
+use borrow.Author.Rules.{rules}
+use Rattle.calls.proofs.serve_word.Goals as goal
+
+pub changed_by-changed-requires : goal.changed_by-changed-requires
+changed_by-changed-requires c = (c.first-first.ensures.current, c.first-first.ensures.current_small, read_small _ (sym c.read-read.ensures ∙ c.in-Fields.is))
+
+pub serve-outcome-requires : goal.serve-outcome-requires
+serve-outcome-requires c =
+    let h = (sound_means _ _).0 c.requires in
+    let canon = sound_canon c.fits.ensures h in
+    (canon, read_small _ (sym c.read-read.ensures ∙ c.in-Fields.is), sound_right canon h)
+
+pub returns-in-Fields : goal.returns-in-Fields
+returns-in-Fields c = answers_served _ _ _ c.requires c.first-first.ensures.current (sym c.read-read.ensures ∙ c.in-Fields.is) c.serve-outcome.ensures c.either-stands.ensures c.changed_by-changed.ensures
+
+pub returns-in-Refused : goal.returns-in-Refused
+returns-in-Refused c = answers_unread _ _ _ c.requires c.first-first.ensures.current (sym c.read-read.ensures ∙ c.in-Refused.is)

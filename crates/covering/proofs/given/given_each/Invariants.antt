@@ -1,0 +1,18 @@
+use mathlib.Core.Path.{ap, sym, ◌∙◌}
+use mathlib.Core.Bool.{not}
+use Prim.Native.Nat.{◌-◌}
+use Rattle.loops.specs.Laws.Scan.{seek_start, seek_hit, seek_on}
+use Rattle.loops.specs.Laws.Every.{Passing}
+use Rattle.tables.specs.View.{view}
+use Rattle.covering.specs.Cover.{given_slot}
+use Rattle.covering.specs.Laws.Given.{given_each_is, given_empty}
+use Rattle.ordering.specs.Laws.Used.{seek_bound}
+use native.Mathlib.Omega.{arith}
+use borrow.Author.Rules.{rules}
+use Rattle.covering.proofs.given.given_each.Given as goal
+
+abbrev pub invariant-loop-i : goal.invariant-loop-i
+invariant-loop-i l = Passing (given_slot (view l.t) l.p.0) 32 l.i
+
+abbrev pub decreases-loop-i : goal.decreases-loop-i
+decreases-loop-i l = l.used - l.i

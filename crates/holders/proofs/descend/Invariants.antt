@@ -1,0 +1,14 @@
+use mathlib.Core.Path.{refl, sym, ◌∙◌}
+use native.Mathlib.Omega.{arith}
+use borrow.Author.Rules.{rules}
+use Rattle.tables.specs.View.{view}
+use Rattle.tables.specs.Laws.Answers.{looked_count}
+use Rattle.sound.specs.Laws.Holders.{deepest_here, deepest_last}
+use Rattle.sound.specs.Laws.Looks.{Descending, looks_descent_room, looks_descent_down, looks_descent_here, looks_descent_last}
+use Rattle.holders.proofs.descend.Given as goal
+
+abbrev pub invariant-loop-left : goal.invariant-loop-left
+invariant-loop-left l = Descending (view l.t).k l.l.0 l.p.0 l.left l.count
+
+abbrev pub decreases-loop-left : goal.decreases-loop-left
+decreases-loop-left l = l.left

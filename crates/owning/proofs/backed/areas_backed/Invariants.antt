@@ -1,0 +1,17 @@
+use mathlib.Core.Path.{ap, sym, ◌∙◌}
+use mathlib.Core.Bool.{not}
+use Prim.Native.Nat.{◌-◌, ◌<◌}
+use borrow.Author.Tests.{not-true}
+use Rattle.loops.specs.Laws.Every.{Passing, fail_of}
+use Rattle.loops.specs.Laws.Scan.{seek_start, seek_hit, seek_on, seek_end}
+use Rattle.tables.specs.View.{view}
+use Rattle.sound.specs.Clauses.{s8_backed}
+use native.Mathlib.Omega.{arith}
+use borrow.Author.Rules.{rules}
+use Rattle.owning.proofs.backed.areas_backed.Given as goal
+
+abbrev pub invariant-loop-j : goal.invariant-loop-j
+invariant-loop-j l = (0 < l.j) × Passing (s8_backed (view l.t).k l.p.0) 5 l.j
+
+abbrev pub decreases-loop-j : goal.decreases-loop-j
+decreases-loop-j l = 5 - l.j

@@ -1,0 +1,7 @@
+-- src/backed.rt, has_equal: r ≡ equals (view t).k q.0 (area_between lo.0 hi.0)
+use Rattle.owning.specs.Laws.Backed.{equal_is}
+use borrow.Author.Rules.{rules}
+use Rattle.owning.proofs.backed.has_equal.Goals as goal
+
+pub returns : goal.returns
+returns c = equal_is _ _ _ c.equal_slot.ensures

@@ -1,0 +1,17 @@
+use mathlib.Core.Path.{ap, sym, ◌∙◌}
+use mathlib.Core.Bool.{not, ◌||◌}
+use Prim.Native.Nat.{◌-◌, ◌/◌, ◌%◌}
+use native.Mathlib.Omega.{arith}
+use Rattle.loops.specs.Laws.Every.{Passing}
+use Rattle.loops.specs.Laws.Scan.{seek_start, seek_hit, seek_on, seek_end}
+use lib.Dec.{ltb}
+use Rattle.tables.specs.View.{view}
+use Rattle.tables.specs.Settle.{apart}
+use borrow.Author.Rules.{rules}
+use Rattle.owning.proofs.none_later.Given as goal
+
+abbrev pub invariant-loop-n : goal.invariant-loop-n
+invariant-loop-n l = Passing (λ k. not (ltb l.m k) || apart ((view l.t).k.area (k / 5) (k % 5)) l.lo.0 l.hi.0) 80 l.n
+
+abbrev pub decreases-loop-n : goal.decreases-loop-n
+decreases-loop-n l = 80 - l.n
