@@ -1,0 +1,28 @@
+-- src/lib.rt, check_eight: SlotsChecked t p.0 (8 * j) (slots_test t (view t).k p.0 j) r
+use mathlib.Core.Path.{sym, ◌∙◌}
+use borrow.Author.Tests.{not-false}
+use Rattle.tables.specs.View.{view}
+use Rattle.summing.specs.Sums.{Adding}
+use Rattle.summing.specs.Laws.Sums.{adding_at}
+use Rattle.comparing.specs.Laws.Once.{SlotsFrom, slots_start, slots_on, slots_fail, slots_done, checked_fails, checked_all, structure_of_law}
+use native.Mathlib.Omega.{arith}
+use borrow.Author.Rules.{rules}
+use Rattle.comparing.proofs.check_eight.Goals as goal
+
+pub loop-i-init : goal.loop-i-init
+loop-i-init c = (slots_start _ _ _, c.requires.3)
+
+pub check_slot-y-requires : goal.check_slot-y-requires
+check_slot-y-requires c = let asked = c.requires in (asked.0, omega arith, structure_of_law _ asked.2 (omega (arith, c.loop-i.invariant.0.below)), c.loop-i.invariant.1)
+
+pub returns-then-not-y : goal.returns-then-not-y
+returns-then-not-y c = checked_fails c.check_slot-y.ensures c.if-not-y.true (slots_fail _ _ c.loop-i.invariant.0 (omega arith))
+
+pub loop-i-preserved : goal.loop-i-preserved
+loop-i-preserved c =
+    let turn = c.loop-i in
+    let holds = not-false _ c.if-not-y.false in
+    (slots_on _ _ turn.invariant.0 (omega arith) (omega arith) (sym c.check_slot-y.ensures.says ∙ holds), adding_at _ _ (omega arith) (c.check_slot-y.ensures.sums holds))
+
+pub returns : goal.returns
+returns c = let turn = c.loop-i in checked_all (slots_done _ _ turn.invariant.0 (omega arith)) (adding_at _ _ (omega (arith, turn.invariant.0.within)) turn.invariant.1)

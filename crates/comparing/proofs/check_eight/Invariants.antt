@@ -1,0 +1,15 @@
+use mathlib.Core.Path.{sym, ◌∙◌}
+use borrow.Author.Tests.{not-false}
+use Rattle.tables.specs.View.{view}
+use Rattle.summing.specs.Sums.{Adding}
+use Rattle.summing.specs.Laws.Sums.{adding_at}
+use Rattle.comparing.specs.Laws.Once.{SlotsFrom, slots_start, slots_on, slots_fail, slots_done, checked_fails, checked_all, structure_of_law}
+use native.Mathlib.Omega.{arith}
+use borrow.Author.Rules.{rules}
+use Rattle.comparing.proofs.check_eight.Given as goal
+
+abbrev pub invariant-loop-i : goal.invariant-loop-i
+invariant-loop-i l = SlotsFrom l.t l.p.0 l.j l.i × Adding (view l.t) l.p.0 l.i l.sums
+
+abbrev pub decreases-loop-i : goal.decreases-loop-i
+decreases-loop-i l = l.i

@@ -1,0 +1,20 @@
+-- src/lib.rt, check_slot: SlotsChecked t p.0 (i - 1) (s5_slot t (view t).k p.0 (i - 1)) r
+use mathlib.Core.Path.{sym, ◌∙◌, ap}
+use borrow.Author.Tests.{not-false}
+use Rattle.comparing.specs.Laws.Once.{slot_ranged, checked_refused, checked_passed}
+use native.Mathlib.Omega.{arith}
+use borrow.Author.Rules.{rules}
+use mathlib.Core.Bool.{not}
+use Rattle.comparing.proofs.check_slot.Goals as goal
+
+pub slot_sound-requires : goal.slot_sound-requires
+slot_sound-requires c = (c.requires.0, omega (arith, c.requires.1, c.requires.3.slots.within), c.requires.2)
+
+pub returns-then-not-slot_sound : goal.returns-then-not-slot_sound
+returns-then-not-slot_sound c = checked_refused c.slot_sound.ensures (ap not c.if-not-slot_sound.true)
+
+pub add_slot-sums-requires : goal.add_slot-sums-requires
+add_slot-sums-requires c = let asked = c.requires in (asked.0, asked.1, asked.3, slot_ranged _ _ _ (sym c.slot_sound.ensures ∙ c.if-not-slot_sound.false))
+
+pub returns : goal.returns
+returns c = checked_passed c.slot_sound.ensures (ap not c.if-not-slot_sound.false) c.add_slot-sums.ensures

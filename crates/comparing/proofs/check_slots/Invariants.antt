@@ -1,0 +1,16 @@
+use mathlib.Core.Path.{sym, ◌∙◌}
+use Prim.Native.Nat.{◌*◌}
+use borrow.Author.Tests.{not-false}
+use Rattle.tables.specs.View.{view}
+use Rattle.summing.specs.Sums.{Adding}
+use Rattle.summing.specs.Laws.Sums.{adding_start, adding_at}
+use Rattle.comparing.specs.Laws.Once.{StructuresFrom, structures_start, structures_on, structures_fail, structures_done, checked_fails, checked_all}
+use native.Mathlib.Omega.{arith}
+use borrow.Author.Rules.{rules}
+use Rattle.comparing.proofs.check_slots.Given as goal
+
+abbrev pub invariant-loop-j : goal.invariant-loop-j
+invariant-loop-j l = StructuresFrom l.t l.p.0 l.j × Adding (view l.t) l.p.0 (8 * l.j) l.sums
+
+abbrev pub decreases-loop-j : goal.decreases-loop-j
+decreases-loop-j l = l.j
