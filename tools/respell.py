@@ -21,7 +21,7 @@ DASH = re.compile(r"(?<=[\w'₀-₉])-(?=[\w'])")
 HUMP = re.compile(r"(?<=[a-z0-9])[A-Z]")
 USE = re.compile(r"^(?:pub |ghost )*use ([^\s{]+)\.\{([^}]*)\}", re.M)
 # What the code of a function proves, and what Rattle calls it
-MADE = re.compile(r"^(?:loop|if|then|else|returns|match|overflow|After|Then|Else|Need|Start)[\d-]|^(?:invariant|measure)-")
+MADE = re.compile(r"^(?:loop|returns|match|overflow|After|Need|Start)[\d-]|^(?:invariant|measure)-|^(?:if|then|else)\d")
 
 
 def snake(name):

@@ -20,7 +20,7 @@ use Rattle.sound.specs.Laws.List.{sound_means}
 use Rattle.sound.specs.Laws.Core.{sound_core, backed_s8}
 use Rattle.sound.specs.Laws.Grants.{core_grants}
 use Rattle.sound.specs.Laws.Local.{MarkedOnce, LocalOpen, marked_apart, s9_local, local_s9}
-use Rattle.sound.specs.Laws.MeansEntries.{else-true, present_means, child_means}
+use Rattle.sound.specs.Laws.MeansEntries.{else_true, present_means, child_means}
 use Rattle.sound.specs.Laws.MeansAreas.{s8_means}
 use Rattle.sound.specs.Laws.MeansRegions.{s9_means}
 use Rattle.shape.specs.AtOnce.{rest_at, Shaped}
@@ -56,7 +56,7 @@ module _ (board : Board) {l m : List ℕ} (size : length l ≡ 641) (first : s1 
 
     given_each : (p : ℕ) → s7_given k p ≡ true
     unfolding s7_given
-    given_each p = every_true 32 (λ i e. eqb e.given 0 || child k p e.given) (k.slot p) (λ i e b u. else-true (eqb e.given 0) (child k p e.given) (λ z.
+    given_each p = every_true 32 (λ i e. eqb e.given 0 || child k p e.given) (k.slot p) (λ i e b u. else_true (eqb e.given 0) (child k p e.given) (λ z.
         (right_at p i e u).given (λ w. z (eq-eqb e.given 0 w))))
 
     whole_each : (p : ℕ) → s7_whole (view l) p ≡ true

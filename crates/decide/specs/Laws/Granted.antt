@@ -14,7 +14,7 @@ use Rattle.sound.specs.Clauses.{s3, s4, s5, s6, s7_given, s7_inside, s7_cover}
 use Rattle.sound.specs.Laws.Tests.{and_says, every_says}
 use Rattle.sound.specs.Laws.Grants.{Grants}
 use Rattle.sound.specs.Laws.Local.{RootAreas, given_clear}
-use Rattle.sound.specs.Laws.MeansEntries.{else-says, present_means, child_means, slots32, owner_present, inside_means, cover_means, s6_means}
+use Rattle.sound.specs.Laws.MeansEntries.{else_says, present_means, child_means, slots32, owner_present, inside_means, cover_means, s6_means}
 use Rattle.sound.specs.Laws.MeansWords.{s2_means, s4_means, s5_means}
 use Rattle.shape.specs.AtOnce.{Shaped}
 use Rattle.shape.specs.Laws.AtOnce.{shaped_s2, shaped_record, shaped_s5}
@@ -54,7 +54,7 @@ module _ {l : List ℕ} (shaped : Shaped l) (apart : all 16 (s6 (view l).k) ≡ 
   unfolding s7_given
   given p i e u n =
       let x = every_says 32 (λ i e. eqb e.given 0 || child k p e.given) (k.slot p) (seven p (owns shaped p i e u)).children i e (slot_bounds l p i e u).1 u in
-      let (a, _, z) = (child_means k p e.given).0 (else-says (eqb e.given 0) (child k p e.given) x (λ z. n (eqb-true e.given 0 z))) in
+      let (a, _, z) = (child_means k p e.given).0 (else_says (eqb e.given 0) (child k p e.given) x (λ z. n (eqb-true e.given 0 z))) in
       (a, z)
 
   exact_at : (p : ℕ) → (p ≡ 0 → ⊥) → Present k p → (s7_inside k p ≡ true) × (s7_cover k p ≡ true)

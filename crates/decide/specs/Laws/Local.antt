@@ -15,7 +15,7 @@ use Rattle.tables.specs.Laws.View.{slot_bounds}
 use Rattle.tables.specs.Search.{child, present}
 use Rattle.sound.specs.Sound.{Around}
 use Rattle.sound.specs.Clauses.{when, undivided, s10, s11}
-use Rattle.sound.specs.Laws.Tests.{and_says, and_true, then-says, then-true, every_says, every_true}
+use Rattle.sound.specs.Laws.Tests.{and_says, and_true, then_says, then_true, every_says, every_true}
 use Rattle.sound.specs.Laws.MeansRegions.{beq_means}
 use Rattle.decide.specs.Entries.{exactly}
 use Rattle.marking.specs.Marking.{slot_marked}
@@ -31,10 +31,10 @@ module _ (l : List ℕ) (p : ℕ) where
   unfolding open_inside
   open_inside_means f = (
     λ q i e u o.
-        then-says (lies f e) ((view l).opened p i)
+        then_says (lies f e) ((view l).opened p i)
         (every_says 32 (λ i e. not (lies f e) || (view l).opened p i) ((view l).k.slot p) q i e (slot_bounds l p i e u).1 u)
         (and_true _ _ (le-leb _ _ o.from) (le-leb _ _ o.to)),
-    λ h. every_true 32 (λ i e. not (lies f e) || (view l).opened p i) ((view l).k.slot p) (λ i e b u. then-true (lies f e) ((view l).opened p i) (λ z.
+    λ h. every_true 32 (λ i e. not (lies f e) || (view l).opened p i) ((view l).k.slot p) (λ i e b u. then_true (lies f e) ((view l).opened p i) (λ z.
         let (x, y) = and_says (leb f.start e.start) (leb e.stop f.stop) z in
         h i e u (record { from = leb-true _ _ x; to = leb-true _ _ y }))),
   )
@@ -51,11 +51,11 @@ module _ (l : List ℕ) (p : ℕ) where
   unfolding grants_open
   grants_open_means n = rw (ne_eqb p 0 n) (
     λ q j f u g.
-        let w = then-says (eqb f.given p) (as_open j f) (every_says 32 (λ j f. not (eqb f.given p) || as_open j f) ((view l).k.slot up) q j f (slot_bounds l up j f u).1 u) (eq-eqb _ _ g) in
+        let w = then_says (eqb f.given p) (as_open j f) (every_says 32 (λ j f. not (eqb f.given p) || as_open j f) ((view l).k.slot up) q j f (slot_bounds l up j f u).1 u) (eq-eqb _ _ g) in
         let e = (beq_means ((view l).opened up j) (open_inside (view l) p f)).0 w in
         let (to, back) = open_inside_means f in
         (λ z. to (sym e ∙ z), λ h. e ∙ back h),
-    λ h. every_true 32 (λ j f. not (eqb f.given p) || as_open j f) ((view l).k.slot up) (λ j f b u. then-true (eqb f.given p) (as_open j f) (λ g.
+    λ h. every_true 32 (λ j f. not (eqb f.given p) || as_open j f) ((view l).k.slot up) (λ j f b u. then_true (eqb f.given p) (as_open j f) (λ g.
         let (x, y) = h j f u (eqb-true _ _ g) in
         let (to, back) = open_inside_means f in
         (beq_means ((view l).opened up j) (open_inside (view l) p f)).1 (bool_ext _ _ (λ z. back (x z)) (λ z. y (to z))))),
@@ -91,11 +91,11 @@ module _ (b : Board) (t : Table) (m : List ℕ) (p : ℕ) where
   -- ── where p is present ──
   pub where_says : local_where b t m p ≡ true → present t.k p ≡ true → local_at b t m p ≡ true
   unfolding local_where
-  where_says q n = then-says (present t.k p) (local_at b t m p) q n
+  where_says q n = then_says (present t.k p) (local_at b t m p) q n
 
   pub where_true : (present t.k p ≡ true → local_at b t m p ≡ true) → local_where b t m p ≡ true
   unfolding local_where
-  where_true f = then-true (present t.k p) (local_at b t m p) f
+  where_true f = then_true (present t.k p) (local_at b t m p) f
 
 -- ── one entry ──
 module _ (t : Table) (m : List ℕ) (p : ℕ) where
@@ -151,8 +151,8 @@ module _ (b : Board) (t : Table) (p : ℕ) where
 
   pub left_says : left_where b t p ≡ true → present t.k p ≡ true → (covers ≡ true) × (s10 b t p ≡ true)
   unfolding left_where
-  left_says q n = and_says covers (s10 b t p) (then-says (present t.k p) (covers && s10 b t p) q n)
+  left_says q n = and_says covers (s10 b t p) (then_says (present t.k p) (covers && s10 b t p) q n)
 
   pub left_true : (present t.k p ≡ true → (covers ≡ true) × (s10 b t p ≡ true)) → left_where b t p ≡ true
   unfolding left_where
-  left_true f = then-true (present t.k p) (covers && s10 b t p) (λ n. let (x, y) = f n in and_true covers (s10 b t p) x y)
+  left_true f = then_true (present t.k p) (covers && s10 b t p) (λ n. let (x, y) = f n in and_true covers (s10 b t p) x y)

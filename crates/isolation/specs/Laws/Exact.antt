@@ -38,9 +38,9 @@ use Rattle.isolation.specs.Ladders.{Unused, RegionCall, Known, numbered_ladder, 
 
 -- ── 2: fields that a service doesn't use are zero ──
 -- a || b: b where a is false
-else-means : (a : Bool) {b : Bool} {B : Type 0} → (b ≡ true) ↔ B → (a || b ≡ true) ↔ (a ≡ false → B)
-else-means true m = (λ _ q. absurd (true≢false q), λ _. refl)
-else-means false m = (λ q _. m.0 q, λ f. m.1 (f refl))
+else_means : (a : Bool) {b : Bool} {B : Type 0} → (b ≡ true) ↔ B → (a || b ≡ true) ↔ (a ≡ false → B)
+else_means true m = (λ _ q. absurd (true≢false q), λ _. refl)
+else_means false m = (λ q _. m.0 q, λ f. m.1 (f refl))
 
 -- not a || b: b where a is true
 only_means : (a : Bool) {b : Bool} {A B : Type 0} → (a ≡ true) ↔ A → (b ≡ true) ↔ B → (not a || b ≡ true) ↔ (A → B)
@@ -55,11 +55,11 @@ unused_means x f =
     (and_means
     (and_means
     (and_means
-    (and_means (else-means x.p (eq_means f.partition.0 0)) (else-means x.s (eq_means f.slot.0 0)))
-    (else-means x.u (eq_means f.other 0)))
-    (else-means x.r (and_means (and_means (unset_means g.read) (unset_means g.write)) (unset_means g.execute))))
-    (else-means x.l (eq_means f.line.0 0)))
-    (else-means x.w (unset_means f.whole))
+    (and_means (else_means x.p (eq_means f.partition.0 0)) (else_means x.s (eq_means f.slot.0 0)))
+    (else_means x.u (eq_means f.other 0)))
+    (else_means x.r (and_means (and_means (unset_means g.read) (unset_means g.write)) (unset_means g.execute))))
+    (else_means x.l (eq_means f.line.0 0)))
+    (else_means x.w (unset_means f.whole))
 
 region_means : (f : CallFields) → (region_call f ≡ true) ↔ RegionCall f
 unfolding region_call

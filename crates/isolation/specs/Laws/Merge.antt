@@ -13,7 +13,7 @@ use Rattle.sound.specs.Whole.{Right}
 use Rattle.sound.specs.Clauses.{one_grant}
 use Rattle.sound.specs.Laws.Properties.{core_rights}
 use Rattle.sound.specs.Laws.Means.{eq_means, and_means}
-use Rattle.sound.specs.Laws.MeansEntries.{else-says, else-true, one_grant_means}
+use Rattle.sound.specs.Laws.MeansEntries.{else_says, else_true, one_grant_means}
 use Rattle.rules.specs.Rules.{done, unloaded, merge_k, merge}
 use Rattle.isolation.specs.Laws.Two.{From, old, first, second, same_place, two_from, two_first, two_old, two_other}
 use Rattle.isolation.specs.Laws.Checks.{FreeEntry}
@@ -210,8 +210,8 @@ module _ {t : Table} (h : Right t) (s u : ℕ) where
   grant_means : (e f : Entry) → (eqb t.k.current 0 || one_grant t.k t.k.current e f ≡ true) ↔ MayJoin t.k e f
   grant_means e f =
       let m = one_grant_means t.k (λ p i e u. ((right_fit h).slot p i e u).1) t.k.current e f in (
-        λ q n. m.0 (else-says _ _ q (λ z. n (eqb-true _ 0 z))),
-        λ c. else-true _ _ (λ z. m.1 (c (λ q. z (eq-eqb _ 0 q)))),
+        λ q n. m.0 (else_says _ _ q (λ z. n (eqb-true _ 0 z))),
+        λ c. else_true _ _ (λ z. m.1 (c (λ q. z (eq-eqb _ 0 q)))),
       )
 
   pub merge_exact : Answers (merge_ladder t s u) (merge t s u)

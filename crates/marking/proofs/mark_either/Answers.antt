@@ -3,7 +3,7 @@ use mathlib.Core.Path.{refl}
 use native.Mathlib.Omega.{arith}
 use borrow.Author.Rules.{rules}
 use Rattle.marking.specs.Marking.{in_one}
-use Rattle.marking.specs.Laws.Marking.{marks_none, then-other}
+use Rattle.marking.specs.Laws.Marking.{marks_none, then_other}
 use Rattle.marking.proofs.mark_either.Goals as goal
 
 pub returns-then-found-ne0 : goal.returns-then-found-ne0
@@ -13,4 +13,4 @@ pub mark_equal-requires : goal.mark_equal-requires
 mark_equal-requires c = let h = c.requires in let (e, _) = marks_none c.mark_equal-found.ensures c.if-found-ne0.false in (h.1, h.2, rw e h.3)
 
 pub returns : goal.returns
-returns c = then-other c.mark_equal-found.ensures c.if-found-ne0.false c.mark_equal.ensures
+returns c = then_other c.mark_equal-found.ensures c.if-found-ne0.false c.mark_equal.ensures

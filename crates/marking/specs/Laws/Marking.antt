@@ -245,8 +245,8 @@ marks_none (marked i c w y free e) z = absurd (omega arith)
 marks_none (before i c w y taken e) z = absurd (omega arith)
 
 -- .. the other is asked
-pub then-other : {k : K} {one other n x : ℕ} {a : Area} {m m₁ m' : List ℕ} → Marks k one a m n m₁ → n ≡ 0 → Marks k other a m₁ x m' → MarksEither k one other a m (eqb x 1) m'
-then-other {x = x} t z s = let (e, no_entry) = marks_none t z in in_other x refl no_entry (rw (← e) s)
+pub then_other : {k : K} {one other n x : ℕ} {a : Area} {m m₁ m' : List ℕ} → Marks k one a m n m₁ → n ≡ 0 → Marks k other a m₁ x m' → MarksEither k one other a m (eqb x 1) m'
+then_other {x = x} t z s = let (e, no_entry) = marks_none t z in in_other x refl no_entry (rw (← e) s)
 
 -- ── as the code searches ──
 module _ (l : List ℕ) (shaped : Shaped l) where

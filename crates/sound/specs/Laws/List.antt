@@ -8,7 +8,7 @@ use Rattle.loops.specs.Laws.Every.{all_at, all_of}
 use Rattle.shapes.specs.declared.Board.{Board}
 use Rattle.sound.specs.Sound.{Clause, Lower, Sound}
 use Rattle.sound.specs.Clauses.{clause_at, sound}
-use Rattle.sound.specs.Laws.Tests.{and_says, and_true, then-says, then-true}
+use Rattle.sound.specs.Laws.Tests.{and_says, and_true, then_says, then_true}
 use Rattle.sound.specs.Laws.Means.{and_means}
 use Rattle.sound.specs.Laws.MeansWords.{s1_means, s2_means, s3_first_means, s3_means, s4_means, s5_means}
 use Rattle.sound.specs.Laws.MeansEntries.{s6_means, s7_means}
@@ -33,7 +33,7 @@ each_clause P a b c d e f g h i j k (suc (suc (suc (suc (suc (suc (suc (suc (suc
 
 -- a test that is looked at with partition 0
 at_root : (p : ℕ) (b : Bool) {B : Type 0} → (b ≡ true) ↔ B → (not (eqb p 0) || b ≡ true) ↔ (p ≡ 0 → B)
-at_root p b m = (λ q z. m.0 (then-says (eqb p 0) b q (eq-eqb p 0 z)), λ h. then-true (eqb p 0) b (λ x. m.1 (h (eqb-true p 0 x))))
+at_root p b m = (λ q z. m.0 (then_says (eqb p 0) b q (eq-eqb p 0 z)), λ h. then_true (eqb p 0) b (λ x. m.1 (h (eqb-true p 0 x))))
 
 -- S4 needs S2; S7 needs S2 and S5; S9 needs S5
 pub clause_means : (board : Board) (l : List ℕ) (n : ℕ) → 1 ≤ n → n < 12 → Lower board l n → (p : ℕ) → p < 16 → (clause_at board l n p ≡ true) ↔ Clause board l n p

@@ -29,8 +29,8 @@ or_means {a} {b} f g = (
 pub not_means : {a : Bool} {A : Type 0} → (a ≡ true) ↔ A → (not a ≡ true) ↔ (A → ⊥)
 not_means f = (λ q h. not_says _ q (f.1 h), λ n. not_of _ (λ q. n (f.0 q)))
 
-pub if-means : {a b c : Bool} {A B C : Type 0} → (a ≡ true) ↔ A → (b ≡ true) ↔ B → (c ≡ true) ↔ C → (cond a b c ≡ true) ↔ ((A → B) × ((A → ⊥) → C))
-if-means {a} {b} {c} {A} {B} {C} f g h = go a f
+pub if_means : {a b c : Bool} {A B C : Type 0} → (a ≡ true) ↔ A → (b ≡ true) ↔ B → (c ≡ true) ↔ C → (cond a b c ≡ true) ↔ ((A → B) × ((A → ⊥) → C))
+if_means {a} {b} {c} {A} {B} {C} f g h = go a f
   where
     go : (a : Bool) → (a ≡ true) ↔ A → (cond a b c ≡ true) ↔ ((A → B) × ((A → ⊥) → C))
     go true f = (λ q. (λ _. g.0 q, λ n. absurd (n (f.0 refl))), λ k. g.1 (k.0 (f.0 refl)))

@@ -17,9 +17,9 @@ use Rattle.tables.specs.Lines.{InA}
 use Rattle.tables.specs.Settle.{apart}
 use Rattle.sound.specs.Sound.{Rooted, Equals, S8}
 use Rattle.sound.specs.Clauses.{rooted, equals, s8_backed, s8_apart, s8}
-use Rattle.sound.specs.Laws.Tests.{and_says, and_true, or_says, or_left, or_right, then-says, then-true, not_says, not_of, when_says, when_true}
+use Rattle.sound.specs.Laws.Tests.{and_says, and_true, or_says, or_left, or_right, then_says, then_true, not_says, not_of, when_says, when_true}
 use Rattle.sound.specs.Laws.Meets.{apart_means}
-use Rattle.sound.specs.Laws.MeansEntries.{else-says, else-true, Slots32, some_means, slots32}
+use Rattle.sound.specs.Laws.MeansEntries.{else_says, else_true, Slots32, some_means, slots32}
 
 pub rooted_means : (p j : ℕ) → (rooted p j ≡ true) ↔ Rooted p j
 unfolding rooted
@@ -64,8 +64,8 @@ module _ (k : K) (slots : Slots32 k) where
         ⊎_elim
         (λ x. inl ((equals_means (k.parent p) a).0 x))
         (λ x. let (z, e) = and_says (not (eqb j 0)) (equals k p a) x in inr (λ w. not_says (eqb j 0) z (eq-eqb j 0 w), (equals_means p a).0 e))
-        (or_says (equals k (k.parent p) a) _ (when_says _ (k.area p j) (else-says (rooted p j) _ q (λ x. n ((rooted_means p j).0 x))) a u)),
-    λ h. else-true (rooted p j) _ (λ n. when_true _ (k.area p j) (λ a u.
+        (or_says (equals k (k.parent p) a) _ (when_says _ (k.area p j) (else_says (rooted p j) _ q (λ x. n ((rooted_means p j).0 x))) a u)),
+    λ h. else_true (rooted p j) _ (λ n. when_true _ (k.area p j) (λ a u.
         ⊎_elim
         (λ x. or_left _ _ ((equals_means (k.parent p) a).1 x))
         (λ (z, x). or_right (equals k (k.parent p) a) _ (and_true _ _ (not_of (eqb j 0) (λ w. z (eqb-true j 0 w))) ((equals_means p a).1 x)))
@@ -85,9 +85,9 @@ module _ (k : K) (slots : Slots32 k) where
           let d : n / 5 ≡ q = omega arith in
           let e : n % 5 ≡ i = omega arith in
           let f : ℕ → Bool = λ n. not (ltb (5 * p + j) n) || apart (k.area (n / 5) (n % 5)) a.lo a.hi in
-          let y = then-says (ltb (5 * p + j) n) _ (all_at 80 f (when_says _ (k.area p j) x a u) n (omega arith)) (lt-ltb (5 * p + j) n c) in
+          let y = then_says (ltb (5 * p + j) n) _ (all_at 80 f (when_says _ (k.area p j) x a u) n (omega arith)) (lt-ltb (5 * p + j) n c) in
           (apart_means (k.area (n / 5) (n % 5)) a.lo a.hi).0 y b l (rw (d, e) v) t s.from s.to,
-      λ h. when_true _ (k.area p j) (λ a u. all_of 80 _ (λ n _. then-true (ltb (5 * p + j) n) _ (λ z.
+      λ h. when_true _ (k.area p j) (λ a u. all_of 80 _ (λ n _. then_true (ltb (5 * p + j) n) _ (λ z.
           (apart_means (k.area (n / 5) (n % 5)) a.lo a.hi).1
           (λ b l v t x y. h (n / 5) (n % 5) a b l (omega (arith, ltb-true)) u v (record { from = x; to = y }) t)))),
     )

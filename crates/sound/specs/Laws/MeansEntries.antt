@@ -20,20 +20,20 @@ use Rattle.tables.specs.Lines.{In, Holds}
 use Rattle.tables.specs.Search.{is_some, present, child, holds}
 use Rattle.sound.specs.Sound.{Present, Around, Granted, OneGrant, Lends, Undivided, S2, S5, S6, S7}
 use Rattle.sound.specs.Clauses.{when, has, apart_e, s6, held, covered, s7_root, s7_given, grants, s7_inside, s7_cover, lends, undivided, s7_whole, s7, contains_both, one_grant}
-use Rattle.sound.specs.Laws.Tests.{and_says, and_true, then-says, then-true, not_says, when_says, when_true, every_says, every_true, some_says, some_true}
+use Rattle.sound.specs.Laws.Tests.{and_says, and_true, then_says, then_true, not_says, when_says, when_true, every_says, every_true, some_says, some_true}
 use Rattle.sound.specs.Laws.Means.{eq_means, and_means, not_means}
 use Rattle.sound.specs.Laws.Meets.{meets_not}
 use Rattle.sound.specs.Laws.Cover.{Covered, ends_cover, cover_ends}
 
 -- ── forms of tests ──
 -- a || b: b where a fails
-pub else-says : (a b : Bool) → a || b ≡ true → (a ≡ true → ⊥) → b ≡ true
-else-says true b h n = absurd (n refl)
-else-says false b h n = h
+pub else_says : (a b : Bool) → a || b ≡ true → (a ≡ true → ⊥) → b ≡ true
+else_says true b h n = absurd (n refl)
+else_says false b h n = h
 
-pub else-true : (a b : Bool) → ((a ≡ true → ⊥) → b ≡ true) → a || b ≡ true
-else-true true b f = refl
-else-true false b f = f false≢true
+pub else_true : (a b : Bool) → ((a ≡ true → ⊥) → b ≡ true) → a || b ≡ true
+else_true true b f = refl
+else_true false b f = f false≢true
 
 -- not a || not b || c: c where a and b hold
 both_true : (a b c : Bool) → (a ≡ true → b ≡ true → c ≡ true) → not a || not b || c ≡ true
@@ -132,14 +132,14 @@ module _ (k : K) (slots : Slots32 k) where
   unfolding covered
   covered_means p lo hi = (
     λ q l a b.
-        let x = and_says (held k p lo) _ (then-says (ltb lo hi) _ q (lt-ltb lo hi (omega arith))) in
+        let x = and_says (held k p lo) _ (then_says (ltb lo hi) _ q (lt-ltb lo hi (omega arith))) in
         ends_cover k.slot p lo hi (record {
           first = λ _. (held_means p lo).0 x.0;
           next = λ i e u c d. (held_means p e.stop).0 (rw (lt-ltb lo e.stop c, lt-ltb e.stop hi d) at ((every_means _ p).0 x.1 i e u));
         }) l a b,
     λ c.
         let h = cover_ends k.slot p lo hi c in
-        then-true (ltb lo hi) _ (λ z. and_true (held k p lo) _ ((held_means p lo).1 (h.first (ltb-true lo hi z)))
+        then_true (ltb lo hi) _ (λ z. and_true (held k p lo) _ ((held_means p lo).1 (h.first (ltb-true lo hi z)))
         ((every_means _ p).1 (λ i e u. both_true (ltb lo e.stop) (ltb e.stop hi) _
         (λ a b. (held_means p e.stop).1 (h.next i e u (ltb-true lo e.stop a) (ltb-true e.stop hi b)))))),
   )
@@ -191,9 +191,9 @@ module _ (k : K) (slots : Slots32 k) where
   unfolding s7_given
   given_means p = (
     λ q i e u n.
-        let h = (child_means k p e.given).0 (else-says (eqb e.given 0) _ ((every_means _ p).0 q i e u) (λ z. n (eqb-true e.given 0 z))) in
+        let h = (child_means k p e.given).0 (else_says (eqb e.given 0) _ ((every_means _ p).0 q i e u) (λ z. n (eqb-true e.given 0 z))) in
         (h.0, h.2),
-    λ h. (every_means _ p).1 (λ i e u. else-true (eqb e.given 0) _ (λ z.
+    λ h. (every_means _ p).1 (λ i e u. else_true (eqb e.given 0) _ (λ z.
         let n : e.given ≡ 0 → ⊥ = λ w. z (eq-eqb e.given 0 w) in
         let c = h i e u n in
         (child_means k p e.given).1 (c.0, n, c.1))),
@@ -237,9 +237,9 @@ module _ (k : K) (slots : Slots32 k) where
   unfolding s7_cover
   cover_means p = (
     λ q i f u z l x.
-        let c = then-says (eqb f.given p) _ ((every_means _ (k.parent p)).0 q i f u) (eq-eqb f.given p z) in
+        let c = then_says (eqb f.given p) _ ((every_means _ (k.parent p)).0 q i f u) (eq-eqb f.given p z) in
         (covered_means p f.start f.stop).0 c l x.from x.to,
-    λ h. (every_means _ (k.parent p)).1 (λ i f u. then-true (eqb f.given p) _ (λ z.
+    λ h. (every_means _ (k.parent p)).1 (λ i f u. then_true (eqb f.given p) _ (λ z.
         (covered_means p f.start f.stop).1 (λ l a b. h i f u (eqb-true f.given p z) l (record { from = a; to = b })))),
   )
 
@@ -270,8 +270,8 @@ module _ (t : Table) (slots : Slots32 t.k) (p : ℕ) where
   whole_means : (s7_whole t p ≡ true) ↔ ((i : ℕ) (e : Entry) → t.k.slot p i ≡ some e → e.whole ≡ true → Undivided t p i e)
   unfolding s7_whole
   whole_means = (
-    λ q i e u w. (undivided_means i e).0 (then-says e.whole _ (every_says 32 (λ i e. not e.whole || undivided t.k p (t.opened p i) e) (t.k.slot p) q i e (slots p i e u) u) w),
-    λ h. every_true 32 (λ i e. not e.whole || undivided t.k p (t.opened p i) e) (t.k.slot p) (λ i e _ u. then-true e.whole _ (λ w. (undivided_means i e).1 (h i e u w))),
+    λ q i e u w. (undivided_means i e).0 (then_says e.whole _ (every_says 32 (λ i e. not e.whole || undivided t.k p (t.opened p i) e) (t.k.slot p) q i e (slots p i e u) u) w),
+    λ h. every_true 32 (λ i e. not e.whole || undivided t.k p (t.opened p i) e) (t.k.slot p) (λ i e _ u. then_true e.whole _ (λ w. (undivided_means i e).1 (h i e u w))),
   )
 
   -- ── S7, where an owner of an entry is present, and each entry has a line ──
@@ -288,17 +288,17 @@ module _ (t : Table) (slots : Slots32 t.k) (p : ℕ) where
           given = (given_means k slots p).0 x;
           whole = whole_means.0 w;
           inside = λ n i e u.
-              let h = then-says (present k p) _ (other n) ((present_means k p).1 (owner i e u)) in
+              let h = then_says (present k p) _ (other n) ((present_means k p).1 (owner i e u)) in
               (inside_means k slots p).0 (and_says (s7_inside k p) (s7_cover k p) h).0 i e u;
           cover = λ n c.
-              let h = then-says (present k p) _ (other n) ((present_means k p).1 c) in
+              let h = then_says (present k p) _ (other n) ((present_means k p).1 c) in
               (cover_means k slots p).0 (and_says (s7_inside k p) (s7_cover k p) h).1;
         },
     λ h.
         and_true _ _ (and_true _ _ ((given_means k slots p).1 h.given) (whole_means.1 h.whole))
         ((root_or_means p (s7_root k p) _).1 (
           λ z. (root_means k slots p ranged).1 (h.root z),
-          λ n. then-true (present k p) _ (λ c.
+          λ n. then_true (present k p) _ (λ c.
               and_true _ _ ((inside_means k slots p).1 (h.inside n)) ((cover_means k slots p).1 (h.cover n ((present_means k p).0 c)))),
         )),
   )

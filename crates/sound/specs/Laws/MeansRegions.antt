@@ -24,7 +24,7 @@ use Rattle.sound.specs.Sound.{Granted, OneGrant, Sub, S5, S9, S10, S11}
 use Rattle.sound.specs.Clauses.{when, grants, full, within, s9, s10_names, s10_once, s10, s11_within, one_grant, same_rights, s11_equal, s11}
 use Rattle.sound.specs.Laws.Means.{and_means, le_means}
 use Rattle.sound.specs.Laws.MeansEntries.{root_or_means, grants_means, Slots32, every_means, one_grant_means, slots32, is_some_means}
-use Rattle.sound.specs.Laws.Tests.{and_says, and_true, then-says, then-true, not_says, not_of, when_says, when_true, every_says, every_true}
+use Rattle.sound.specs.Laws.Tests.{and_says, and_true, then_says, then_true, not_says, not_of, when_says, when_true, every_says, every_true}
 use Rattle.sound.specs.Laws.Meets.{open_clear}
 
 -- ── S9 ──
@@ -121,8 +121,8 @@ within_means a b = (
   λ q.
       let (s, z) = and_says _ _ q in
       let (x, y) = and_says _ _ s in
-      record { read = then-says _ _ x; write = then-says _ _ y; execute = then-says _ _ z },
-  λ s. and_true _ _ (and_true _ _ (then-true _ _ s.read) (then-true _ _ s.write)) (then-true _ _ s.execute),
+      record { read = then_says _ _ x; write = then_says _ _ y; execute = then_says _ _ z },
+  λ s. and_true _ _ (and_true _ _ (then_true _ _ s.read) (then_true _ _ s.write)) (then_true _ _ s.execute),
 )
 
 pub same_rights_means : (a b : Rights) → (same_rights a b ≡ true) ↔ (a ≡ b)
@@ -139,8 +139,8 @@ module _ (k : K) (slots : Slots32 k) (p : ℕ) where
   inside_mean = (
     λ q i j e f u g.
         let x = (every_means k slots (pair e) (k.parent p)).0 ((every_means k slots each p).0 q i e u) j f g.at in
-        (within_means e.rights f.rights).0 (then-says (grants p e f) _ x ((grants_means p e f).1 (g.given, g.around))),
-    λ h. (every_means k slots each p).1 (λ i e u. (every_means k slots (pair e) (k.parent p)).1 (λ j f v. then-true (grants p e f) _ (λ x.
+        (within_means e.rights f.rights).0 (then_says (grants p e f) _ x ((grants_means p e f).1 (g.given, g.around))),
+    λ h. (every_means k slots each p).1 (λ i e u. (every_means k slots (pair e) (k.parent p)).1 (λ j f v. then_true (grants p e f) _ (λ x.
         let (y, z) = (grants_means p e f).0 x in
         (within_means e.rights f.rights).1 (h i j e f u (record { at = v; given = y; around = z }))))),
   )
@@ -156,7 +156,7 @@ module _ (k : K) (slots : Slots32 k) (p : ℕ) where
   unfolding s11_equal
   equal_mean = (
     λ q i m e f u v g. to q i m e f u v g (ℕ_discrete i m) (dec_lt m i),
-    λ h. every_true 32 each (k.slot p) (λ i e _ u. every_true i (λ _. pair e) (k.slot p) (λ m f _ v. then-true (one_grant k p e f) _ (λ x.
+    λ h. every_true 32 each (k.slot p) (λ i e _ u. every_true i (λ _. pair e) (k.slot p) (λ m f _ v. then_true (one_grant k p e f) _ (λ x.
         (same_rights_means e.rights f.rights).1 (h i m e f u v ((one_grant_means k slots p e f).0 x))))),
   )
     where
@@ -169,7 +169,7 @@ module _ (k : K) (slots : Slots32 k) (p : ℕ) where
       below : s11_equal k p ≡ true → (i m : ℕ) (e f : Entry) → m < i → k.slot p i ≡ some e → k.slot p m ≡ some f → OneGrant k p e f → e.rights ≡ f.rights
       below q i m e f b u v g =
           let x = every_says i (λ _. pair e) (k.slot p) (every_says 32 each (k.slot p) q i e (slots p i e u) u) m f b v in
-          (same_rights_means e.rights f.rights).0 (then-says (one_grant k p e f) _ x ((one_grant_means k slots p e f).1 g))
+          (same_rights_means e.rights f.rights).0 (then_says (one_grant k p e f) _ x ((one_grant_means k slots p e f).1 g))
 
       to : s11_equal k p ≡ true → (i m : ℕ) (e f : Entry) → k.slot p i ≡ some e → k.slot p m ≡ some f → OneGrant k p e f → Dec (i ≡ m) → Dec (m < i)
           → e.rights ≡ f.rights

@@ -21,7 +21,7 @@ use Rattle.tables.specs.Laws.ZeroRecord.{zero_record_means, zero_blanks_mean}
 use Rattle.sound.specs.Clauses.{is_nowhere, long, s1, s2_root, s2_other, s2, blank_region, s3_regions, s3_first, s3, s4_area, s4_absent, s4, s5_slot, s5}
 use Rattle.sound.specs.Laws.MeansEntries.{is_some_means}
 use Rattle.sound.specs.Laws.MeansAreas.{rooted_means}
-use Rattle.sound.specs.Laws.Means.{eq_means, lt_means, le_means, and_means, not_means, if-means, all_means, when_means, has_means}
+use Rattle.sound.specs.Laws.Means.{eq_means, lt_means, le_means, and_means, not_means, if_means, all_means, when_means, has_means}
 
 -- ── words used below ──
 is_nowhere_law : (a : Area) → (is_nowhere a ≡ true) ↔ (a ≡ nowhere)
@@ -53,9 +53,9 @@ module _ (l : List ℕ) (k : K) (p : ℕ) where
   s2_test : (s2 l k p ≡ true) ↔ S2Is
   unfolding s2 s2_root s2_other present
   s2_test =
-      if-means (eq_means p 0)
+      if_means (eq_means p 0)
       (and_means (has_means (k.area p 0) is_nowhere_law) (eq_means (k.parent p) 0))
-      (if-means (is_some_means (k.area p 0))
+      (if_means (is_some_means (k.area p 0))
       (and_means
       (and_means (is_some_means (k.area (k.parent p) 0)) (when_means (k.area p 0) (λ a. not_means (is_nowhere_law a))))
       (reaches_iff k.parent 15 p))
@@ -142,7 +142,7 @@ module _ (l : List ℕ) (k : K) (p : ℕ) where
 
   s4_area_law : (j : ℕ) → (s4_area k p j ≡ true) ↔ AreaIs j
   unfolding s4_area long
-  s4_area_law j = when_means (k.area p j) (λ a. if-means (rooted_means p j) (is_nowhere_law a) (le_means (a.lo + 16) a.hi))
+  s4_area_law j = when_means (k.area p j) (λ a. if_means (rooted_means p j) (is_nowhere_law a) (le_means (a.lo + 16) a.hi))
 
   s4_absent_law : (j : ℕ) → (s4_absent l k p j ≡ true) ↔ AbsentIs j
   unfolding s4_absent
@@ -202,7 +202,7 @@ module _ (l : List ℕ) (k : K) (p : ℕ) where
   s5_test =
       all_means 32 (s5_slot l k p)
       (λ i b.
-      if-means (is_some_means (k.slot p i))
+      if_means (is_some_means (k.slot p i))
       (and_means (is_some_means (k.area p (1 + i / 8))) (when_means (k.slot p i) (λ e. lt_means e.start e.stop)))
       (eq_means _ 0))
 

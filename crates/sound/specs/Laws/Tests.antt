@@ -27,13 +27,13 @@ or_right true b h = refl
 or_right false b h = h
 
 -- not a || b: b where a holds
-pub then-says : (a b : Bool) → not a || b ≡ true → a ≡ true → b ≡ true
-then-says true b h x = h
-then-says false b h x = absurd (false≢true x)
+pub then_says : (a b : Bool) → not a || b ≡ true → a ≡ true → b ≡ true
+then_says true b h x = h
+then_says false b h x = absurd (false≢true x)
 
-pub then-true : (a b : Bool) → (a ≡ true → b ≡ true) → not a || b ≡ true
-then-true true b f = f refl
-then-true false b f = refl
+pub then_true : (a b : Bool) → (a ≡ true → b ≡ true) → not a || b ≡ true
+then_true true b f = f refl
+then_true false b f = refl
 
 pub not_says : (a : Bool) → not a ≡ true → a ≡ true → ⊥
 not_says true h x = false≢true h

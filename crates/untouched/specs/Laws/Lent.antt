@@ -75,7 +75,7 @@ module _ (c : ℕ) (a : Entry) (whole : a.whole ≡ true) where
   calls_kept : {board : Board} {l : List ℕ} → Good board l → (ws : List ℕ) → Within board c l ws → Kept l → Kept (after_all board l ws)
   unfolding Within after_all
   calls_kept g [] _ k = k
-  calls_kept g (w ∷ ws) (u, h) k = calls_kept (next_good g w) ws h (call_kept g w u k)
+  calls_kept {board = board} {l = l} g (w ∷ ws) (u, h) k = calls_kept {l = words_after l (call_on board l w)} (next_good g w) ws h (call_kept g w u k)
 
 -- ── so does what is lent whole ──
 -- the giver's slot is outside the branch

@@ -120,7 +120,7 @@ module _ {b : ℕ} where
   pub after_left : {board : Board} {l : List ℕ} → Good board l → (ws : List ℕ) → Within board b l ws → Left b (view l) (view (after_all board l ws))
   unfolding Within after_all
   after_left g [] h = left_same
-  after_left g (w ∷ ws) (u, h) = left_on (call_left g w u) (after_left (next_good g w) ws h)
+  after_left {board = board} {l = l} g (w ∷ ws) (u, h) = left_on (call_left g w u) (after_left {l = words_after l (call_on board l w)} (next_good g w) ws h)
 
 -- ── of the words ──
 -- a record that is the same has the same words

@@ -14,7 +14,7 @@ use Rattle.tables.specs.Search.{present}
 use Rattle.tables.specs.ZeroRecord.{zero_record}
 use Rattle.memory.specs.Bytes.{words_of}
 use Rattle.sound.specs.Clauses.{clause_at, s3_first, s3, s6, s7_given, s7_whole, s7, s11}
-use Rattle.sound.specs.Laws.Tests.{and_says, and-true}
+use Rattle.sound.specs.Laws.Tests.{and_says, and_true}
 use Rattle.sound.specs.Laws.List.{lower_passed}
 use Rattle.sound.specs.Laws.MeansRegions.{s9_means}
 use Rattle.sound.specs.Sound.{Present, S9}
@@ -124,8 +124,8 @@ module _ {board : Board} {l : List ℕ} {n : ℕ} (h : Reached board l n) where
   unfolding shape_at clause_at
   reached_shaped b = record {
     at = λ p c.
-        and-true _ _ (tests 2 (omega arith) (omega arith) p c)
-        (and-true _ _ (and-true _ _ (reached_s3 (omega arith) p c) (tests 4 (omega arith) (omega arith) p c)) (tests 5 (omega arith) (omega arith) p c));
+        and_true _ _ (tests 2 (omega arith) (omega arith) p c)
+        (and_true _ _ (and_true _ _ (reached_s3 (omega arith) p c) (tests 4 (omega arith) (omega arith) p c)) (tests 5 (omega arith) (omega arith) p c));
   }
 
   pub reached_s6 : 7 ≤ n → all 16 (s6 (view l).k) ≡ true

@@ -1,0 +1,11 @@
+-- src/bits.rt, clean_at: r ≡ (not (eqb p.0 0) || s3_first t) && s3 t p.0
+use mathlib.Core.Path.{refl}
+use borrow.Author.Tests.{not-true, not-false}
+use borrow.Author.Rules.{rules}
+use Rattle.verdict.proofs.bits.clean_at.Goals as goal
+
+pub returns-then-not-first_clean : goal.returns-then-not-first_clean
+returns-then-not-first_clean c = let f = c.first_clean in rw (← f.ensures, c.if-not-first_clean.true) refl
+
+pub returns : goal.returns
+returns c = let f = c.first_clean in rw (← f.ensures, c.if-not-first_clean.false) c.record_clean.ensures

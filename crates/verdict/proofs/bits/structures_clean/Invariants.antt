@@ -1,0 +1,17 @@
+use mathlib.Core.Path.{ap, sym, ◌∙◌}
+use mathlib.Core.Bool.{not}
+use Prim.Native.Nat.{◌+◌, ◌-◌}
+use native.Mathlib.Omega.{arith}
+use Rattle.loops.specs.Laws.Every.{Passing}
+use Rattle.loops.specs.Laws.Scan.{seek_start, seek_hit, seek_on, seek_end}
+use Rattle.words.specs.Kind.{zeroed}
+use Rattle.words.specs.Words.{structure}
+use Rattle.tables.specs.View.{area_word_at}
+use borrow.Author.Rules.{rules}
+use Rattle.verdict.proofs.bits.structures_clean.Given as goal
+
+abbrev pub invariant-loop-j : goal.invariant-loop-j
+invariant-loop-j l = Passing (λ i. zeroed structure (area_word_at l.t l.p.0 (1 + i))) 4 l.j
+
+abbrev pub decreases-loop-j : goal.decreases-loop-j
+decreases-loop-j l = 4 - l.j

@@ -1,0 +1,13 @@
+use Prim.Native.Nat.{◌-◌, ◌≤◌}
+use native.Mathlib.Omega.{arith}
+use Rattle.verdict.specs.Laws.Stages.{NoneFails, cleared_from, cleared_reached, cleared_hit, cleared_on, cleared_end}
+use borrow.Author.Rules.{rules}
+use mathlib.Core.Path.{ap}
+use mathlib.Core.Bool.{not}
+use Rattle.verdict.proofs.late.lowest.Given as goal
+
+abbrev pub invariant-loop-m : goal.invariant-loop-m
+invariant-loop-m l = NoneFails l.board l.t l.m × (96 ≤ l.m) × (l.m ≤ 176)
+
+abbrev pub decreases-loop-m : goal.decreases-loop-m
+decreases-loop-m l = 176 - l.m
