@@ -1,14 +1,14 @@
--- Sums and counts: their bounds, when they are 0, what one number left out changes; and the loop that adds up meets them.
+-- Sums and counts: their bounds, when they are 0, what one number left out changes; and the loops that add up, count, or count failures meet them.
 use Rattle.std.specs.Prelude.{◌≡◌, refl, Bool, true, false, not, ◌&&◌, ◌||◌, ℕ, zero, suc, ◌+◌, ◌*◌, ◌≤◌, ◌<◌}
 use Rattle.std.proofs.Common.{ap, ap₂, subst, ◌∙◌, true≢false, suc-mul, add-one, arith, eq-eqb, ne_eqb, eqb-true}
 use Rattle.std.proofs.Math.Path.{sym}
-use Rattle.std.proofs.Math.Bool.{and-true, and-false}
+use Rattle.std.proofs.Math.Bool.{and-true, and-false, not-not}
 use Rattle.std.proofs.lemmas.Bool.{false≢true, eqb-false}
 use Rattle.std.proofs.Math.Decide.{ℕ_discrete}
 use Rattle.std.proofs.Math.Dec.{eqb}
-use Rattle.loops.specs.Loops.{bit_of, all, carried, sum, count}
+use Rattle.loops.specs.Loops.{bit_of, all, any, carried, sum, count}
 use Rattle.loops.specs.Laws.Bit.{bit_le, bit_zero}
-use Rattle.loops.specs.Laws.Every.{all_ext, all_more, all_zero}
+use Rattle.loops.specs.Laws.Every.{not_any, all_ext, all_more, all_zero}
 use Rattle.loops.specs.Laws.Carry.{done_none, done_more, done_keeps, done_ext}
 
 -- At i, x is the sum below i, and at most b was added a turn.
@@ -16,6 +16,14 @@ pub record Summing (f : ℕ → ℕ) (b n i x : ℕ) : Type 0 where
   pub within : i ≤ n
   pub few : x ≤ i * b
   pub made : x ≡ sum i f
+
+-- At i, f held of x numbers below i.
+pub record Counting (f : ℕ → Bool) (n i x : ℕ) : Type 0 where
+  pub sums : Summing (λ k. bit_of (f k)) 1 n i x
+
+-- At i, f failed of x numbers below i: for a loop with no early way out that gives `all n f`.
+pub record Failing (f : ℕ → Bool) (n i x : ℕ) : Type 0 where
+  pub counts : Counting (λ k. not (f k)) n i x
 
 -- ── laws of sums and counts ──
 -- x is 0 exactly if a and b are, where it is at least each of them and at most their sum
@@ -64,6 +72,14 @@ module _ (n : ℕ) (f : ℕ → Bool) where
   -- a count is 0 exactly if f holds of no number
   pub count_none : eqb (count n f) 0 ≡ all n (λ k. not (f k))
   count_none = sum_none n _ ∙ all_ext n _ _ (λ k b. bit_zero (f k))
+
+  -- the count of the failures is 0 exactly if f holds of every number
+  pub count_all : eqb (count n (λ k. not (f k))) 0 ≡ all n f
+  count_all = sum_none n _ ∙ all_ext n _ _ (λ k b. bit_zero (not (f k)) ∙ not-not (f k))
+
+  -- it is not 0 exactly if f holds of some number
+  pub count_any : not (eqb (count n f) 0) ≡ any n f
+  count_any = ap not count_none ∙ sym (not_any n f)
 
 -- numbers of two kinds that exclude each other
 pub count_apart : (n : ℕ) (f g : ℕ → Bool) → ((k : ℕ) → f k ≡ true → g k ≡ false) → count n (λ k. f k || g k) ≡ count n f + count n g
@@ -153,3 +169,33 @@ module _ {f : ℕ → ℕ} {b n : ℕ} where
 
     pub sum_end : n ≤ i → x ≡ sum n f
     sum_end h = let z : i ≡ n = omega (arith, inv.within) in rw (← z) inv.made
+
+module _ {f : ℕ → Bool} {n : ℕ} where
+  pub count_start : Counting f n 0 0
+  count_start = record { sums = sum_start }
+
+  module _ {i x : ℕ} (inv : Counting f n i x) where
+    -- x grows by a bit
+    pub count_on : {y : ℕ} → i < n → y ≡ bit_of (f i) → Counting f n (i + 1) (x + y)
+    count_on h q = record { sums = sum_on inv.sums h q (omega (arith, bit_le (f i))) }
+
+    -- x grows by 1, or stays
+    pub count_yes : {y : ℕ} → i < n → f i ≡ true → y ≡ x + 1 → Counting f n (i + 1) y
+    count_yes h q e = rw e (count_on h (sym (ap bit_of q)))
+
+    pub count_no : {y : ℕ} → i < n → f i ≡ false → y ≡ x → Counting f n (i + 1) y
+    count_no h q e = let z : x + 0 ≡ x = omega arith in rw (e, ← z) (count_on h (sym (ap bit_of q)))
+
+    pub count_end : n ≤ i → x ≡ count n f
+    count_end h = sum_end inv.sums h
+
+module _ {f : ℕ → Bool} {n : ℕ} where
+  pub fail_start : Failing f n 0 0
+  fail_start = record { counts = count_start }
+
+  module _ {i x : ℕ} (inv : Failing f n i x) where
+    pub fail_on : {y : ℕ} → i < n → y ≡ bit_of (not (f i)) → Failing f n (i + 1) (x + y)
+    fail_on h q = record { counts = count_on inv.counts h q }
+
+    pub fail_end : n ≤ i → eqb x 0 ≡ all n f
+    fail_end h = ap (λ (y : ℕ). eqb y 0) (count_end inv.counts h) ∙ count_all n f

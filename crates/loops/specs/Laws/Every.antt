@@ -2,6 +2,7 @@
 use Rattle.std.specs.Prelude.{◌≡◌, refl, Bool, true, false, not, ◌&&◌, ◌||◌, ℕ, ◌+◌, ◌<◌}
 use Rattle.std.proofs.Common.{ap, sym, ◌∙◌, true≢false, inl, inr, arith, below_more}
 use Rattle.std.proofs.lemmas.Bool.{false≢true, not-true, not-false}
+use Rattle.std.proofs.Math.Bool.{not-not}
 use Rattle.loops.specs.Laws.Scan.{Seeking, Sought, seek_law, seek_none, seek_ext, seek_map}
 use Rattle.loops.specs.Loops.{NoneBelow, any, all}
 
@@ -68,8 +69,15 @@ module _ (n : ℕ) (f : ℕ → Bool) where
 -- ── tests that say the same ──
 -- tests that agree below n
 module _ (n : ℕ) (f g : ℕ → Bool) (same : (k : ℕ) → k < n → f k ≡ g k) where
+  pub any_ext : any n f ≡ any n g
+  any_ext = seek_ext f g _ _ _ n same (λ k b. refl)
+
   pub all_ext : all n f ≡ all n g
   all_ext = seek_ext _ _ _ _ _ n (λ k b. ap not (same k b)) (λ k b. refl)
+
+-- some number is so where not every number is not
+pub not_any : (n : ℕ) (f : ℕ → Bool) → any n f ≡ not (all n (λ k. not (f k)))
+not_any n f = sym (not_all n (λ k. not (f k)) ∙ any_ext n _ f (λ k b. not-not (f k)))
 
 pub all_true : (n : ℕ) → all n (λ k. true) ≡ true
 all_true n = all_of n (λ k. true) (λ k b. refl)
