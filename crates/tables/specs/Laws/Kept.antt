@@ -29,6 +29,10 @@ use Rattle.tables.specs.Laws.Store.{store_word}
 use Rattle.tables.specs.Kept.{with_regions, keep_regions}
 
 -- ── what is kept ──
+pub keep_none : (o : ℕ → Bool) (x : Opt ℕ) → x ≡ none → x ≡ keep o x
+unfolding keep
+keep_none o x q = rw q refl
+
 -- all, where each that is loaded names an open slot
 pub keep_same : (o : ℕ → Bool) (x : Opt ℕ) → ((i : ℕ) → x ≡ some i → o i ≡ true) → keep o x ≡ x
 unfolding keep
