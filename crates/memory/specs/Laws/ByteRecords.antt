@@ -85,6 +85,9 @@ load_start b e = rw e (fill_start (length-replicate {A = ℕ} 641 0))
 pub load_word : (b : List ℕ) {t : List ℕ} {k i w : ℕ} → Loading b k t → k < 641 → i ≡ 8 * k → w ≡ word_from b i → Loading b (k + 1) (set t k w)
 load_word b {k = k} inv h e q = fill_put inv h (q ∙ word_at_law b k e)
 
+pub load_at : (b : List ℕ) {t : List ℕ} {i : ℕ} (j : ℕ) → i ≡ j → Loading b i t → Loading b j t
+load_at b {t} j e inv = subst (λ (k : ℕ). Loading b k t) e inv
+
 -- the records' bytes, which begin behind word 0, as the code hands them over
 pub records_part : (b : List ℕ) → take (length b - 8) (drop 8 b) ≡ drop 8 b
 records_part b = take_all (length b - 8) (drop 8 b) (omega (arith, length-drop 8 b))

@@ -5,7 +5,7 @@ use Rattle.std.proofs.Math.Decide.{ℕ_discrete}
 use Rattle.loops.specs.Laws.Every.{all_at, all_zero, all_more}
 use Rattle.loops.specs.Loops.{all, carried, tab_from}
 use Rattle.memory.specs.Bytes.{word_from, byte_at, put_word}
-use Rattle.memory.specs.Quads.{quad_at, Quad, put_quad, turned, zero_four, zero_forty}
+use Rattle.memory.specs.Quads.{quad_at, Quad, put_quad, turned, zero_four, zero_forty, zero_eight}
 
 -- a number made of two pairs of bytes
 pub quad_pairs : (b : List ℕ) (i : ℕ) {p q : ℕ} → get_or b i 0 < 256 → get_or b (i + 1) 0 < 256 → get_or b (i + 2) 0 < 256
@@ -61,6 +61,22 @@ zero_four_law b i z k h g = go ((k - i) / 4) ((k - i) % 4) (omega arith) (omega 
     go : (q r : ℕ) → q < 8 → r < 4 → k ≡ i + 4 * q + r → get_or b k 0 ≡ 0
     go q r a c e =
         let n : quad_at b (i + 4 * q) ≡ 0 = eqb-true _ 0 (all_at 8 (λ q. eqb (quad_at b (i + 4 * q)) 0) z q a) in
+        at (ℕ_discrete r 0) (ℕ_discrete r 1) (ℕ_discrete r 2) n
+      where
+        at : Dec (r ≡ 0) → Dec (r ≡ 1) → Dec (r ≡ 2) → quad_at b (i + 4 * q) ≡ 0 → get_or b k 0 ≡ 0
+        at (yes x) _ _ n = let e0 : k ≡ i + 4 * q = omega arith in rw e0 (omega arith)
+        at (no x) (yes y) _ n = let e1 : k ≡ i + 4 * q + 1 = omega arith in rw e1 (omega arith)
+        at (no x) (no y) (yes u) n = let e2 : k ≡ i + 4 * q + 2 = omega arith in rw e2 (omega arith)
+        at (no x) (no y) (no u) n = let e3 : k ≡ i + 4 * q + 3 = omega arith in rw e3 (omega arith)
+
+-- .. of eight words
+pub zero_eight_law : (b : List ℕ) (i : ℕ) → zero_eight b i ≡ true → (k : ℕ) → i ≤ k → k < i + 64 → get_or b k 0 ≡ 0
+unfolding zero_eight quad_at
+zero_eight_law b i z k h g = go ((k - i) / 4) ((k - i) % 4) (omega arith) (omega arith) (omega arith)
+  where
+    go : (q r : ℕ) → q < 16 → r < 4 → k ≡ i + 4 * q + r → get_or b k 0 ≡ 0
+    go q r a c e =
+        let n : quad_at b (i + 4 * q) ≡ 0 = eqb-true _ 0 (all_at 16 (λ q. eqb (quad_at b (i + 4 * q)) 0) z q a) in
         at (ℕ_discrete r 0) (ℕ_discrete r 1) (ℕ_discrete r 2) n
       where
         at : Dec (r ≡ 0) → Dec (r ≡ 1) → Dec (r ≡ 2) → quad_at b (i + 4 * q) ≡ 0 → get_or b k 0 ≡ 0
