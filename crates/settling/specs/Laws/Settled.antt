@@ -9,7 +9,7 @@ use Prim.Native.Nat.{ℕ, ◌+◌, ◌-◌, ◌*◌, ◌/◌, ◌%◌, ◌^◌, 
 use Rattle.std.proofs.Math.Decide.{ℕ_discrete, dec_lt}
 use native.Mathlib.Omega.{arith}
 use Rattle.std.proofs.Math.ListN.{set}
-use Rattle.loops.specs.Loops.{names}
+use Rattle.loops.specs.Loops.{names, rest}
 use Rattle.loops.specs.Laws.Left.{bit_not, bits_half, bits_few, none_from}
 use Rattle.words.specs.Kind.{writing}
 use Rattle.words.specs.Words.{slot}
@@ -38,6 +38,7 @@ use Rattle.tables.specs.Laws.Kept.{keep_same, keep_some}
 use Rattle.settling.specs.Areas.{AreasOf, off, clear_of}
 use Rattle.settling.specs.Laws.Areas.{clear_quick}
 use Rattle.settling.specs.Settled.{Housed, RegionsNamed, UsedEnd, off_entry, Came, Gone, settle_slot, settle_record, Fixed, FixedBut, Nearer, SlotDone, RecordDone}
+use Rattle.loops.specs.Laws.Every.{all_at}
 
 -- ── two results are equal ──
 pub slot_done_one : {P : Table → Type 0} {p i : ℕ} {l m o : List ℕ} → SlotDone P p i l m → SlotDone P p i l o → m ≡ o
@@ -377,6 +378,41 @@ module _ {P : Table → Type 0} where
       same : view m ≡ settle_record (view l) p
       same = λ x. record { k = near_k inv.near x; opened = λ q. opened q (ℕ_discrete q p) x; region = λ q. region q (ℕ_discrete q p) x }
 
+-- ── all partitions ──
+-- at n, the bits of so many are fixed
+pub record AllTo (P : Table → Type 0) (l : List ℕ) (n : ℕ) (m : List ℕ) : Type 0 where
+  pub near : Nearer P l m
+  pub fixed : (p j : ℕ) → p < n → Fixed m p j
+
+module _ {P : Table → Type 0} where
+  pub settled_all_start : {l : List ℕ} → Canon l → P (view l) → AllTo P l 0 l
+  settled_all_start c h = record { near = near_start c h; fixed = λ p j b. absurd (omega arith) }
+
+  pub settled_all_more : {l m o : List ℕ} {n : ℕ} → AllTo P l n m → RecordDone P n m o → AllTo P l (n + 1) o
+  settled_all_more {o = o} {n} inv d = record { near = near_on inv.near d.near; fixed = λ p j c. go p j c (ℕ_discrete p n) }
+    where
+      go : (p j : ℕ) → p < n + 1 → Dec (p ≡ n) → Fixed o p j
+      go p j c (yes z) = rw z (d.fixed j)
+      go p j c (no z) = d.near.keeps p j (inv.fixed p j (omega arith))
+
+  -- the table is its own settled one, and so the one that was to be settled
+  pub settled_all_end : {l m : List ℕ} {n : ℕ} → AllTo P l n m → RegionsNamed (view m) → 16 ≤ n → m ≡ encode (settled (view l))
+  unfolding settle
+  settled_all_end {l} {m} {n} inv names b = sym inv.near.canon.same ∙ ap encode (sym own ∙ inv.near.same)
+    where
+      bit : (p i : ℕ) → Dec (p < n) → Fixed m p i
+      bit p i (yes a) = inv.fixed p i a
+      bit p i (no a) =
+          no_entry inv.near.canon p i
+          (never_some ((view m).k.slot p i) (λ e u. let z = ((fit_view inv.near.canon).slot p i e u).0 in omega arith))
+
+      own : settled (view m) ≡ view m
+      own = λ x. record {
+        k = (view m).k;
+        opened = λ p i. bit p i (dec_lt p n) x;
+        region = λ p r. keep_same (open_at (view m).k p) ((view m).region p r) (λ i u. bit p i (dec_lt p n) ∙ names.at p r i u) x;
+      }
+
 -- ── all whom a mask names ──
 -- At p, with `rest` left of the mask, the bits of so many are fixed.
 pub record MaskedTo (P : Table → Type 0) (mask : ℕ) (l : List ℕ) (p rest : ℕ) (m : List ℕ) : Type 0 where
@@ -384,6 +420,14 @@ pub record MaskedTo (P : Table → Type 0) (mask : ℕ) (l : List ℕ) (p rest :
   pub left : rest ≡ mask / 2 ^ p
   pub near : Nearer P l m
   pub fixed : (q i : ℕ) → q < p → Fixed m q i
+
+-- a mask with all sixteen bits leaves nobody out
+all_set : (q : ℕ) → q < 16 → names 0xffff q ≡ true
+unfolding names rest
+all_set = all_at 16 (names 0xffff) refl
+
+pub fixed_all : (l : List ℕ) → FixedBut 0xffff l
+fixed_all l = record { small = omega arith; at = λ p i b z. absurd (false≢true (sym z ∙ all_set p b)) }
 
 module _ {P : Table → Type 0} {mask : ℕ} {l : List ℕ} where
   pub masked_start : Canon l → P (view l) → MaskedTo P mask l 0 mask l
