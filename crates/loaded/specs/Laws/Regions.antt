@@ -1,13 +1,13 @@
 -- The walk over the regions decides S10: what each of them weighs, and their sum; and that those that it leaves out weigh nothing.
-use Rattle.std.specs.Prelude.{◌≡◌, Bool, ◌&&◌, ◌||◌, List, ℕ, ◌+◌, ◌^◌, ◌≤◌, ◌<◌, leb, eqb}
+use Rattle.std.specs.Prelude.{◌≡◌, Bool, ◌&&◌, ◌||◌, List, ℕ, ◌+◌, ◌^◌, ◌≤◌, ◌<◌, leb, eqb, zero, suc}
 use Rattle.std.proofs.Math.Path.{refl, ap}
-use Rattle.std.proofs.Common.{ap₂, sym, subst, ◌∙◌, add-zero, arith, leb-true}
-use Rattle.std.proofs.Math.Bool.{true, false, cond, not, or-false, not-not}
+use Rattle.std.proofs.Common.{ap₂, sym, subst, ◌∙◌, add-zero, arith, leb-true, le-leb}
+use Rattle.std.proofs.Math.Bool.{true, false, cond, not, or-false, not-not, or-true}
 use Rattle.std.specs.Int.Bits.{bit_or}
 use Rattle.loops.specs.Loops.{sum, all, names}
 use Rattle.loops.specs.Laws.Mask.{names_none, names_or, names_one}
 use Rattle.loops.specs.Laws.Count.{Summing, sum_start, sum_on, sum_end, sum_ext, sum_at}
-use Rattle.loops.specs.Laws.Every.{all_at, fail_at, all_ext, all_true, all_zero, all_more}
+use Rattle.loops.specs.Laws.Every.{all_at, fail_at, all_ext, all_true, all_zero, all_more, all_of}
 use Rattle.words.specs.Kind.{fields_in}
 use Rattle.words.specs.Words.{regions}
 use Rattle.words.specs.Fields.{no_region}
@@ -22,9 +22,11 @@ use Rattle.tables.specs.Laws.Seen.{see_regions, see_region}
 use Rattle.tables.specs.Laws.Walk.{WalkingRegions, walk_start, walk_in, walk_at, walk_on, walk_end}
 use Rattle.sound.specs.Clauses.{when, s10_names, s10_once, s10}
 use Rattle.sound.specs.Limit.{entry_pieces, region_pieces, loaded_pieces}
-use Rattle.sound.specs.Laws.Tests.{all_and, never}
+use Rattle.sound.specs.Laws.Tests.{all_and, never, and_true, not_of}
 use Rattle.loaded.specs.Laws.Limit.{region_empty, region_counted}
-use Rattle.loaded.specs.Opening.{is_open, slot_noted, weight}
+use Rattle.loaded.specs.Opening.{is_open, slot_noted, weight, some_loaded}
+use Rattle.std.proofs.lemmas.Bool.{false≢true, not-true}
+use Rattle.sound.specs.Laws.Limit.{none_loaded}
 
 -- ── a region ──
 -- one that is loaded names another slot than i; so do those before region r
@@ -152,8 +154,8 @@ weigh_on {b} {f = f} {m} {r = r} {x} inv v h e w few z = record {
     either true c = refl
     either false c = refl
 
-weigh_end : {b : Board} {t : Table} {p : ℕ} {f : RegionsFields} {m n : ℕ} → Weighing b t p f m n 8 → leb n 8 ≡ s10 b t p
-weigh_end {b} {t} {p} inv = ap (λ (k : ℕ). leb k 8) (sum_end inv.sums (omega arith)) ∙ s10_weighed b t p
+pub weigh_end : {b : Board} {t : Table} {p : ℕ} {f : RegionsFields} {m n r : ℕ} → Weighing b t p f m n r → 8 ≤ r → leb n 8 ≡ s10 b t p
+weigh_end {b} {t} {p} inv h = ap (λ (k : ℕ). leb k 8) (sum_end inv.sums h) ∙ s10_weighed b t p
 
 -- a region that is not loaded weighs nothing, and names no slot
 weigh_blank : {b : Board} {l : List ℕ} {p : ℕ} {f : RegionsFields} {m n : ℕ} → SeenRegions l p f → (r : ℕ) → r < 8 → nth_region f r ≡ no_region → Weighing b (view l) p f m n r → Weighing b (view l) p f m n (r + 1)
@@ -182,4 +184,27 @@ module _ {b : Board} {l : List ℕ} {p v m n w : ℕ} (k : WeighingLeft b l p v 
         record { walk = subst (WalkingRegions _ v) (sym moved) (walk_on k.walk h (weigh_on k.walk.kept seen (walk_in k.walk h) (e ∙ walk_at k.walk h) q few z)) }
 
     pub left_end : w ≡ 0 → leb n 8 ≡ s10 b (view l) p
-    left_end z = weigh_end (walk_end k.walk z (weigh_blank seen))
+    left_end z = weigh_end (walk_end k.walk z (weigh_blank seen)) (omega arith)
+
+-- ── no region is loaded ──
+loaded_at : (f : RegionsFields) (r : ℕ) → (nth_region f r).loaded ≡ true → some_loaded f ≡ true
+unfolding nth_region
+loaded_at f zero q = rw q refl
+loaded_at f (suc zero) q = rw (q, or-true) refl
+loaded_at f (suc (suc zero)) q = rw (q, or-true) refl
+loaded_at f (suc (suc (suc zero))) q = rw (q, or-true) refl
+loaded_at f (suc (suc (suc (suc zero)))) q = rw (q, or-true) refl
+loaded_at f (suc (suc (suc (suc (suc zero))))) q = rw (q, or-true) refl
+loaded_at f (suc (suc (suc (suc (suc (suc zero)))))) q = rw (q, or-true) refl
+loaded_at f (suc (suc (suc (suc (suc (suc (suc zero))))))) q = rw (q, or-true) refl
+loaded_at f (suc (suc (suc (suc (suc (suc (suc (suc r)))))))) q = absurd (false≢true q)
+
+pub s10_none : (board : Board) {l : List ℕ} {p : ℕ} {f : RegionsFields} → SeenRegions l p f → some_loaded f ≡ false → true ≡ s10 board (view l) p
+unfolding named
+s10_none board {l} {p} {f} v q =
+    sym (sym (s10_each board (view l) p) ∙ and_true _ _
+    (all_of 8 _ (λ r h. sym (region_none v h refl (unloaded r))))
+    (le-leb _ 8 (none_loaded board (view l).k.slot (view l).region p (λ r h. v.region r h ∙ rw (unloaded r) refl))))
+  where
+    unloaded : (r : ℕ) → (nth_region f r).loaded ≡ false
+    unloaded r = not-true _ (not_of (nth_region f r).loaded (λ x. false≢true (sym q ∙ loaded_at f r x)))

@@ -1,4 +1,4 @@
--- These tests together are S3, S4 and S5 of a record; a zero word passes as a slot; a walk over the word of the regions decides whether they do; and the slots of the four structures are all 32.
+-- These tests together are S3, S4 and S5 of a record; zero words pass; a walk over the word of the regions decides whether they do; and the slots of the four structures are all 32.
 use Rattle.std.specs.Prelude.{◌≡◌, refl, Bool, not, ◌&&◌, List, ◌↔◌, ℕ, zero, suc, ◌+◌, ◌*◌, ◌/◌, ◌%◌, ◌<◌}
 use Rattle.std.proofs.Common.{ap, sym, subst, ◌∙◌, eqb-true, eq-eqb}
 use Rattle.std.proofs.Math.Bool.{true, false, cond}
@@ -13,14 +13,15 @@ use Rattle.words.specs.Words.{header, structure, regions}
 use Rattle.words.specs.declared.regions_word.Region.{Region}
 use Rattle.regionwords.specs.Later.{later_regions}
 use Rattle.tables.specs.State.{K}
-use Rattle.tables.specs.View.{area_word_at, slot_word_at, nth_region, view}
+use Rattle.tables.specs.View.{area_word_at, slot_word_at, nth_region, view, regions_word_at, regions_at}
 use Rattle.tables.specs.Search.{is_some}
-use Rattle.tables.specs.Laws.ZeroWord.{no_entry}
+use Rattle.tables.specs.Laws.ZeroWord.{no_entry, blank_regions}
 use Rattle.tables.specs.Laws.Walk.{WalkingRegions, walk_start, walk_in, walk_at, walk_on, walk_end}
 use Rattle.tables.specs.ZeroRecord.{zero_blanks}
 use Rattle.sound.specs.Clauses.{blank_region, s3_regions, s3, s4_area, s4_absent, s4, s5_slot, s5}
 use Rattle.sound.specs.Laws.Tests.{and_says, and_true}
 use Rattle.shape.specs.Records.{header_test, structure_test, slots_test, HasStructure}
+use Rattle.words.specs.Laws.Kind.{zeroed_means, zero_zeroed}
 
 -- ── tests ──
 unfoldable pub record_test : List ℕ → K → ℕ → Bool
@@ -100,7 +101,15 @@ module _ (l : List ℕ) (k : K) (p : ℕ) where
   pub record_is : record_test l k p ≡ s3 l p && s4 l k p && s5 l k p
   record_is = bool_ext _ _ (λ q. clauses_ask.1 (tests_ask.0 q)) (λ q. tests_ask.1 (clauses_ask.0 q))
 
--- ── a zero word passes as a slot ──
+-- ── a zero word passes ──
+-- as regions: none is loaded
+pub regions_empty : (l : List ℕ) (p : ℕ) → regions_word_at l p ≡ 0 → s3_regions l p ≡ true
+unfolding s3_regions blank_region
+regions_empty l p q =
+    and_true _ _ ((zeroed_means regions (regions_word_at l p)).1 (rw q (zero_zeroed regions)))
+    (all_of 8 (λ r. blank_region (nth_region (regions_at l p) r)) (λ r h. rw (blank_regions l p q r h) refl))
+
+-- as a slot
 pub slot_empty : (l : List ℕ) (p i : ℕ) → slot_word_at l p i ≡ 0 → s5_slot l (view l).k p i ≡ true
 unfolding s5_slot
 slot_empty l p i q = rw (no_entry l p i (λ _ _. q)) (eq-eqb _ 0 q)
