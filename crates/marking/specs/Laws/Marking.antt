@@ -334,6 +334,36 @@ module _ (l : List ℕ) (shaped : Shaped l) where
     unfolding structure_area
     structure_absent q = says_absent p j few inv (is ∙ rw q refl)
 
+    -- its own is asked, and then the parent's
+    module _ {own : ℕ} {m₁ : List ℕ} (q : rooted p j ≡ false) (here : f.present ≡ true) (t : Marks k p (area_between f.start.0 f.end.0) m own m₁) where
+      own_area : k.area p j ≡ some (area_between f.start.0 f.end.0)
+      unfolding structure_area
+      own_area = is ∙ rw here refl
+
+      other : Rooted p j → ⊥
+      other z = false≢true (sym q ∙ (rooted_means p j).1 z)
+
+      pub structure_own : (own ≡ 0 → ⊥) → MarkSays k (5 * p + (j + 1)) (eqb own 1) m₁
+      structure_own found = says_found p j few inv in_p own_area other in_p (inr (refl, from)) t found
+
+      -- it is not its own: nothing was marked
+      pub structure_not_own : own ≡ 0 → (m₁ ≡ m) × (Equals k p (area_between f.start.0 f.end.0) → ⊥)
+      structure_not_own z = go t
+        where
+          go : Marks k p (area_between f.start.0 f.end.0) m own m₁ → (m₁ ≡ m) × (Equals k p (area_between f.start.0 f.end.0) → ⊥)
+          go (nobody _ e no_entry) = (e, no_entry)
+          go (marked i c w y free e) = absurd (omega arith)
+          go (before i c w y taken e) = absurd (omega arith)
+
+      pub structure_parent : {g : HeaderFields} {r : ℕ} {m₂ : List ℕ} → own ≡ 0 → SeenHeader l p g → Marks k g.parent.0 (area_between f.start.0 f.end.0) m₁ r m₂ → MarkSays k (5 * p + (j + 1)) (eqb r 1) m₂
+      structure_parent {g} {r} {m₂} z w s =
+          let (e, no_entry) = structure_not_own z in
+          let x : Marks k g.parent.0 (area_between f.start.0 f.end.0) m r m₂ = rw (← e) s in
+          let y : 1 + (j - 1) ≡ j = omega arith in
+          says_marks p j few inv in_p own_area other w.parent_small (inl (sym w.parent)) x (λ s8.
+          ⊎_elim (λ o. absurd (no_entry o)) (λ o. rw w.parent at o) ((s8 p in_p).structure (j - 1) _ (rw y own_area) (λ b. other (rw (← y) b))))
+
+    -- .. or whichever of the two first
     module _ (n : Rooted p j → ⊥) (here : f.present ≡ true) {g : HeaderFields} (w : SeenHeader l p g) where
       area : k.area p j ≡ some (area_between f.start.0 f.end.0)
       unfolding structure_area
