@@ -18,7 +18,7 @@ use Rattle.rules.specs.Laws.Branch.{branch_of_law, branch_at}
 
 module _ {k : K} (h : Core k) where
   -- every walk gets to the root: the parent of who is absent is 0
-  all_climb : (p : ℕ) → Reaches k.parent 15 p
+  pub all_climb : (p : ℕ) → Reaches k.parent 15 p
   all_climb p = go (k.area p 0) refl
     where
       go : (o : Opt Area) → k.area p 0 ≡ o → Reaches k.parent 15 p

@@ -37,7 +37,7 @@ use Rattle.rules.specs.Laws.Changes.{up_names, down_not}
 use Rattle.rules.specs.Laws.Each.{done_each}
 use Rattle.isolation.specs.Ladders.{OwnOrChild}
 use Rattle.isolation.specs.Laws.Above.{above_not}
-use Rattle.isolation.specs.Laws.Outside.{create_stays, prepare_stays, collect_stays, removal_stays}
+use Rattle.isolation.specs.Laws.Outside.{create_spares, prepare_spares, collect_spares, removal_spares}
 use Rattle.isolation.specs.Laws.Remove.{Goes}
 use Rattle.isolation.specs.Laws.ClearOut.{branch_goes, clear_done}
 use Rattle.isolation.specs.Laws.Create.{create_done, create_number}
@@ -133,14 +133,14 @@ module _ {t : Table} (h : Right t) (q : ℕ) where
         let (_, ok, y) = create_done h s x in
         let (up, next) = or_not (up_from t.k t.k.current) (2 ^ v) q (rw (create_number h s x) at d) in
         let n = one_not v q next in
-        stays_else _ _ y (create_stays h right ok (ap (λ (t : Table). t.k) y) n (up_not h.core (present_small h.core.s1_current) small up)) (upd1_other t.k.parent v t.k.current q n) (λ r. refl)
+        stays_else _ _ y (create_spares h right ok (ap (λ (t : Table). t.k) y) n (up_not h.core (present_small h.core.s1_current) small up)) (upd1_other t.k.parent v t.k.current q n) (λ r. refl)
 
     -- m goes, of it c, a child of the caller
     removed_else : (c : ℕ) (m : ℕ → Bool) → Goes t.k c m → new ≡ remove t c m → m q ≡ false → (Above t.k.parent q c → ⊥) → SameWords t new q
     unfolding settle
     removed_else c m ok y stays out =
         stays_else _ _ y
-        (removal_stays h right ok (ap (λ (t : Table). t.k) y) stays (λ a. out (higher (subst (Above t.k.parent q) (sym ok.child.parent) a))))
+        (removal_spares h right ok (ap (λ (t : Table). t.k) y) stays (λ a. out (higher (subst (Above t.k.parent q) (sym ok.child.parent) a))))
         (rw stays refl) (λ r. rw stays refl)
 
     delete_else : (p : ℕ) {v w : ℕ} → delete t p ≡ done v w new → names (up_from t.k p) q ≡ false → SameWords t new q
@@ -159,13 +159,13 @@ module _ {t : Table} (h : Right t) (q : ℕ) where
     unfolding settle
     prepare_else p s x d =
         let (_, ok, y) = prepare_done h p s x in
-        stays_else _ _ y (prepare_stays h right ok (ap (λ (t : Table). t.k) y) (up_not h.core (own_small ok.who) small d)) refl (λ r. refl)
+        stays_else _ _ y (prepare_spares h right ok (ap (λ (t : Table). t.k) y) (up_not h.core (own_small ok.who) small d)) refl (λ r. refl)
 
     collect_else : (p j : ℕ) {v w : ℕ} → collect t p j ≡ done v w new → names (up_from t.k p) q ≡ false → SameWords t new q
     unfolding settle
     collect_else p j x d =
         let (ok, y) = collect_done h p j x in
-        stays_else _ _ y (collect_stays h right ok (ap (λ (t : Table). t.k) y) (up_not h.core (own_small ok.who) small d)) refl (λ r. refl)
+        stays_else _ _ y (collect_spares h right ok (ap (λ (t : Table). t.k) y) (up_not h.core (own_small ok.who) small d)) refl (λ r. refl)
 
     is : {k : Table} → new ≡ k → SameWords t k q → SameWords t new q
     is y s = rw y s

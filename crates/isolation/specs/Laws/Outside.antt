@@ -3,9 +3,9 @@ use Rattle.std.specs.Prelude.{◌≡◌, refl, Bool, true, false, cond, ◌⊎�
 use Rattle.std.proofs.Common.{ap, sym, subst, ◌∙◌, true≢false, inl, inr, arith}
 use Rattle.loops.specs.Laws.Every.{bool_ext}
 use Rattle.tables.specs.State.{Opt, none, some, Entry, Area, K, Table}
-use Rattle.tables.specs.Laws.State.{some_inj, same_a}
+use Rattle.tables.specs.Laws.State.{some_inj, same_a, not_none}
 use Rattle.tables.specs.Update.{upd}
-use Rattle.tables.specs.Laws.Update.{upd_other, upd_from, row_other, upd_none}
+use Rattle.tables.specs.Laws.Update.{upd_other, upd_from, row_other, upd_none, upd1_same, upd1_other}
 use Rattle.tables.specs.Lines.{InA, Holds}
 use Rattle.tables.specs.Laws.Stays.{Stays}
 use Rattle.sound.specs.Properties.{Above, itself, higher}
@@ -19,7 +19,13 @@ use Rattle.isolation.specs.Laws.NewArea.{area_stays}
 use Rattle.isolation.specs.Laws.Create.{CreateOk}
 use Rattle.isolation.specs.Laws.Prepare.{PrepareOk}
 use Rattle.isolation.specs.Laws.Collect.{CollectOk}
-use Rattle.isolation.specs.Laws.Remove.{Goes}
+use Rattle.isolation.specs.Laws.Remove.{Goes, Remains, parent_remains}
+use Rattle.sound.specs.Sound.{Present}
+
+-- q is above x by other parents, too, that are the same on the way
+way_same : {up now : ℕ → ℕ} (P : ℕ → Type 0) → ((x : ℕ) → P x → now x ≡ up x) → ((x : ℕ) → P x → P (up x)) → {q x : ℕ} → P x → Above up q x → Above now q x
+way_same P same on v (itself z) = itself z
+way_same {now = now} P same on {q} {x} v (higher a) = higher (subst (Above now q) (sym (same x v)) (way_same P same on (on x v) a))
 
 module _ {t new : Table} (h : Right t) (g : Right new) where
   -- the same entries, and of the areas with a line of them none came and none went
@@ -56,16 +62,16 @@ module _ {t new : Table} (h : Right t) (g : Right new) where
     came_stays {q} n far = record { area = λ i. areas q i ∙ upd_other t.k.area p j (some (area_of e)) q i (λ z. n z.0); slot = slots q; opened = came_opened far }
 
   -- create: who is not the child, and not above the caller
-  pub create_stays : {s n : ℕ} {e : Entry} → CreateOk t.k s n e → new.k ≡ create_k t.k n e → {q : ℕ} → (q ≡ n → ⊥) → (Above t.k.parent q t.k.current → ⊥) → Stays t new q
-  create_stays ok is = came_stays ok.area (λ r i. ap (λ (k : K). k.area r i) is) (λ r i. ap (λ (k : K). k.slot r i) is)
+  pub create_spares : {s n : ℕ} {e : Entry} → CreateOk t.k s n e → new.k ≡ create_k t.k n e → {q : ℕ} → (q ≡ n → ⊥) → (Above t.k.parent q t.k.current → ⊥) → Stays t new q
+  create_spares ok is = came_stays ok.area (λ r i. ap (λ (k : K). k.area r i) is) (λ r i. ap (λ (k : K). k.slot r i) is)
 
   -- prepare: who is not above P; the caller is P or its parent
   own_above : {p q : ℕ} → OwnOrChild t.k p → Above t.k.parent q t.k.current → Above t.k.parent q p
   own_above {q = q} (inl z) a = subst (Above t.k.parent q) (sym z) a
   own_above {q = q} (inr c) a = higher (subst (Above t.k.parent q) (sym c.parent) a)
 
-  pub prepare_stays : {p s j : ℕ} {e : Entry} → PrepareOk t.k p s j e → new.k ≡ prepare_k t.k p j e → {q : ℕ} → (Above t.k.parent q p → ⊥) → Stays t new q
-  prepare_stays ok is out =
+  pub prepare_spares : {p s j : ℕ} {e : Entry} → PrepareOk t.k p s j e → new.k ≡ prepare_k t.k p j e → {q : ℕ} → (Above t.k.parent q p → ⊥) → Stays t new q
+  prepare_spares ok is out =
       came_stays ok.area (λ r i. ap (λ (k : K). k.area r i) is) (λ r i. ap (λ (k : K). k.slot r i) is) (λ z. out (itself (sym z))) (λ a. out (own_above ok.who a))
 
   -- ── areas go ──
@@ -80,8 +86,8 @@ module _ {t new : Table} (h : Right t) (g : Right new) where
       go (inr (z, _)) a = inl (subst (Above t.k.parent q) z a)
 
   -- collect: who is not above P
-  pub collect_stays : {p j : ℕ} → CollectOk t.k p j → new.k ≡ collect_k t.k p j → {q : ℕ} → (Above t.k.parent q p → ⊥) → Stays t new q
-  collect_stays {p} {j} ok is {q} out = record {
+  pub collect_spares : {p j : ℕ} → CollectOk t.k p j → new.k ≡ collect_k t.k p j → {q : ℕ} → (Above t.k.parent q p → ⊥) → Stays t new q
+  collect_spares {p} {j} ok is {q} out = record {
     area = λ i. areas q i ∙ upd_other t.k.area p (1 + j) none q i (λ z. out (itself (sym z.0)));
     slot = slots;
     opened = opened_stays slots
@@ -113,8 +119,8 @@ module _ {t new : Table} (h : Right t) (g : Right new) where
         go (inl z) on = inr (subst (Above t.k.parent q) (ap t.k.parent z ∙ ok.child.parent) a)
         go (inr w) on = on w
 
-    pub removal_stays : {q : ℕ} → m q ≡ false → (Above t.k.parent q t.k.current → ⊥) → Stays t new q
-    removal_stays {q} stays out = record {
+    pub removal_spares : {q : ℕ} → m q ≡ false → (Above t.k.parent q t.k.current → ⊥) → Stays t new q
+    removal_spares {q} stays out = record {
       area = λ j. areas q j ∙ rw stays refl;
       slot = slots;
       opened = opened_stays slots (λ r j l a x u v. (records_was m t.k.area r j (sym (areas r j) ∙ v)).0) (λ r j l a x u v. areas r j ∙ kept r j l a x u v (m r) refl);
@@ -140,3 +146,37 @@ module _ {t new : Table} (h : Right t) (g : Right new) where
         kept : (r j l : ℕ) (a : Area) → InA l a → Holds t.k.slot q l → t.k.area r j ≡ some a → (b : Bool) → m r ≡ b → cond (m r) (λ j. none) (t.k.area r) j ≡ some a
         kept r j l a x u v false z = rw z v
         kept r j l a x u v true z = absurd (near z (lent_above v (λ y. true≢false (sym z ∙ ap m y.0 ∙ ok.root)) x u))
+
+-- ── by the table after the call ──
+module _ {t new : Table} (h : Right t) (g : Right new) where
+  -- create: who is not above the child
+  pub create_stays : {s n : ℕ} {e : Entry} → CreateOk t.k s n e → new.k ≡ create_k t.k n e → {q : ℕ} → (Above new.k.parent q n → ⊥) → Stays t new q
+  create_stays {n = n} ok is {q} far = create_spares h g ok is (λ z. far (itself (sym z)))
+      (λ a. far (higher (subst (Above new.k.parent q) (sym child) (way_same (Present t.k) old h.core.s2_up h.core.s1_current a))))
+    where
+      child : new.k.parent n ≡ t.k.current
+      child = ap (λ (k : K). k.parent n) is ∙ upd1_same t.k.parent n t.k.current n refl
+
+      old : (x : ℕ) → Present t.k x → new.k.parent x ≡ t.k.parent x
+      old x v = ap (λ (k : K). k.parent x) is ∙ upd1_other t.k.parent n t.k.current x (λ z. not_none (t.k.area n 0) ok.area.absent (rw z at v.1))
+
+  -- prepare: who is not above P
+  pub prepare_stays : {p s j : ℕ} {e : Entry} → PrepareOk t.k p s j e → new.k ≡ prepare_k t.k p j e → {q : ℕ} → (Above new.k.parent q p → ⊥) → Stays t new q
+  prepare_stays ok is far = prepare_spares h g ok is (λ a. far (rw is a))
+
+  -- collect: who is not above P
+  pub collect_stays : {p j : ℕ} → CollectOk t.k p j → new.k ≡ collect_k t.k p j → {q : ℕ} → (Above new.k.parent q p → ⊥) → Stays t new q
+  collect_stays ok is far = collect_spares h g ok is (λ a. far (rw is a))
+
+  -- removal: who is there and is not above the caller
+  module _ {c : ℕ} {m : ℕ → Bool} (ok : Goes t.k c m) (is : new.k ≡ remove_k t.k c m) where
+    pub removal_stays : {q : ℕ} → Present new.k q → (Above new.k.parent q t.k.current → ⊥) → Stays t new q
+    removal_stays {q} here far = removal_spares h g ok is stays
+        (λ a. far (way_same (Remains t.k m) (λ x v. ap (λ (k : K). k.parent x) is ∙ rw v.1 refl) (parent_remains h.core ok) (h.core.s1_current, ok.caller) a))
+      where
+        stays : m q ≡ false
+        stays = go (m q) refl
+          where
+            go : (b : Bool) → m q ≡ b → b ≡ false
+            go false z = refl
+            go true z = not_none none refl (rw z at (sym (ap (λ (k : K). k.area q 0) is) ∙ here.1))

@@ -17,7 +17,7 @@ use Rattle.isolation.specs.Laws.Create.{create_done, create_right}
 use Rattle.isolation.specs.Laws.Prepare.{prepare_done, prepare_right}
 use Rattle.isolation.specs.Laws.Collect.{collect_done, collect_right}
 use Rattle.isolation.specs.Laws.Remove.{Goes, remove_right}
-use Rattle.isolation.specs.Laws.Outside.{came_opened, collect_stays, removal_stays}
+use Rattle.isolation.specs.Laws.Outside.{came_opened, collect_spares, removal_spares}
 use Rattle.services.specs.DeleteExits.{ungiven}
 use Rattle.services.specs.Zeroed.{zero_records}
 
@@ -53,7 +53,7 @@ module _ (l : List ℕ) {m : List ℕ} (h : Right (view l)) {p mask : ℕ} (smal
     unfolding settle
     fixed_collect j x =
         let (ok, z) = collect_done h p j x in
-        fixed_but (λ q i far. (collect_stays h (collect_right h p j x) ok (ap (λ (t : Table). t.k) z) far).opened i ∙ opened q i)
+        fixed_but (λ q i far. (collect_spares h (collect_right h p j x) ok (ap (λ (t : Table). t.k) z) far).opened i ∙ opened q i)
 
 -- partitions below p, the caller, go
 pub fixed_removed : (l : List ℕ) {m : List ℕ} → Right (view l) → {p mask : ℕ} → p < 16 → mask ≡ up_from (view l).k p → (view l).k.current ≡ p
@@ -63,4 +63,4 @@ fixed_removed l h {p} small told now {r} {gone} ok was = fixed_but l h small tol
   where
     go : (q i : ℕ) → (Above (view l).k.parent q p → ⊥) → (b : Bool) → gone q ≡ b → open_at (zero_records (ungiven (view l) (view l).k.current r) gone).k q i ≡ cond (gone q) (λ i. false) ((view l).opened q) i
     go q i far true z = rw z refl
-    go q i far false z = (removal_stays h (remove_right h ok) ok refl z (outside now far)).opened i ∙ rw z refl
+    go q i far false z = (removal_spares h (remove_right h ok) ok refl z (outside now far)).opened i ∙ rw z refl
