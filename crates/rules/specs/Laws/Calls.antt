@@ -120,6 +120,10 @@ module _ (board : Board) (l : List ℕ) (w : ℕ) where
       go false = refl
 
 -- ── whose records a service can change ──
+-- the services whose records are told one by one, the last first
+abbrev pub narrow : List ℕ
+narrow = 15 ∷ 13 ∷ 12 ∷ 11 ∷ 9 ∷ 8 ∷ 7 ∷ 6 ∷ 5 ∷ []
+
 -- the services that change a record, the last first
 abbrev pub changing : List ℕ
 changing = 15 ∷ 14 ∷ 9 ∷ 8 ∷ 7 ∷ 6 ∷ 5 ∷ 4 ∷ 3 ∷ 2 ∷ 1 ∷ []

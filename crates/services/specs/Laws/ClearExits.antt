@@ -11,7 +11,7 @@ use Rattle.loops.specs.Laws.Count.{count_le, count_ext, count_one, count_apart, 
 use Rattle.tables.specs.State.{Opt, none, some, Area, K, Table}
 use Rattle.tables.specs.Laws.State.{not_none, never_some}
 use Rattle.tables.specs.View.{view}
-use Rattle.tables.specs.Encode.{Canon, Is}
+use Rattle.tables.specs.Encode.{Canon, Is, encode}
 use Rattle.tables.specs.Laws.Encode.{is_one, is_canon}
 use Rattle.tables.specs.Laws.Back.{Fit}
 use Rattle.tables.specs.Laws.FitView.{fit_view}
@@ -27,10 +27,13 @@ use Rattle.rules.specs.Branch.{Under, itself, below}
 use Rattle.rules.specs.Laws.Branch.{under_root, branch_of_law, branch_at, branch_cut, branch_self}
 use Rattle.services.specs.Zeroed.{zero_records}
 use Rattle.services.specs.Laws.Zeroed.{zero_one, zero_more, zero_same}
-use Rattle.rules.specs.Laws.Ran.{pass}
+use Rattle.rules.specs.Laws.Ran.{pass, ran_done}
 use Rattle.blocks.specs.Laws.GiveExits.{child_now}
 use Rattle.services.specs.DeleteExits.{ungiven}
 use Rattle.services.specs.ClearExits.{branch_of, Cleared, Zero}
+use Rattle.settling.specs.Laws.Settled.{settled_is}
+use Rattle.tables.specs.declared.Outcome.TheVariants.{Done}
+use Rattle.rules.specs.Ran.{Ran}
 
 -- two results are equal: the number, and every word
 pub cleared_one : {before : List ℕ} {p n m : ℕ} {a b : List ℕ} → Cleared before p n a → Cleared before p m b → (n ≡ m) × (a ≡ b)
@@ -302,3 +305,13 @@ module _ (l : List ℕ) {c : ℕ} (p : ℕ) (now : (view l).k.current ≡ c) (is
     -- what the caller gave to p is given to nobody, and the records of its branch are zero
     pub cleared_out : Is o (zero_records (ungiven (view l) (view l).k.current p) (branch_of (view l) p))
     cleared_out = is_then (λ (t : Table). zero_records t (branch_of t p)) put gone.is
+
+  -- .. and the table is settled
+  pub clear_exit_done : {m o r : List ℕ} {n : ℕ} → Is m (ungiven (view l) c p) → Cleared m p n o → r ≡ encode (settled (view o))
+      → Ran (clear_out (view l) p) l (Done n 0) r
+  unfolding clear_out
+  clear_exit_done {m} {o} {n = n} was gone e =
+      let put : Is m (ungiven (view l) (view l).k.current p) = subst (λ (c : ℕ). Is m (ungiven (view l) c p)) (sym now) was in
+      let number : n ≡ count 16 (branch_of (view l) p) = gone.number ∙ ap (λ (t : Table). count 16 (branch_of t p)) put.viewed in
+      ran_done (pass 3 (child_now _ _ now is) (ap (λ (v : ℕ). done v 0 (remove (view l) p (branch_of (view l) p))) (sym number)))
+      (sym (settled_is (is_then (λ (t : Table). zero_records t (branch_of t p)) put gone.is) e).encoded)

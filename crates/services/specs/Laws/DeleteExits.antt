@@ -12,7 +12,7 @@ use Rattle.tables.specs.Laws.Update.{row_same, upd1_keep, upd_keep}
 use Rattle.settling.specs.UpTo.{up_to}
 use Rattle.settling.specs.Laws.UpTo.{up_above, up_start, up_more, up_end, upd_row_put}
 use Rattle.tables.specs.View.{view, entry_of}
-use Rattle.tables.specs.Encode.{Canon, Is}
+use Rattle.tables.specs.Encode.{Canon, Is, encode}
 use Rattle.tables.specs.Laws.Encode.{canon_is}
 use Rattle.tables.specs.Laws.Back.{Fit}
 use Rattle.tables.specs.Seen.{Seen}
@@ -21,14 +21,15 @@ use Rattle.tables.specs.Write.{with_slot, put_slot, clear_record}
 use Rattle.writing.specs.Laws.Stored.{is_then}
 use Rattle.tables.specs.Search.{child, has_child}
 use Rattle.tables.specs.Settle.{settled}
-use Rattle.tables.specs.declared.Outcome.TheVariants.{Refused}
+use Rattle.tables.specs.declared.Outcome.TheVariants.{Refused, Done}
 use Rattle.rules.specs.Rules.{done, ungive, delete}
 use Rattle.services.specs.Zeroed.{zero_records}
 use Rattle.services.specs.Laws.Zeroed.{zero_one}
 use Rattle.rules.specs.Ran.{Ran}
-use Rattle.rules.specs.Laws.Ran.{ran_refused, pass, fail}
+use Rattle.rules.specs.Laws.Ran.{ran_refused, pass, fail, ran_done}
 use Rattle.blocks.specs.Laws.GiveExits.{child_now}
 use Rattle.services.specs.DeleteExits.{ungive_at, ungiven}
+use Rattle.settling.specs.Laws.Settled.{settled_is}
 
 -- ── one slot ──
 -- the words stay where the entry does
@@ -132,3 +133,13 @@ pub deleted : (l : List ℕ) {m o : List ℕ} {c : ℕ} (p : ℕ) → (view l).k
 deleted l {m} {o} p now was clear =
     is_then (λ (t : Table). zero_records t (λ q. eqb q p))
     (subst (λ (c : ℕ). Is m (ungiven (view l) c p)) (sym now) was) (subst (Is o) (zero_one (view m) p) clear)
+
+module _ {l : List ℕ} {c : ℕ} (p : ℕ) (now : (view l).k.current ≡ c) (is : child (view l).k c p ≡ true) where
+  pub delete_exit_done : {m o r : List ℕ} → has_child (view l).k p ≡ false → Is m (ungiven (view l) c p) → Is o (clear_record (view m) p) → r ≡ encode (settled (view o))
+      → Ran (delete (view l) p) l (Done 0 0) r
+  unfolding delete
+  delete_exit_done {m} {o} q was clear e =
+      let put : Is m (ungiven (view l) (view l).k.current p) = subst (λ (c : ℕ). Is m (ungiven (view l) c p)) (sym now) was in
+      let gone : Is o (zero_records (view m) (λ q. eqb q p)) = subst (Is o) (zero_one (view m) p) clear in
+      ran_done (pass 3 (child_now _ _ now is) (pass 15 (ap not q) refl))
+      (sym (settled_is (is_then (λ (t : Table). zero_records t (λ q. eqb q p)) put gone) e).encoded)

@@ -171,3 +171,7 @@ module _ (b : List ℕ) (size : length b ≡ 256) where
   pub sheet_bytes_law : ((i : ℕ) → get_or b i 0 < 256) → sheet_bytes (handed_sheet b) ≡ b
   unfolding sheet_bytes
   sheet_bytes_law small = ap (λ (s : List ℕ). tab 256 (byte_of s)) handed_words ∙ bytes_there 32 b size (λ i _. small i)
+
+-- two words are those of p in the bytes where its own are
+pub pair_same : (b : List ℕ) (t : Table) (p : ℕ) {r : Bool} {x y : ℕ} → r ≡ pair_is b p x y → x ≡ masks_word t p → y ≡ lines_word t p → r ≡ pair_matches b t p
+pair_same b t p q e d = q ∙ rw (e, d) refl
