@@ -26,7 +26,7 @@ module _ {k : K} (h : Core k) where
       go (some a) z = h.s2_climb p (a, z)
 
   -- above the root is the root alone
-  top_only : {q x : ℕ} → x ≡ 0 → Above k.parent q x → q ≡ 0
+  pub top_only : {q x : ℕ} → x ≡ 0 → Above k.parent q x → q ≡ 0
   top_only z (itself e) = sym e ∙ z
   top_only z (higher a) = top_only (ap k.parent z ∙ h.s2_root_law.2) a
 
