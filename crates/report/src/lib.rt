@@ -1,3 +1,5 @@
+#![tactic(auto)]
+
 ghost use Rattle.std.specs.Prelude.{◌≡◌, ◌+◌, ◌<◌, take};
 ghost use Rattle.verdict.specs.Verdict.{ClauseNamed};
 ghost use Rattle.verdict.specs.declared.Verdict.TheVariants.{Fails};
@@ -6,6 +8,11 @@ ghost use Rattle.report.specs.Report.{printed_line};
 use verdict::Verdict;
 use words::Partition;
 
+mod input;
+
+pub use input::read_full;
+
+// What the programs that print a verdict share: they read an image to its end, and tell the verdict on it in a line.
 // The line that tells a verdict, for the programs that print it: "sound"; or S with the number of the lowest clause that fails, a space and the
 // lowest partition where it fails; or "length".
 

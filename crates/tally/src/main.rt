@@ -1,8 +1,13 @@
+#![tactic(auto)]
+
 // Reads a boot word and then call words, and prints the session: see document 01, "A session printed whole".
+mod input;
 mod text;
 
 use runs::Run;
 use shapes::Board;
+use std::io;
+use std::io::{Read, Write};
 use tables::Outcome;
 use text::Text;
 use words::boot_word::BootRead;
@@ -38,63 +43,74 @@ fn word_at(input: &[u8], at: usize) -> u64 {
     w
 }
 
-fn print_boot(refusal: u64) {
+fn print_boot<W: Write>(out: &mut W, refusal: u64) -> io::Result<()> {
     let line = text::word(text::empty(), [b'b', b'o', b'o', b't']);
-    text::print(text::then_decimal(line, refusal));
+    text::print(out, text::then_decimal(line, refusal))
 }
 
-fn print_rest(bytes: usize) {
+fn print_rest<W: Write>(out: &mut W, bytes: usize) -> io::Result<()> {
     let line = text::word(text::empty(), [b'r', b'e', b's', b't']);
-    text::print(text::then_decimal(line, bytes as u64));
+    text::print(out, text::then_decimal(line, bytes as u64))
 }
 
 // The call's number, its refusal number or 0, and its two values.
-fn print_call(number: u64, outcome: Outcome) {
+fn print_call<W: Write>(out: &mut W, number: u64, outcome: Outcome) -> io::Result<()> {
     let line = text::decimal(text::empty(), number);
     match outcome {
         Outcome::Done(first, second) => {
             let values = text::then_decimal(text::then_decimal(line, 0), first);
-            text::print(text::then_hex(values, second));
+            text::print(out, text::then_hex(values, second))
         }
         Outcome::Refused(n) => {
             let values = text::then_decimal(text::then_decimal(line, n), 0);
-            text::print(text::then_hex(values, 0));
+            text::print(out, text::then_hex(values, 0))
         }
     }
 }
 
 // Carries out the call words of a piece of the input, from one byte to another, and answers the last call's number.
-fn serve_piece(t: &mut [u64; 641], piece: &[u8], from: usize, to: usize, before: u64) -> u64 {
+fn serve_piece<W: Write>(
+    out: &mut W,
+    t: &mut [u64; 641],
+    piece: &[u8],
+    from: usize,
+    to: usize,
+    before: u64,
+) -> io::Result<u64> {
     let mut number = before;
     let mut at = from;
     while at < to {
         if to - at < 8 {
-            return number;
+            return Ok(number);
         }
         let answer = calls::call_table(Board::V7, t, 16, word_at(piece, at));
         let outcome = answer.outcome;
         number = after(number);
-        print_call(number, outcome);
+        print_call(out, number, outcome)?;
         at += 8;
     }
-    number
+    Ok(number)
 }
 
 // Carries out all call words. The first piece, of which len bytes came, begins with the boot word.
 // Only the last piece is not full; what it has beyond its words is the rest.
-fn serve_input(t: &mut [u64; 641], piece: &mut [u8], first: usize) -> usize {
+fn serve_input<R: Read, W: Write>(
+    input: &mut R,
+    out: &mut W,
+    t: &mut [u64; 641],
+    piece: &mut [u8],
+    first: usize,
+) -> io::Result<usize> {
     let mut len = first;
-    let mut number = serve_piece(t, piece, 8, len, 0);
-    let mut turns = u64::MAX;
-    while turns > 0 {
+    let mut number = serve_piece(out, t, piece, 8, len, 0)?;
+    for _ in 0..u64::MAX {
         if len < piece.len() {
-            return len % 8;
+            return Ok(len % 8);
         }
-        len = io::read_full(0, piece);
-        number = serve_piece(t, piece, 0, len, number);
-        turns -= 1;
+        len = input::read_full(input, piece)?;
+        number = serve_piece(out, t, piece, 0, len, number)?;
     }
-    0
+    Ok(0)
 }
 
 // A holder as the list has it.
@@ -120,54 +136,64 @@ fn names(line: Text, list: &[u8], n: u64) -> Text {
     next
 }
 
-fn print_run(t: &[u64; 641], run: Run) {
+fn print_run<W: Write>(out: &mut W, t: &[u64; 641], run: Run) -> io::Result<()> {
     let mut list = [0u8; 16];
     let start = run.start.0 as u64;
     let line = text::then_decimal(text::decimal(text::empty(), start), run.end.0 as u64);
     let outcome = holders::holders_table(Board::V7, t, 16, start, &mut list);
     if let Outcome::Done(n, _) = outcome {
-        text::print(names(line, &list, n));
+        return text::print(out, names(line, &list, n));
     }
+    Ok(())
 }
 
 // No table has more than 512 runs.
-fn print_runs(t: &[u64; 641]) {
+fn print_runs<W: Write>(out: &mut W, t: &[u64; 641]) -> io::Result<()> {
     let mut marks = *t;
     let plan = runlist::plan_of(Board::V7, &mut marks, 16, 512);
     let number = plan.number;
     let mut i = 0usize;
     while i < number {
-        print_run(t, runlist::run_at(&marks, i));
+        print_run(out, t, runlist::run_at(&marks, i))?;
         i += 1;
     }
+    Ok(())
 }
 
-fn session(t: &mut [u64; 641], piece: &mut [u8], len: usize, base: Line, end: Line) {
+fn session<R: Read, W: Write>(
+    input: &mut R,
+    out: &mut W,
+    t: &mut [u64; 641],
+    piece: &mut [u8],
+    len: usize,
+    base: Line,
+    end: Line,
+) -> io::Result<()> {
     let outcome = services::boot_service::boot_table(t, base.0 as u64, end.0 as u64);
     if let Outcome::Refused(n) = outcome {
-        print_boot(n);
-        return;
+        return print_boot(out, n);
     }
-    let rest = serve_input(t, piece, len);
+    let rest = serve_input(input, out, t, piece, len)?;
     if rest != 0 {
-        print_rest(rest);
+        print_rest(out, rest)?;
     }
-    print_runs(t);
+    print_runs(out, t)
 }
 
-fn main() {
+fn main(rt: HostRuntime) -> io::Result<()> {
+    let mut input = rt.stdin();
+    let mut out = rt.stdout();
     let mut piece = [0u8; 4096];
-    let len = io::read_full(0, &mut piece);
+    let len = input::read_full(&mut input, &mut piece)?;
     if len < 8 {
-        print_boot(2);
-        return;
+        return print_boot(&mut out, 2);
     }
     let read = otherwords::boot_word::read(word_at(&piece, 0));
     match read {
         BootRead::Fields(f) => {
             let mut t = [0u64; 641];
-            session(&mut t, &mut piece, len, f.base, f.end);
+            session(&mut input, &mut out, &mut t, &mut piece, len, f.base, f.end)
         }
-        BootRead::Refused(n) => print_boot(n),
+        BootRead::Refused(n) => print_boot(&mut out, n),
     }
 }

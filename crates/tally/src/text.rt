@@ -1,3 +1,6 @@
+use std::fmt::Write as _;
+use std::{fmt, io};
+
 // A line of text that is put together byte by byte. The longest, a run with sixteen holders, has 58 bytes with its end.
 #[derive(Clone, Copy)]
 pub struct Text {
@@ -39,17 +42,25 @@ pub fn word(t: Text, letters: [u8; 4]) -> Text {
     bytes(t, &letters)
 }
 
+impl fmt::Write for Text {
+    fn write_str(&mut self, s: &str) -> fmt::Result {
+        *self = bytes(*self, s.as_bytes());
+        Ok(())
+    }
+}
+
+// Writing to a line does not fail.
 pub fn decimal(t: Text, n: u64) -> Text {
-    let mut digits = [0u8; 20];
-    let k = io::decimal(n, &mut digits);
-    bytes(t, &digits[..k])
+    let mut next = t;
+    let _ = write!(next, "{n}");
+    next
 }
 
 // A space, and sixteen digits.
 pub fn then_hex(t: Text, n: u64) -> Text {
-    let mut digits = [0u8; 16];
-    let k = io::hex(n, 16, &mut digits);
-    bytes(byte(t, b' '), &digits[..k])
+    let mut next = byte(t, b' ');
+    let _ = write!(next, "{n:016x}");
+    next
 }
 
 // A space, and then the number.
@@ -58,15 +69,16 @@ pub fn then_decimal(t: Text, n: u64) -> Text {
 }
 
 // Writes the first n of these bytes.
-fn show(all: &[u8], n: usize) {
+fn show<W: io::Write>(out: &mut W, all: &[u8], n: usize) -> io::Result<()> {
     if n <= all.len() {
-        io::write_all(1, &all[..n]);
+        return out.write_all(&all[..n]);
     }
+    Ok(())
 }
 
 // Writes the line, and ends it.
-pub fn print(t: Text) {
+pub fn print<W: io::Write>(out: &mut W, t: Text) -> io::Result<()> {
     let line = byte(t, b'\n');
     let all = line.bytes;
-    show(&all, line.len);
+    show(out, &all, line.len)
 }

@@ -1,45 +1,49 @@
+#![tactic(auto)]
+
 // Reads a question and a dump from the standard input and prints the machine form of docs/WHO.md: the verdict on the dump, and of a sound one a
 // line for each thing that stands in it, and for the holders of the line that was asked for, or of all lines.
 mod facts;
 mod says;
 
 use shapes::Board;
+use std::io;
+use std::io::Write;
 use verdict::Verdict;
 
 // A question is the number of a line; this one, which no line has, asks for all of them.
 const ALL: u64 = 0xffff_ffff_ffff_ffff;
 
-fn tell(board: Board, image: &[u8], question: u64) {
+fn tell<W: Write>(out: &mut W, board: Board, image: &[u8], question: u64) -> io::Result<()> {
     if image.len() != 5128 {
-        return;
+        return Ok(());
     }
     let mut t = [0u64; 641];
     memory::load(image, &mut t);
-    says::memory(&t);
-    says::partitions(board, &t);
+    says::memory(out, &t)?;
+    says::partitions(out, board, &t)?;
     if question == ALL {
-        says::runs(board, &t);
-        return;
+        return says::runs(out, board, &t);
     }
-    says::at(board, &t, question);
+    says::at(out, board, &t, question)?;
+    Ok(())
 }
 
 // What comes after the first byte too many is not read: the dump has another length already.
-fn main() {
+fn main(rt: HostRuntime) -> io::Result<()> {
     let board = Board::V7;
+    let mut input = rt.stdin();
+    let mut out = rt.stdout();
     let mut question = [0u8; 8];
-    io::read_full(0, &mut question);
+    report::read_full(&mut input, &mut question)?;
     let mut image = [0u8; 5129];
-    let len = io::read_full(0, &mut image);
+    let len = report::read_full(&mut input, &mut image)?;
     let said = verdict::of_image(board, &image[..len]);
     match said {
         Verdict::Accepted => {
-            io::write_all(1, b"sound\n");
-            tell(board, &image[..len], memory::word(&question, 0));
+            out.write_all(b"sound\n")?;
+            tell(&mut out, board, &image[..len], memory::word(&question, 0))
         }
-        Verdict::Fails(n, p) => says::item(b"fails", &[n, p.0]),
-        Verdict::Length => {
-            io::write_all(1, b"length\n");
-        }
+        Verdict::Fails(n, p) => says::item(&mut out, b"fails", &[n, p.0]),
+        Verdict::Length => out.write_all(b"length\n"),
     }
 }

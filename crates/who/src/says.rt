@@ -1,149 +1,169 @@
 ghost use Rattle.std.specs.Prelude.{◌<◌};
 // The items of the machine form, printed: a line each.
 use shapes::Board;
+use std::io;
+use std::io::Write;
 use tables::Outcome;
 use words::{Line, Partition, Slot};
 
-fn byte(b: u8) {
-    io::write_all(1, &[b]);
+fn byte<W: Write>(out: &mut W, b: u8) -> io::Result<()> {
+    out.write_all(&[b])
 }
 
 // A space, and a number.
-fn number(n: u32) {
-    byte(b' ');
-    io::print_decimal(1, n as u64);
+fn number<W: Write>(out: &mut W, n: u32) -> io::Result<()> {
+    byte(out, b' ')?;
+    write!(out, "{n}")
 }
 
 // A word, and numbers.
-pub fn item(kind: &[u8], numbers: &[u32]) {
-    io::write_all(1, kind);
-    let mut i = 0usize;
-    while i < numbers.len() {
-        number(numbers[i]);
-        i += 1;
+pub fn item<W: Write>(out: &mut W, kind: &[u8], numbers: &[u32]) -> io::Result<()> {
+    out.write_all(kind)?;
+    for n in numbers {
+        number(out, *n)?;
     }
-    byte(b'\n');
+    byte(out, b'\n')
 }
 
-pub fn memory(t: &[u64; 641]) {
+pub fn memory<W: Write>(out: &mut W, t: &[u64; 641]) -> io::Result<()> {
     let f = tables::read::first(t);
-    item(b"memory", &[f.base.0, f.end.0, f.current.0]);
+    item(out, b"memory", &[f.base.0, f.end.0, f.current.0])
 }
 
 // Area n of the 80 closes the entry in slot s of p, of lo to hi, if they share a line.
-fn shut(t: &[u64; 641], p: Partition, s: Slot, n: u32, lo: Line, hi: Line)
+fn shut<W: Write>(
+    out: &mut W,
+    t: &[u64; 641],
+    p: Partition,
+    s: Slot,
+    n: u32,
+    lo: Line,
+    hi: Line,
+) -> io::Result<()>
     requires { n < 80 }
 {
     let q = Partition(n / 5);
     let j = n % 5;
     if crate::facts::shares(t, q, j, lo, hi) {
-        item(b"shut", &[p.0, s.0, q.0, j]);
+        return item(out, b"shut", &[p.0, s.0, q.0, j]);
     }
+    Ok(())
 }
 
-fn shuts(t: &[u64; 641], p: Partition, s: Slot, lo: Line, hi: Line) {
-    let mut n = 0u32;
-    while n < 80 {
-        shut(t, p, s, n, lo, hi);
-        n += 1;
+fn shuts<W: Write>(
+    out: &mut W,
+    t: &[u64; 641],
+    p: Partition,
+    s: Slot,
+    lo: Line,
+    hi: Line,
+) -> io::Result<()> {
+    for n in 0..80 {
+        shut(out, t, p, s, n, lo, hi)?;
     }
+    Ok(())
 }
 
 // The entry in slot s is loaded in region r, if it is.
-fn region(t: &[u64; 641], p: Partition, s: Slot, r: u32)
+fn region<W: Write>(out: &mut W, t: &[u64; 641], p: Partition, s: Slot, r: u32) -> io::Result<()>
     requires { (p.0 < 16) × (r < 8) }
 {
     if crate::facts::names(t, p, s, r) {
-        item(b"region", &[p.0, s.0, r]);
+        return item(out, b"region", &[p.0, s.0, r]);
     }
+    Ok(())
 }
 
-fn regions(t: &[u64; 641], p: Partition, s: Slot)
+fn regions<W: Write>(out: &mut W, t: &[u64; 641], p: Partition, s: Slot) -> io::Result<()>
     requires { p.0 < 16 }
 {
-    let mut r = 0u32;
-    while r < 8 {
-        region(t, p, s, r);
-        r += 1;
+    for r in 0..8 {
+        region(out, t, p, s, r)?;
     }
+    Ok(())
 }
 
 // What stands in a slot, if anything does.
-fn entry(board: Board, t: &[u64; 641], p: Partition, s: Slot)
+fn entry<W: Write>(
+    out: &mut W,
+    board: Board,
+    t: &[u64; 641],
+    p: Partition,
+    s: Slot,
+) -> io::Result<()>
     requires { (p.0 < 16) × (s.0 < 32) }
 {
     let f = tables::read::entry(t, p, s);
     if !f.present {
-        return;
+        return Ok(());
     }
     let numbers = crate::facts::entry(board, p, s, f);
-    item(b"entry", &numbers);
+    item(out, b"entry", &numbers)?;
     let can = crate::facts::can(board, t, p, s, f);
-    item(b"can", &[p.0, s.0, can]);
-    regions(t, p, s);
+    item(out, b"can", &[p.0, s.0, can])?;
+    regions(out, t, p, s)?;
     if !f.opened {
-        shuts(t, p, s, f.start, f.end);
+        return shuts(out, t, p, s, f.start, f.end);
     }
+    Ok(())
 }
 
-fn entries(board: Board, t: &[u64; 641], p: Partition)
+fn entries<W: Write>(out: &mut W, board: Board, t: &[u64; 641], p: Partition) -> io::Result<()>
     requires { p.0 < 16 }
 {
-    let mut s = 0u32;
-    while s < 32 {
-        entry(board, t, p, Slot(s));
-        s += 1;
+    for s in 0..32 {
+        entry(out, board, t, p, Slot(s))?;
     }
+    Ok(())
 }
 
 // The area of a header or of a structure; 0, 0 is none.
-fn area(t: &[u64; 641], p: Partition, j: u32)
+fn area<W: Write>(out: &mut W, t: &[u64; 641], p: Partition, j: u32) -> io::Result<()>
     requires { (p.0 < 16) × (j < 5) }
 {
     let f = settling::areas::area(t, p, j);
     if f.start.0 < f.end.0 {
-        item(b"area", &[p.0, j, f.start.0, f.end.0]);
+        return item(out, b"area", &[p.0, j, f.start.0, f.end.0]);
     }
+    Ok(())
 }
 
-fn areas(t: &[u64; 641], p: Partition)
+fn areas<W: Write>(out: &mut W, t: &[u64; 641], p: Partition) -> io::Result<()>
     requires { p.0 < 16 }
 {
-    let mut j = 0u32;
-    while j < 5 {
-        area(t, p, j);
-        j += 1;
+    for j in 0..5 {
+        area(out, t, p, j)?;
     }
+    Ok(())
 }
 
 // All that stands in the record of a partition, if it is present.
-fn partition(board: Board, t: &[u64; 641], p: Partition)
+fn partition<W: Write>(out: &mut W, board: Board, t: &[u64; 641], p: Partition) -> io::Result<()>
     requires { p.0 < 16 }
 {
     let h = tables::read::header(t, p);
     if !h.present {
-        return;
+        return Ok(());
     }
-    item(b"partition", &[p.0, h.parent.0]);
-    areas(t, p);
-    entries(board, t, p);
+    item(out, b"partition", &[p.0, h.parent.0])?;
+    areas(out, t, p)?;
+    entries(out, board, t, p)
 }
 
-pub fn partitions(board: Board, t: &[u64; 641]) {
-    let mut p = 0u32;
-    while p < 16 {
-        partition(board, t, Partition(p));
-        p += 1;
+pub fn partitions<W: Write>(out: &mut W, board: Board, t: &[u64; 641]) -> io::Result<()> {
+    for p in 0..16 {
+        partition(out, board, t, Partition(p))?;
     }
+    Ok(())
 }
 
 // A holder of the line: its number, and the slot of its entry that holds it. Answers where that entry ends.
-fn holder(t: &[u64; 641], p: Partition, l: Line) -> Line
+fn holder<W: Write>(out: &mut W, t: &[u64; 641], p: Partition, l: Line) -> io::Result<Line>
     requires { p.0 < 16 }
 {
     let place = crate::facts::place_of(t, p, l);
-    item(b"holder", &[p.0, place.slot.0]);
-    place.end
+    item(out, b"holder", &[p.0, place.slot.0])?;
+    Ok(place.end)
 }
 
 // A partition as the list has it: below 16 in any case.
@@ -154,56 +174,68 @@ fn listed(name: u8) -> Partition
 }
 
 // The first n of the list, root first. Answers where the last one's entry ends: of all these it ends first.
-fn holders(t: &[u64; 641], list: &[u8; 16], n: u64, l: Line) -> Line {
+fn holders<W: Write>(
+    out: &mut W,
+    t: &[u64; 641],
+    list: &[u8; 16],
+    n: u64,
+    l: Line,
+) -> io::Result<Line> {
     let mut end = l;
-    let mut i = 0usize;
-    while i < 16 {
+    for i in 0..16usize {
         if i as u64 >= n {
-            return end;
+            return Ok(end);
         }
-        end = holder(t, listed(list[i]), l);
-        i += 1;
+        end = holder(out, t, listed(list[i]), l)?;
     }
-    end
+    Ok(end)
 }
 
 // The line and its holders, if it is a line of the memory. Answers up to which line the same entries hold; 0 if it is none.
-pub fn at(board: Board, t: &[u64; 641], line: u64) -> Line {
+pub fn at<W: Write>(out: &mut W, board: Board, t: &[u64; 641], line: u64) -> io::Result<Line> {
     if line > 0x7ff_ffff {
-        return Line(0);
+        return Ok(Line(0));
     }
     let mut list = [0u8; 16];
     let outcome = holders::holders_table(board, t, 16, line, &mut list);
     let Outcome::Done(n, _) = outcome else {
-        return Line(0);
+        return Ok(Line(0));
     };
     let l = line as u32;
-    item(b"at", &[l]);
-    holders(t, &list, n, Line(l))
+    item(out, b"at", &[l])?;
+    holders(out, t, &list, n, Line(l))
 }
 
 // A run, and in it each line from which on other entries hold.
-fn run(board: Board, t: &[u64; 641], start: Line, end: Line) {
-    item(b"run", &[start.0, end.0]);
+fn run<W: Write>(
+    out: &mut W,
+    board: Board,
+    t: &[u64; 641],
+    start: Line,
+    end: Line,
+) -> io::Result<()> {
+    item(out, b"run", &[start.0, end.0])?;
     let mut l = start.0;
     while l < end.0 {
-        let next = at(board, t, l as u64);
+        let next = at(out, board, t, l as u64)?;
         if next.0 <= l {
-            return;
+            return Ok(());
         }
         l = next.0;
     }
+    Ok(())
 }
 
 // No table has more than 512 runs.
-pub fn runs(board: Board, t: &[u64; 641]) {
+pub fn runs<W: Write>(out: &mut W, board: Board, t: &[u64; 641]) -> io::Result<()> {
     let mut marks = *t;
     let plan = runlist::plan_of(board, &mut marks, 16, 512);
     let number = plan.number;
     let mut i = 0usize;
     while i < number {
         let r = runlist::run_at(&marks, i);
-        run(board, t, r.start, r.end);
+        run(out, board, t, r.start, r.end)?;
         i += 1;
     }
+    Ok(())
 }
