@@ -35,10 +35,8 @@ fn word_at(input: &[u8], at: usize) -> u64 {
     if at > input.len() - 8 {
         return w;
     }
-    let mut i = 0usize;
-    while i < 8 {
-        w = with_byte(w, input[at + i]);
-        i += 1;
+    for b in &input[at..at + 8] {
+        w = with_byte(w, *b);
     }
     w
 }
@@ -125,13 +123,11 @@ fn then_name(line: Text, name: Partition) -> Text {
 // The names of the first n in the list.
 fn names(line: Text, list: &[u8], n: u64) -> Text {
     let mut next = line;
-    let mut i = 0usize;
-    while i < list.len() {
+    for (i, name) in list.iter().enumerate() {
         if i as u64 >= n {
             return next;
         }
-        next = then_name(next, holder(list[i]));
-        i += 1;
+        next = then_name(next, holder(*name));
     }
     next
 }

@@ -30,10 +30,8 @@ pub fn byte(t: Text, b: u8) -> Text {
 // All these bytes.
 fn bytes(t: Text, all: &[u8]) -> Text {
     let mut next = t;
-    let mut i = 0usize;
-    while i < all.len() {
-        next = byte(next, all[i]);
-        i += 1;
+    for b in all {
+        next = byte(next, *b);
     }
     next
 }
