@@ -1,6 +1,6 @@
 #![tactic(auto)]
 
-ghost use Rattle.std.specs.Prelude.{◌≡◌, ◌+◌, ◌<◌, take};
+ghost use Rattle.std.specs.Prelude.{◌≡◌, ◌+◌, ◌<◌, ◌≤◌, take};
 ghost use Rattle.verdict.specs.Verdict.{ClauseNamed};
 ghost use Rattle.verdict.specs.declared.Verdict.TheVariants.{Fails};
 ghost use Rattle.report.specs.Report.{printed_line};
@@ -9,12 +9,13 @@ use verdict::Verdict;
 use words::Partition;
 
 mod input;
+mod printing;
 
 pub use input::read_full;
+pub use printing::judge;
 
-// What the programs that print a verdict share: they read an image to its end, and tell the verdict on it in a line.
-// The line that tells a verdict, for the programs that print it: "sound"; or S with the number of the lowest clause that fails, a space and the
-// lowest partition where it fails; or "length".
+// What the programs that tell a verdict share: they read an image and print the line that tells the verdict on it. The line is "sound"; or S with
+// the number of the lowest clause that fails, a space and the lowest partition where it fails; or "length".
 
 // A line of text with its end: the first len bytes. The longest is that of S11 at partition 15.
 #[derive(Clone, Copy)]
@@ -33,7 +34,8 @@ fn digit(n: u32) -> u8
 // S, the clause, a space and the partition: each number has a digit, or a 1 and a digit.
 fn of_clause(n: u32, p: Partition) -> TextLine
     requires { (n < 12) × (p.0 < 16) }
-    ensures { take result.len result.bytes ≡ printed_line (Fails n p) }
+    ensures line { take result.len result.bytes ≡ printed_line (Fails n p) }
+    ensures within { result.len ≤ 8 }
 {
     if n < 10 {
         if p.0 < 10 {
@@ -70,7 +72,8 @@ fn of_clause(n: u32, p: Partition) -> TextLine
 
 pub fn of_verdict(v: Verdict) -> TextLine
     requires { ClauseNamed v }
-    ensures { take result.len result.bytes ≡ printed_line v }
+    ensures line { take result.len result.bytes ≡ printed_line v }
+    ensures within { result.len ≤ 8 }
 {
     match v {
         Verdict::Accepted => TextLine {
