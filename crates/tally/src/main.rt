@@ -148,10 +148,8 @@ fn print_runs<W: Write>(out: &mut W, t: &[u64; 641]) -> io::Result<()> {
     let mut marks = *t;
     let plan = runlist::plan_of(Board::V7, &mut marks, 16, 512);
     let number = plan.number;
-    let mut i = 0usize;
-    while i < number {
+    for i in 0..number {
         print_run(out, t, runlist::run_at(&marks, i))?;
-        i += 1;
     }
     Ok(())
 }

@@ -231,11 +231,9 @@ pub fn runs<W: Write>(out: &mut W, board: Board, t: &[u64; 641]) -> io::Result<(
     let mut marks = *t;
     let plan = runlist::plan_of(board, &mut marks, 16, 512);
     let number = plan.number;
-    let mut i = 0usize;
-    while i < number {
+    for i in 0..number {
         let r = runlist::run_at(&marks, i);
         run(out, board, t, r.start, r.end)?;
-        i += 1;
     }
     Ok(())
 }

@@ -24,7 +24,9 @@ loop-done-preserved g c =
     let room = length c.loop-done.buffer - from in
     let within = c.loop-done.invariant.1 in
     let part = part_put from room c.in_ok-came.came c.loop-done.buffer c.read.new.buf within c.in_ok-came.ensures.bound.0 in
-    let joined = front_and_part from c.in_ok-came.came c.loop-done.buffer (put_mid from room c.loop-done.buffer c.read.new.buf) (take-put_mid_below _ _ _ _ _ (le_refl _) within) in
-    (search rules, search rules,
-    subst (Consumes _ _) (ap (λ l. take from c.loop-done.buffer ++ l) (sym part) ∙ joined)
-    (Consumes-trans _ _ _ _ _ c.loop-done.invariant.2 c.in_ok-came.ensures.bytes.0))
+    let joined = front_and_part from c.in_ok-came.came c.loop-done.buffer (put_mid from room c.loop-done.buffer c.read.new.buf) (take-put_mid_below _ _ _ _ _ (le_refl _) within) in (
+      search rules,
+      search rules,
+      subst (Consumes _ _) (ap (λ l. take from c.loop-done.buffer ++ l) (sym part) ∙ joined)
+          (Consumes-trans _ _ _ _ _ c.loop-done.invariant.2 c.in_ok-came.ensures.bytes.0),
+    )
