@@ -1,3 +1,4 @@
+-- src/lib.rt, of_clause: take result.len result.bytes ≡ printed_line (Fails n p); result.len ≤ 8
 -- The line of a clause and a partition, by how many digits each has.
 use Rattle.report.specs.Laws.Report.{one_one, one_two, two_one, two_two}
 use Rattle.report.proofs.of_clause.Goals as goal

@@ -1,3 +1,4 @@
+-- src/lib.rt, of_verdict: take result.len result.bytes ≡ printed_line v; result.len ≤ 8
 -- The words of the two verdicts that name no clause.
 use Rattle.std.proofs.Common.{sym, ap}
 use Rattle.report.specs.Report.{printed_line}

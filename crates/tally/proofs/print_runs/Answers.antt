@@ -1,3 +1,4 @@
+-- src/main.rt, print_runs: ends without a fault
 -- A run that the plan counts is read from two marks.
 use Rattle.std.proofs.Common.{ap, arith}
 use Rattle.shapes.specs.declared.Board.TheVariants.{V7}

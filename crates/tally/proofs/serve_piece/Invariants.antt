@@ -1,3 +1,4 @@
+-- src/main.rt, serve_piece: ends without a fault
 use Rattle.std.proofs.Common.{◌-◌}
 use Rattle.tally.proofs.serve_piece.Given as goal
 

@@ -1,3 +1,4 @@
+-- src/input.rt, read_full: ReadsAtMost result buffer.new; IfOk result (λ n. Consumes (R.remaining input.old) (R.remaining input.new) (take n buffer.new)); IfOk result (λ n. n < length buffer.new → IsAtEnd (R.remaining input.new))
 -- What a read put after the bytes that had come is what it took from the input.
 use Rattle.std.proofs.Common.{◌≡◌, ℕ, ◌+◌, ◌-◌, ◌≤◌, List, ◌++◌, rules, arith, length, take, slice_range, sym, ap, ◌∙◌, drop, subst, le_refl, drop_at, length-take-le}
 use Rattle.std.proofs.lemmas.Slice.{take-put_mid_below}

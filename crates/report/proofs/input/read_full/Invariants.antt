@@ -1,3 +1,4 @@
+-- src/input.rt, read_full: ReadsAtMost result buffer.new; IfOk result (λ n. Consumes (R.remaining input.old) (R.remaining input.new) (take n buffer.new)); IfOk result (λ n. n < length buffer.new → IsAtEnd (R.remaining input.new))
 use Rattle.std.proofs.Common.{◌≡◌, ◌-◌, ◌≤◌, length, take}
 use Rattle.std.specs.Io.KnownBytes.{Consumes}
 use Rattle.report.proofs.input.read_full.Given as goal

@@ -1,10 +1,10 @@
+-- src/printing.rt, judge: OnOk result (IfSome (R.remaining input.old) (λ image. Appends (W.contents out.old) (W.contents out.new) (printed_line (image_verdict board image))))
 -- What is printed of the bytes that came is what the whole input is told: the input was read to its end, or is too long in any case.
 use Rattle.std.proofs.Common.{◌≡◌, Option, Bool, true, false, ltb, ℕ, ◌+◌, ◌≤◌, ◌<◌, List, [], ◌++◌, length, take, refl, sym, ap, ◌∙◌, subst, arith, append-nil, length-append, length-take-le, Result, Ok, Err, None, Some, IfSome, OnOk}
 use borrow.Author.Rules.{rules}
 use borrow.Author.Tests.{ltb-true, ltb-false}
 use Rattle.std.specs.Io.KnownBytes.{Appends, Consumes, IsAtEnd}
 use Rattle.shapes.specs.declared.Board.{Board}
-use Rattle.verdict.specs.declared.Verdict.TheVariants.{Length}
 use Rattle.verdict.specs.Verdict.{image_verdict, ClauseNamed}
 use Rattle.verdict.specs.Theorem.{image_few, image_length}
 use Rattle.report.specs.Report.{printed_line}
