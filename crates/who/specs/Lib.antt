@@ -1,3 +1,4 @@
 pub mod Who
+pub mod Items
 pub mod Theorem
 pub mod Laws

@@ -1,4 +1,7 @@
-ghost use Rattle.std.specs.Prelude.{◌<◌};
+ghost use Rattle.std.specs.Prelude.{◌<◌, ◌∷◌, [], OnOk, decimal};
+ghost use Rattle.std.specs.Io.KnownBytes.{Appends};
+ghost use Rattle.who.specs.Items.{item_line};
+
 // The items of the machine form, printed: a line each.
 use shapes::Board;
 use std::io;
@@ -6,18 +9,24 @@ use std::io::Write;
 use tables::Outcome;
 use words::{Line, Partition, Slot};
 
-fn byte<W: Write>(out: &mut W, b: u8) -> io::Result<()> {
+fn byte<W: Write>(out: &mut W, b: u8) -> io::Result<()>
+    ensures { OnOk result (Appends (W.contents out.old) (W.contents out.new) (b ∷ [])) }
+{
     out.write_all(&[b])
 }
 
 // A space, and a number.
-fn number<W: Write>(out: &mut W, n: u32) -> io::Result<()> {
+fn number<W: Write>(out: &mut W, n: u32) -> io::Result<()>
+    ensures { OnOk result (Appends (W.contents out.old) (W.contents out.new) (32 ∷ decimal n)) }
+{
     byte(out, b' ')?;
     write!(out, "{n}")
 }
 
 // A word, and numbers.
-pub fn item<W: Write>(out: &mut W, kind: &[u8], numbers: &[u32]) -> io::Result<()> {
+pub fn item<W: Write>(out: &mut W, kind: &[u8], numbers: &[u32]) -> io::Result<()>
+    ensures { OnOk result (Appends (W.contents out.old) (W.contents out.new) (item_line kind.now numbers.now)) }
+{
     out.write_all(kind)?;
     for n in numbers {
         number(out, *n)?;
