@@ -10,21 +10,21 @@ use Rattle.verdict.specs.Theorem.{image_few, image_length}
 use Rattle.report.specs.Report.{printed_line}
 use Rattle.report.proofs.printing.judge.Goals as goal
 
-module _ (board : Board) (image : List ℕ) (n : ℕ) (room : length image ≡ 5129) (within : n ≤ length image) where
-  too_long : (xs rest : List ℕ) → n ≡ 5129 → xs ≡ take n image ++ rest → image_verdict board (take n image) ≡ image_verdict board xs
+module _ (board : Board) (image : List ℕ) (n : ℕ) (room : 5128 < length image) (within : n ≤ length image) where
+  too_long : (xs rest : List ℕ) → n ≡ length image → xs ≡ take n image ++ rest → image_verdict board (take n image) ≡ image_verdict board xs
   too_long xs rest full e =
       let came : length (take n image) ≡ n = length-take-le n image within in
       let all : length xs ≡ length (take n image) + length rest = ap length e ∙ length-append (take n image) rest in
       (image_length board (take n image)).1 (λ h. omega arith) ∙ sym ((image_length board xs).1 (λ h. omega arith))
 
   whole : (xs rest : List ℕ) → (n < length image → rest ≡ []) → xs ≡ take n image ++ rest → image_verdict board (take n image) ≡ image_verdict board xs
-  whole xs rest ended e = go (ltb n 5129) refl
+  whole xs rest ended e = go (ltb n (length image)) refl
     where
-      go : (b : Bool) → ltb n 5129 ≡ b → image_verdict board (take n image) ≡ image_verdict board xs
+      go : (b : Bool) → ltb n (length image) ≡ b → image_verdict board (take n image) ≡ image_verdict board xs
       go true q =
-          let short : n < length image = omega (arith, ltb-true n 5129 q) in
+          let short : n < length image = ltb-true n (length image) q in
           ap (image_verdict board) (sym (e ∙ ap (λ r. take n image ++ r) (ended short) ∙ append-nil (take n image)))
-      go false q = too_long xs rest (omega (arith, ltb-false n 5129 q)) e
+      go false q = too_long xs rest (omega (arith, ltb-false n (length image) q)) e
 
   -- of what a writer took: at Ok a line, the one of the bytes that came
   judged : {A E : Type 0} (r : Result A E) (a b w v : Option (List ℕ)) (line : List ℕ) → Consumes a b (take n image) → (n < length image → IsAtEnd b)
