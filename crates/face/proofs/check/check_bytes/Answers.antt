@@ -1,0 +1,12 @@
+-- src/check.rt, check_bytes: r ≡ resultOf 0 (checked (image_verdict board table))
+use mathlib.Core.Path.{sym, subst}
+use Rattle.verdict.specs.Verdict.{ClauseNamed}
+use Rattle.verdict.specs.Theorem.{image_few}
+use borrow.Author.Rules.{rules}
+use Rattle.face.proofs.check.check_bytes.Goals as goal
+
+pub verdict_word-requires : goal.verdict_word-requires
+verdict_word-requires c = subst ClauseNamed (sym c.of_image.ensures) (image_few _ _)
+
+pub returns : goal.returns
+returns c = rw (← c.of_image.ensures) c.verdict_word.ensures
