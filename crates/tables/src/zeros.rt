@@ -57,6 +57,14 @@ pub fn structure_word(t: &[u64; 641], p: Partition, j: u32) -> bool
     word(t, p, 1 + j) == 0
 }
 
+// .. that of the regions
+pub fn regions_word(t: &[u64; 641], p: Partition) -> bool
+    requires { p.0 < 16 }
+    ensures { result ≡ eqb (regions_word_at t.now p.0) 0 }
+{
+    word(t, p, 5) == 0
+}
+
 // .. that of slot i
 pub fn slot_word(t: &[u64; 641], p: Partition, i: Slot) -> bool
     requires { (p.0 < 16) × (i.0 < 32) }
