@@ -5,10 +5,10 @@ use Rattle.tables.specs.View.{area_word_at}
 use Rattle.tables.specs.Spelling.{ZeroWords}
 use Rattle.memory.specs.Bytes.{word_from, word_at, byte_of}
 
--- the records of the bytes b from record n on are zero
+-- the words of the bytes b from word n on are zero
 pub record ZeroEnd (b : List ℕ) (n : ℕ) : Type 0 where
-  pub within : n ≤ 16
-  pub zero : (i : ℕ) → 8 + 320 * n ≤ i → i < 5128 → get_or b i 0 ≡ 0
+  pub within : n ≤ 641
+  pub zero : (i : ℕ) → 8 * n ≤ i → i < 5128 → get_or b i 0 ≡ 0
 
 -- A record that begins with a zero word is zero, as in a sound table: there only an absent partition begins so.
 pub record HeaderTells (l : List ℕ) : Type 0 where

@@ -72,7 +72,7 @@ fn zero_forty(b: &[u8], i: u32) -> bool
 // of a partition that is there: then nothing else of its record has to be looked at.
 fn zero_end(b: &[u8]) -> u32
     requires { length b.now ≡ 5128 }
-    ensures { ZeroEnd b.now result }
+    ensures { ZeroEnd b.now (1 + 40 * result) }
 {
     let mut p = 16u32;
     let mut end = 5128u32;

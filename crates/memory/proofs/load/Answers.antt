@@ -21,11 +21,11 @@ pub slice_bounds-load_records-end : goal.slice_bounds-load_records-end
 slice_bounds-load_records-end c = omega arith
 
 pub load_records-requires : goal.load_records-requires
-load_records-requires c = (rw (records_part _) (omega (arith, length-drop 8 c.args.b.now, c.requires.0)), c.zero_end-top.ensures.within)
+load_records-requires c = (rw (records_part _) (omega (arith, length-drop 8 c.args.b.now, c.requires.0)), omega (arith, c.zero_end-top.ensures.within))
 
 pub returns : goal.returns
 returns c =
     let ended = c.zero_end-top.ensures in
     let bytes = c.args.b.now in
     let rest = c.load_records.ensures.of bytes (records_part bytes) (load_word bytes (load_start bytes c.requires.1) (omega arith) (omega arith) c.word.ensures) in
-    (load_rest ended rest, end_top ended)
+    (load_rest ended rest (omega arith), end_top ended (omega (arith, ended.within)) (omega arith))

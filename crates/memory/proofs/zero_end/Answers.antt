@@ -1,9 +1,9 @@
--- src/lib.rt, zero_end: ZeroEnd b r
+-- src/lib.rt, zero_end: ZeroEnd b (1 + 40 * result)
 use mathlib.Core.Path.{◌≡◌, sym, ◌∙◌}
 use Prim.Native.Nat.{◌+◌, ◌*◌}
 use borrow.Author.Tests.{not-false}
 use Rattle.memory.specs.ByteRecords.{ZeroEnd}
-use Rattle.memory.specs.Laws.ByteRecords.{end_start, end_on}
+use Rattle.memory.specs.Laws.ByteRecords.{end_start, end_record}
 use native.Mathlib.Omega.{arith}
 use borrow.Author.Rules.{rules}
 use Rattle.memory.proofs.zero_end.Goals as goal
@@ -34,7 +34,7 @@ loop-p-smaller c = omega arith
 pub loop-p-preserved : goal.loop-p-preserved
 loop-p-preserved c =
     let inv = c.loop-p.invariant in
-    (omega (arith, inv.0), end_on inv.1 (omega arith) (omega (arith, inv.0)) (sym c.zero_forty.ensures ∙ c.if-not-zero_forty.false))
+    (omega (arith, inv.0), end_record _ _ inv.1 (omega arith) (omega (arith, inv.0)) (sym c.zero_forty.ensures ∙ c.if-not-zero_forty.false))
 
 pub returns : goal.returns
 returns c = c.loop-p.invariant.1

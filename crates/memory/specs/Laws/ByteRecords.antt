@@ -18,8 +18,8 @@ use Rattle.tables.specs.Spelling.{ZeroWords}
 use Rattle.tables.specs.Laws.ZeroRecord.{zero_record_means}
 use Rattle.tables.specs.Top.{Top}
 use Rattle.memory.specs.Bytes.{octets, word_from, word_at, byte_at, byte_of, words_of, bytes_of, record_byte, put_word}
-use Rattle.memory.specs.Quads.{zero_forty}
-use Rattle.memory.specs.Laws.Quads.{zero_forty_law}
+use Rattle.memory.specs.Quads.{zero_eight, zero_forty}
+use Rattle.memory.specs.Laws.Quads.{zero_eight_law, zero_forty_law}
 use Rattle.memory.specs.Laws.ByteTrips.{byte_place, bytes_words, record_byte_law as record-place}
 use Rattle.memory.specs.ByteRecords.{ZeroEnd, HeaderTells, TellsAt, BytesTell, StoredAt, StoredBut, RootOnly, Loading, LoadedOn, Wrote}
 
@@ -40,36 +40,44 @@ wrote_one {i = i} {j} {s} {t} x y = ext_get_or 0 s t (x.size ∙ sym y.size) (λ
     go n (no h) (no q) = x.after n (omega arith) ∙ sym (y.after n (omega arith))
 
 -- ── where the zeros begin ──
-pub end_start : {b : List ℕ} → ZeroEnd b 16
+pub end_start : {b : List ℕ} → ZeroEnd b 641
 end_start = record { within = omega arith; zero = λ i h g. absurd (omega arith) }
 
--- a record more is zero
-pub end_on : {b : List ℕ} {p n at : ℕ} → ZeroEnd b p → n + 1 ≡ p → at ≡ 8 + 320 * n → zero_forty b at ≡ true → ZeroEnd b n
-end_on {b} {p} {n} {at} e q from z = record { within = omega (arith, e.within); zero = λ i h g. go i h g (dec_lt i (8 + 320 * p)) }
+-- eight words more are zero
+pub end_on : {b : List ℕ} {k n : ℕ} → ZeroEnd b k → n + 8 ≡ k → zero_eight b (8 * n) ≡ true → ZeroEnd b n
+end_on {b} {k} {n} e q z = record { within = omega (arith, e.within); zero = λ i h g. go i h g (dec_lt i (8 * k)) }
   where
-    go : (i : ℕ) → 8 + 320 * n ≤ i → i < 5128 → Dec (i < 8 + 320 * p) → get_or b i 0 ≡ 0
+    go : (i : ℕ) → 8 * n ≤ i → i < 5128 → Dec (i < 8 * k) → get_or b i 0 ≡ 0
+    go i h g (yes x) = zero_eight_law b (8 * n) z i h (omega arith)
+    go i h g (no x) = e.zero i (omega arith) g
+
+-- .. or a record
+pub end_record : {b : List ℕ} (p n : ℕ) {at : ℕ} → ZeroEnd b (1 + 40 * p) → n + 1 ≡ p → at ≡ 8 + 320 * n → zero_forty b at ≡ true → ZeroEnd b (1 + 40 * n)
+end_record {b} p n {at} e q from z = record { within = omega (arith, e.within); zero = λ i h g. go i h g (dec_lt i (8 * (1 + 40 * p))) }
+  where
+    go : (i : ℕ) → 8 * (1 + 40 * n) ≤ i → i < 5128 → Dec (i < 8 * (1 + 40 * p)) → get_or b i 0 ≡ 0
     go i h g (yes x) = zero_forty_law b at z i (omega arith) (omega arith)
     go i h g (no x) = e.zero i (omega arith) g
 
 module _ {b : List ℕ} {n : ℕ} (e : ZeroEnd b n) where
-  zero_at : (k : ℕ) → 1 + 40 * n ≤ k → k < 641 → word_at b k ≡ 0
+  zero_at : (k : ℕ) → n ≤ k → k < 641 → word_at b k ≡ 0
   unfolding word_at tab_from
   zero_at k h g = ap (pack_parts octets) (tab_ext 8 _ (λ j. 0) (λ j q. e.zero (8 * k + j) (omega arith) (omega arith)))
 
   -- the words from there on are zero, as they were
-  pub load_rest : {t : List ℕ} → Loading b (40 * n + 1) t → t ≡ words_of b
+  pub load_rest : {k : ℕ} {t : List ℕ} → Loading b k t → n ≤ k → t ≡ words_of b
   unfolding words_of
-  load_rest {t} inv = tab_is 641 (word_at b) t inv.size (λ i g. go i g (dec_lt i (40 * n + 1)))
+  load_rest {k} {t} inv h = tab_is 641 (word_at b) t inv.size (λ i g. go i g (dec_lt i k))
     where
-      go : (i : ℕ) → i < 641 → Dec (i < 40 * n + 1) → get_or t i 0 ≡ word_at b i
+      go : (i : ℕ) → i < 641 → Dec (i < k) → get_or t i 0 ≡ word_at b i
       go i g (yes x) = inv.below i x
       go i g (no x) = inv.above i (omega arith) ∙ get_or-replicate 641 i 0 0 g ∙ sym (zero_at i (omega arith) g)
 
-  -- so are the records
-  pub end_top : Top (words_of b) n
+  -- so are the records that begin there or later
+  pub end_top : {r : ℕ} → r ≤ 16 → n ≤ 1 + 40 * r → Top (words_of b) r
   unfolding words_of record_word
-  end_top = record {
-    within = e.within;
+  end_top few past = record {
+    within = few;
     zero = λ p h g. (zero_record_means (words_of b) p).1 (λ o q. tab_at 641 (word_at b) (1 + 40 * p + o) (omega arith) ∙ zero_at (1 + 40 * p + o) (omega arith) (omega arith));
   }
 
