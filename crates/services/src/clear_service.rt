@@ -51,6 +51,6 @@ pub fn clear_out(t: &mut [u64; 641], p: Partition) -> Outcome
     let above = up_from(t, c);
     crate::delete_service::ungive(t, c, p);
     let n = clear_partition(t, p);
-    settling::gone::settle(t, above);
+    settling::gone::settle_named(t, above);
     Outcome::Done(n, 0)
 }

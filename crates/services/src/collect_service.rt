@@ -48,6 +48,6 @@ pub fn collect(t: &mut [u64; 641], p: Partition, j: u32) -> Outcome
     }
     let above = up_from(t, p);
     writing::clear_structure(t, p, j);
-    settling::gone::settle(t, above);
+    settling::gone::settle_named(t, above);
     Outcome::Done(0, 0)
 }

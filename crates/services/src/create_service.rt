@@ -40,7 +40,7 @@ pub fn create(t: &mut [u64; 641], s: Slot) -> Outcome
                 end,
             };
             writing::put_header(t, n, header);
-            settling::came::settle(t, above, start, end);
+            settling::came::settle_named(t, above, start, end);
             Outcome::Done(n.0 as u64, 0)
         }
     }

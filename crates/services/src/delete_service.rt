@@ -55,6 +55,6 @@ pub fn delete(t: &mut [u64; 641], p: Partition) -> Outcome
     let above = up_from(t, c);
     ungive(t, c, p);
     writing::clear_record(t, p);
-    settling::gone::settle(t, above);
+    settling::gone::settle_named(t, above);
     Outcome::Done(0, 0)
 }

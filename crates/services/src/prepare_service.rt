@@ -41,7 +41,7 @@ pub fn prepare(t: &mut [u64; 641], p: Partition, s: Slot) -> Outcome
                 end,
             };
             writing::put_structure(t, p, j, area);
-            settling::came::settle(t, above, start, end);
+            settling::came::settle_named(t, above, start, end);
             Outcome::Done(j as u64, 0)
         }
     }

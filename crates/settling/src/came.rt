@@ -45,7 +45,7 @@ fn close_slots(t: &mut [u64; 641], p: Partition, lo: Line, hi: Line)
 
 // The area lo to hi has come into a settled table: it is settled again. Nothing opens, so only what shares a line with it changes, and that is an
 // entry of those whom the mask names.
-pub fn settle(t: &mut [u64; 641], mask: u32, lo: Line, hi: Line)
+pub fn settle_named(t: &mut [u64; 641], mask: u32, lo: Line, hi: Line)
     requires { Canon t.old × Came lo.0 hi.0 (view t.old) × FixedBut mask t.old }
     ensures { t.new ≡ encode (settled (view t.old)) }
 {
@@ -58,4 +58,12 @@ pub fn settle(t: &mut [u64; 641], mask: u32, lo: Line, hi: Line)
         rest = rest / 2;
         p += 1;
     }
+}
+
+// .. of all
+pub fn settle(t: &mut [u64; 641], lo: Line, hi: Line)
+    requires { Canon t.old × Came lo.0 hi.0 (view t.old) }
+    ensures { t.new ≡ encode (settled (view t.old)) }
+{
+    settle_named(t, 0xffff, lo, hi);
 }

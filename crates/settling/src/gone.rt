@@ -42,7 +42,7 @@ fn open_slots(t: &mut [u64; 641], p: Partition, n: usize, s: &[u32; 80], e: &[u3
 
 // Areas have gone from a settled table: it is settled again. What is open stays open, so no region changes; what opens is an
 // entry of those whom the mask names.
-pub fn settle(t: &mut [u64; 641], mask: u32)
+pub fn settle_named(t: &mut [u64; 641], mask: u32)
     requires { Canon t.old × Gone (view t.old) × FixedBut mask t.old }
     ensures { t.new ≡ encode (settled (view t.old)) }
 {
@@ -58,4 +58,12 @@ pub fn settle(t: &mut [u64; 641], mask: u32)
         rest = rest / 2;
         p += 1;
     }
+}
+
+// .. of all
+pub fn settle(t: &mut [u64; 641])
+    requires { Canon t.old × Gone (view t.old) }
+    ensures { t.new ≡ encode (settled (view t.old)) }
+{
+    settle_named(t, 0xffff);
 }

@@ -22,9 +22,9 @@ clear_partition-n-requires c =
     let (n, there) = ungiven_child _ _ c.first.ensures.current (sym c.is_child.ensures ∙ c.if-not-is_child.false) c.ungive.ensures in
     (is_canon c.ungive.ensures, c.requires.1, n, there)
 
-pub settle-requires : goal.settle-requires
+pub settle_named-requires : goal.settle_named-requires
 unfolding clear_out
-settle-requires c =
+settle_named-requires c =
     let now = c.first.ensures.current in
     let is = sym c.is_child.ensures ∙ c.if-not-is_child.false in (
       is_canon c.clear_partition-n.ensures.is,
@@ -39,4 +39,4 @@ unfolding clear_out
 returns c =
     let now = c.first.ensures.current in
     let is = sym c.is_child.ensures ∙ c.if-not-is_child.false in
-    ran_settled (clear_is _ _ now is c.ungive.ensures c.clear_partition-n.ensures) (cleared_out _ _ now is c.ungive.ensures c.clear_partition-n.ensures) c.settle.ensures
+    ran_settled (clear_is _ _ now is c.ungive.ensures c.clear_partition-n.ensures) (cleared_out _ _ now is c.ungive.ensures c.clear_partition-n.ensures) c.settle_named.ensures

@@ -51,9 +51,9 @@ pub clear_structure-requires : goal.clear_structure-requires
 unfolding collect
 clear_structure-requires c = record { canon = c.requires.0; in_p = c.requires.1; in_i = c.if-j-ge4.false }
 
-pub settle-requires : goal.settle-requires
+pub settle_named-requires : goal.settle_named-requires
 unfolding collect
-settle-requires c =
+settle_named-requires c =
     let vacant = sym c.vacant.ensures ∙ c.if-not-vacant.false in (
       is_canon c.clear_structure.ensures,
       gone_words c.clear_structure.ensures (gone_structure (right_gone c.requires.2) _ _ vacant),
@@ -63,4 +63,4 @@ settle-requires c =
 
 pub returns : goal.returns
 unfolding collect
-returns c = ran_settled (collect_is _ _ _ (sym c.own_or_child.ensures ∙ c.if-not-own_or_child.false) (structure_there c.structure-f.ensures c.if-j-ge4.false (not-false _ c.if-not-f.false)) (not_root_first _ _ (sym c.vacant.ensures ∙ c.if-not-vacant.false) c.if-p-j-eq0.false)) c.clear_structure.ensures c.settle.ensures
+returns c = ran_settled (collect_is _ _ _ (sym c.own_or_child.ensures ∙ c.if-not-own_or_child.false) (structure_there c.structure-f.ensures c.if-j-ge4.false (not-false _ c.if-not-f.false)) (not_root_first _ _ (sym c.vacant.ensures ∙ c.if-not-vacant.false) c.if-p-j-eq0.false)) c.clear_structure.ensures c.settle_named.ensures

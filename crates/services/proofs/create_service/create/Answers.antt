@@ -42,9 +42,9 @@ put_header-requires c =
     let v = (picked_is c.in-Entry.is c.free_entry.ensures).seen in
     record { canon = c.requires.0; in_p = omega (arith, (lowest_some 16 _ _ (which_is _ (sym c.in-Number.is ∙ c.absent_partition-which.ensures))).below); present = refl; parent_small = c.first.ensures.current_small; start_small = v.start_small; end_small = v.end_small }
 
-pub settle-requires : goal.settle-requires
+pub settle_named-requires : goal.settle_named-requires
 unfolding create long
-settle-requires c =
+settle_named-requires c =
     let number = which_is _ (sym c.in-Number.is ∙ c.absent_partition-which.ensures) in
     let now = c.first.ensures.current in (
       is_canon c.put_header.ensures,
@@ -59,4 +59,4 @@ returns-in-Refused c = ran_refused (picked_no c.in-Refused.is c.free_entry.ensur
 
 pub returns-else-e : goal.returns-else-e
 unfolding create long
-returns-else-e c = ran_settled (create_is (picked_is c.in-Entry.is c.free_entry.ensures) c.if-start-end.false c.if-e.false (which_is _ (sym c.in-Number.is ∙ c.absent_partition-which.ensures)) c.first.ensures.current) c.put_header.ensures c.settle.ensures
+returns-else-e c = ran_settled (create_is (picked_is c.in-Entry.is c.free_entry.ensures) c.if-start-end.false c.if-e.false (which_is _ (sym c.in-Number.is ∙ c.absent_partition-which.ensures)) c.first.ensures.current) c.put_header.ensures c.settle_named.ensures

@@ -36,9 +36,9 @@ pub clear_record-requires : goal.clear_record-requires
 unfolding delete
 clear_record-requires c = record { canon = is_canon c.ungive.ensures; in_p = c.requires.1 }
 
-pub settle-requires : goal.settle-requires
+pub settle_named-requires : goal.settle_named-requires
 unfolding delete
-settle-requires c =
+settle_named-requires c =
     let now = c.first.ensures.current in (
       is_canon c.clear_record.ensures,
       gone_words c.clear_record.ensures (gone_cleared (gone_words c.ungive.ensures (gone_ungiven (right_gone c.requires.2) _ _)) _),
@@ -51,4 +51,4 @@ pub returns : goal.returns
 unfolding delete
 returns c =
     let now = c.first.ensures.current in
-    ran_settled (delete_is _ _ now (sym c.is_child.ensures ∙ c.if-not-is_child.false) (sym c.has_child.ensures ∙ c.if-has_child.false)) (deleted _ _ now c.ungive.ensures c.clear_record.ensures) c.settle.ensures
+    ran_settled (delete_is _ _ now (sym c.is_child.ensures ∙ c.if-not-is_child.false) (sym c.has_child.ensures ∙ c.if-has_child.false)) (deleted _ _ now c.ungive.ensures c.clear_record.ensures) c.settle_named.ensures

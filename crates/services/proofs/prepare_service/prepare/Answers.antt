@@ -54,9 +54,9 @@ put_structure-requires c =
     let v = (picked_is c.in-Entry.is c.free_entry.ensures).seen in
     record { canon = c.requires.0; in_p = c.requires.1; in_j = (lowest_some 4 _ _ (structure_is _ (sym c.in-Index.is ∙ c.absent_structure-which.ensures))).below; present = refl; start_small = v.start_small; end_small = v.end_small }
 
-pub settle-requires : goal.settle-requires
+pub settle_named-requires : goal.settle_named-requires
 unfolding prepare long
-settle-requires c =
+settle_named-requires c =
     let number = structure_is _ (sym c.in-Index.is ∙ c.absent_structure-which.ensures) in (
       is_canon c.put_structure.ensures,
       came_structure _ c.requires.3 c.if-start-end.false c.requires.1 number c.put_structure.ensures,
@@ -70,4 +70,4 @@ returns-in-Refused c = ran_refused (pass 3 (sym c.own_or_child.ensures ∙ c.if-
 
 pub returns-else-e : goal.returns-else-e
 unfolding prepare long
-returns-else-e c = ran_settled (prepare_is (picked_is c.in-Entry.is c.free_entry.ensures) c.if-start-end.false c.if-e.false _ (sym c.own_or_child.ensures ∙ c.if-not-own_or_child.false) (structure_is _ (sym c.in-Index.is ∙ c.absent_structure-which.ensures))) c.put_structure.ensures c.settle.ensures
+returns-else-e c = ran_settled (prepare_is (picked_is c.in-Entry.is c.free_entry.ensures) c.if-start-end.false c.if-e.false _ (sym c.own_or_child.ensures ∙ c.if-not-own_or_child.false) (structure_is _ (sym c.in-Index.is ∙ c.absent_structure-which.ensures))) c.put_structure.ensures c.settle_named.ensures
