@@ -1,4 +1,4 @@
-ghost use Rattle.std.specs.Prelude.{◌≡◌, true, false, ◌&&◌, ◌||◌};
+ghost use Rattle.std.specs.Prelude.{◌≡◌, true, false, ◌&&◌, ◌||◌, ◌<◌};
 ghost use Rattle.words.specs.Fields.{SmallCall};
 ghost use Rattle.tables.specs.View.{view};
 ghost use Rattle.tables.specs.Top.{Top};
@@ -7,14 +7,14 @@ ghost use Rattle.sound.specs.Clauses.{sound};
 ghost use Rattle.sound.specs.Whole.{Right};
 ghost use Rattle.rules.specs.Rules.{no_rights, unused, region_call, known, numbered, perform, serve};
 ghost use Rattle.rules.specs.Ran.{Ran};
+ghost use Rattle.rules.specs.Changes.{changed_by};
 ghost use Rattle.rules.specs.Calls.{CallAnswers};
 
 // A call: whether the table is sound, what the call word says, and its service.
-pub mod changes;
-
 use rules::Answer;
 use shapes::Board;
 use tables::Outcome;
+use tables::masks::one_partition;
 use words::call_word::{CallFields, CallRead};
 use words::{Partition, Rights, Slot};
 
@@ -151,6 +151,29 @@ fn serve(board: Board, t: &mut [u64; 641], f: CallFields) -> Outcome
     perform(board, t, f)
 }
 
+// Whose records the service can change, as a mask: the caller's, that of P, or that of whom the slot is given to; of others all.
+fn changed_by(t: &[u64; 641], caller: Partition, f: CallFields) -> u32
+    requires { ((view t.now).k.current ≡ caller.0) × (caller.0 < 16) × SmallCall f }
+    ensures { result ≡ changed_by f.service (view t.now).k f }
+{
+    let service = f.service;
+    match service {
+        5 => one_partition(caller) | one_partition(f.partition),
+        6 => {
+            let child = searching::given_to(t, caller, f.slot);
+            one_partition(caller) | one_partition(child)
+        }
+        7 => one_partition(caller),
+        8 => one_partition(caller),
+        9 => one_partition(f.partition),
+        11 => 0,
+        12 => 0,
+        13 => 0,
+        15 => one_partition(f.partition),
+        _ => 0xffff,
+    }
+}
+
 // A call on the words of a sound table: its service, or 2 where it is none. Find and read region leave every word as it was.
 pub fn serve_word(board: Board, t: &mut [u64; 641], word: u64) -> Answer
     requires { sound board t.old ≡ true }
@@ -162,7 +185,7 @@ pub fn serve_word(board: Board, t: &mut [u64; 641], word: u64) -> Answer
     let read = otherwords::call_word::read(word);
     match read {
         CallRead::Fields(f) => {
-            let changed = changes::changed_by(t, caller, f);
+            let changed = changed_by(t, caller, f);
             let outcome = serve(board, t, f);
             let stands = either(f.service == 11, f.service == 12);
             Answer {

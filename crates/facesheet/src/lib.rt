@@ -48,13 +48,13 @@ fn store_both(
     sheet: &mut [u8],
 )
     requires { (length table.old ≡ 5128) × (length sheet.old ≡ 256) × HeaderTells t.now × BytesTell table.old × StoredBut changed t.now table.old × Right (view t.now) × Named x }
-    ensures { (table.new ≡ cond stands table.old (bytes_of t.now)) × (sheet.new ≡ cond stands sheet.old (sheet_kept x changed (view t.now) sheet.old)) }
+    ensures { (table.new ≡ cond stands table.old (bytes_of t.now)) × (sheet.new ≡ cond stands sheet.old (sheet_kept x (view t.now) sheet.old)) }
 {
     if stands {
         return;
     }
     memory::store(t, changed, table);
-    sheet::kept::keep_sheet(t, x, changed, sheet);
+    sheet::kept::keep_sheet(t, x, sheet);
 }
 
 // Exactly the sound tables pass. Of such a table `same` tells whether the bytes are its sheet: it is compared in the pass that decides S1 to S5.

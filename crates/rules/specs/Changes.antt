@@ -31,16 +31,14 @@ unfoldable pub next_in : Opt ℕ → ℕ
 next_in none = 0
 next_in (some n) = n
 
--- By service n. 1, create: the caller's, those of all above it, whose entries close over the new area, and the child's. 2, delete, 3, prepare, and 4, collect: that of P and of all above it; the caller is P or its parent. 5, give, and 6, take: the caller's and the child's. 7, cut, and 8, merge: the caller's. 9, load and unload, and 15, pack: that of P. 14, clear out: that of P, of all above it and of all below it. 11, read region, and 12, find, change nothing, 13, switch, word 0 alone.
+-- By service n. 5, give, and 6, take: the caller's and the child's. 7, cut, and 8, merge: the caller's. 9, load and unload, and 15, pack: that of P. 11, read region, and 12, find, change nothing, 13, switch, word 0 alone. The others can change everybody's.
 unfoldable pub changed_by : ℕ → K → CallFields → ℕ
 changed_by n k f =
-    cond (eqb n 1) (bit_or (up_from k k.current) (2 ^ next_in (lowest 16 (absent_child k))))
-    (cond (eqb n 2 || eqb n 3 || eqb n 4) (up_from k f.partition.0)
-    (cond (eqb n 5) (bit_or (2 ^ k.current) (2 ^ f.partition.0))
+    cond (eqb n 5) (bit_or (2 ^ k.current) (2 ^ f.partition.0))
     (cond (eqb n 6) (bit_or (2 ^ k.current) (2 ^ given_in (k.slot k.current f.slot.0)))
     (cond (eqb n 7 || eqb n 8) (2 ^ k.current)
     (cond (eqb n 9 || eqb n 15) (2 ^ f.partition.0)
-    (cond (eqb n 14) (bit_or (up_from k f.partition.0) (down_from k f.partition.0)) 0))))))
+    (cond (eqb n 11 || eqb n 12 || eqb n 13) 0 0xffff))))
 
 -- nobody's, where the word is refused
 unfoldable pub changed_of : K → CallRead → ℕ

@@ -1,25 +1,30 @@
 ghost use Rattle.std.specs.Prelude.{◌≡◌, ◌||◌, ◌<◌, eqb};
 ghost use Rattle.tables.specs.View.{view};
-ghost use Rattle.sheet.specs.Touched.{areas_move, touched_of_caller, touched, Named};
+ghost use Rattle.tables.specs.Search.{lowest, absent_child};
+ghost use Rattle.rules.specs.Changes.{next_in};
+ghost use Rattle.sheet.specs.Touched.{touched_of_caller, touched, Named};
 
+use tables::Which;
 use words::{Partition, Slot};
 
-// Whose two words a call can change: one partition's; those of whose records it can change.
+// Whose two words a call can change: one partition's; those of p and of all above it; of who is gone, and of the caller and all above it.
 #[derive(Clone, Copy)]
 pub enum Whose {
     Nobody,
     One(Partition),
-    Changed,
+    Up(Partition),
+    Gone,
 }
 
-// Areas come or go by the service.
-fn areas_move(service: u32) -> bool
-    ensures { result ≡ areas_move service }
+// The number of the next child; 0 where there is none.
+fn next_child(t: &[u64; 641]) -> Partition
+    ensures { (result.0 ≡ next_in (lowest 16 (absent_child (view t.now).k))) × (result.0 < 16) }
 {
-    if service < 5 {
-        return true;
+    let found = searching::absent_partition(t);
+    match found {
+        Which::Number(n) => n,
+        Which::Nobody => Partition(0),
     }
-    service == 14
 }
 
 // n is one of two numbers
@@ -37,6 +42,10 @@ fn touched_of_caller(t: &[u64; 641], service: u32, i: Slot) -> Whose
     requires { i.0 < 32 }
     ensures { (result ≡ touched_of_caller service (view t.now).k i.0) × Named result }
 {
+    if service == 1 {
+        let child = next_child(t);
+        return Whose::Up(child);
+    }
     let first = tables::read::first(t);
     let caller = first.current;
     if service == 6 {
@@ -56,8 +65,11 @@ pub fn touched(t: &[u64; 641], word: u64) -> Whose
     let f = otherwords::call_word::fields(word);
     let service = f.service;
     let named = f.partition;
-    if areas_move(service) {
-        return Whose::Changed;
+    if is_either(service, 2, 14) {
+        return Whose::Gone;
+    }
+    if is_either(service, 3, 4) {
+        return Whose::Up(named);
     }
     if is_either(service, 5, 15) {
         return Whose::One(named);

@@ -3,13 +3,13 @@ use mathlib.Core.Path.{refl, sym, ◌∙◌}
 use borrow.Author.Tests.{not-true, not-false}
 use Rattle.tables.specs.Laws.Top.{top_at}
 use Rattle.rules.specs.Laws.Brief.{call_brief, brief_first, number_small}
-use Rattle.sheetrules.specs.Laws.Bytes.{matches_length}
 use Rattle.face.specs.Laws.Face.{call_tells, call_told, call_stored, call_caller_small}
 use Rattle.facesheet.specs.Laws.Sheets.{loaded_right, called_right, call_short, call_unsound, call_mismatch, call_neither, call_both}
 use native.Mathlib.Omega.{arith}
 use borrow.Author.Rules.{rules}
 use Rattle.facesheet.proofs.call_sheet_bytes.Statement.{statement}
 use Rattle.facesheet.proofs.call_sheet_bytes.Tie as tie
+use Rattle.sheetrules.specs.Laws.Bytes.{matches_length}
 
 pub call_sheet_bytes_spec : {M : Type 1} → statement M
 call_sheet_bytes_spec =

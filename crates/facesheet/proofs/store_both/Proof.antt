@@ -1,4 +1,4 @@
--- src/lib.rt, store_both: (now table.exit ≡ cond stands table (bytesOf t)) × (now sheet.exit ≡ cond stands sheet (sheet_kept x changed (view t) sheet))
+-- src/lib.rt, store_both: (now table.exit ≡ cond stands table (bytesOf t)) × (now sheet.exit ≡ cond stands sheet (sheet_kept x (view t) sheet))
 use mathlib.Core.Path.{refl}
 use borrow.Author.Rules.{rules}
 use Rattle.facesheet.proofs.store_both.Statement.{statement}
@@ -10,7 +10,7 @@ store_both_spec =
     (tie.spec
     (λ c. (rw c.if1.true refl, rw c.if1.true refl))
     (λ c κs. (c.before.before.before.before.requires.0, c.before.before.before.before.requires.2, c.before.before.before.before.requires.3, c.before.before.before.before.requires.4))
-    (λ c κs. (c.before.before.before.before.before.before.before.before.requires.4.small, c.before.before.before.before.before.before.before.before.requires.1, c.before.before.before.before.before.before.before.before.requires.5, c.before.before.before.before.before.before.before.before.requires.6))
+    (λ c κs. (c.before.before.before.before.before.before.before.before.requires.1, c.before.before.before.before.before.before.before.before.requires.5, c.before.before.before.before.before.before.before.before.requires.6))
     (λ c. search rules)
     (λ c. search rules)
     (λ c. (rw c.before.before.before.before.before.before.before.before.if1.false c.before.before.before.before.before.before.store.ensures, rw c.before.before.before.before.before.before.before.before.if1.false c.before.before.keep-sheet.ensures)))

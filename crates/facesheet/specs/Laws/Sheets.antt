@@ -22,22 +22,21 @@ use Rattle.rules.specs.Ran.{outcome_of, Ran}
 use Rattle.rules.specs.Laws.Ran.{refused_done, refused_number}
 use Rattle.rules.specs.declared.Answer.{Answer}
 use Rattle.rules.specs.Calls.{caller_of, CallAnswers}
-use Rattle.rules.specs.Changes.{changed_after}
 use Rattle.rules.specs.Laws.Reads.{answers_stand}
 use Rattle.services.specs.Laws.Boot.{boot_any}
 use Rattle.isolation.specs.Laws.Fits.{right_fit}
 use Rattle.isolation.specs.Laws.Boot.{boot_right}
 use Rattle.isolation.specs.Whole.{call_right}
-use Rattle.sheetrules.specs.Sheet.{sheet_of, matches, call_sheet_on, boot_sheet_on}
 use Rattle.sheet.specs.Touched.{touched, Named, sheet_kept}
 use Rattle.sheet.specs.declared.calls.Whose.{Whose}
-use Rattle.sheetrules.specs.Bytes.{handed_sheet, sheet_bytes, sheet_bytes_after}
-use Rattle.sheetrules.specs.Laws.Rules.{call_1, call_20, call_else, boot_1, boot_20, boot_else}
 use Rattle.sheet.specs.Laws.Touched.{call_put}
-use Rattle.sheetrules.specs.Laws.Bytes.{matches_means, sheet_bytes_law, short_handed, handed_length, matches_length}
 use Rattle.face.specs.Face.{handed, result_packed, result_of, second_after, bytes_after, Lent, CallLent}
 use Rattle.face.specs.Laws.Face.{lent_one, handed_is, handed_unsound, boot_lent, call_lent, call_stands, call_lent_refused, handed_whole, handed_short}
 use Rattle.facesheet.specs.Sheets.{BothLent, BootSheetLent, CallSheetLent}
+use Rattle.sheetrules.specs.Sheet.{sheet_of, matches, call_sheet_on, boot_sheet_on}
+use Rattle.sheetrules.specs.Bytes.{handed_sheet, sheet_bytes, sheet_bytes_after}
+use Rattle.sheetrules.specs.Laws.Rules.{call_1, call_20, call_else, boot_1, boot_20, boot_else}
+use Rattle.sheetrules.specs.Laws.Bytes.{matches_means, sheet_bytes_law, short_handed, handed_length, matches_length}
 
 -- two results are equal: the result, every byte of both, the second value
 pub both_lent_one : {n : ℕ} {res : Result} {b s : List ℕ} {r r' : ℕ} {c d u u' : List ℕ} → BothLent n res b s r c u → BothLent n res b s r' d u' → (r ≡ r') × (c ≡ d) × (u ≡ u')
@@ -187,7 +186,7 @@ module _ (board : Board) (b s : List ℕ) (w : ℕ) where
 
         module _ (small : (i : ℕ) → get_or b i 0 < 256) {f g : ℕ} (q : x.outcome ≡ Done f g) where
           -- as it was where every word is as it was; else with the words of those put that the call touched
-          sheet_after : ((i : ℕ) → get_or s i 0 < 256) → {whose : Whose} {u : List ℕ} → whose ≡ touched (view a).k w → Named whose → u ≡ cond x.stands s (sheet_kept whose x.changed (view m) s)
+          sheet_after : ((i : ℕ) → get_or s i 0 < 256) → {whose : Whose} {u : List ℕ} → whose ≡ touched (view a).k w → Named whose → u ≡ cond x.stands s (sheet_kept whose (view m) s)
               → u ≡ sheet_bytes (sheet_of (view m))
           sheet_after bytes {whose} r named e = e ∙ go x.stands refl
             where
@@ -196,17 +195,13 @@ module _ (board : Board) (b s : List ℕ) (w : ℕ) where
                   sym (sheet_bytes_law s (matches_length s (view a) y) bytes)
                   ∙ ap sheet_bytes ((matches_means (handed_sheet s) (view a)).0 y)
 
-              kept : sheet_kept (touched (view a).k w) (changed_after board a w) (view m) (sheet_bytes (sheet_of (view a))) ≡ sheet_bytes (sheet_of (view m))
-              kept = done_has (λ t. sheet_kept (touched (view a).k w) (changed_after board a w) t (sheet_bytes (sheet_of (view a))) ≡ sheet_bytes (sheet_of t)) h.ran q (λ v y t e.
+              kept : sheet_kept (touched (view a).k w) (view m) (sheet_bytes (sheet_of (view a))) ≡ sheet_bytes (sheet_of (view m))
+              kept = done_has (λ t. sheet_kept (touched (view a).k w) t (sheet_bytes (sheet_of (view a))) ≡ sheet_bytes (sheet_of t)) h.ran q (λ v y t e.
                   (call_right board a w (loaded_words board b load small) e, call_put board a w (loaded_words board b load small) (subst Named r named) e))
 
-              go : (k : Bool) → x.stands ≡ k → cond k s (sheet_kept whose x.changed (view m) s) ≡ sheet_bytes (sheet_of (view m))
+              go : (k : Bool) → x.stands ≡ k → cond k s (sheet_kept whose (view m) s) ≡ sheet_bytes (sheet_of (view m))
               go true k = was ∙ ap (λ (l : List ℕ). sheet_bytes (sheet_of (view l))) (sym (answers_stand (loaded_words board b load small) h k))
-              go false _ =
-                  ap (λ (v : Whose). sheet_kept v x.changed (view m) s) r
-                  ∙ ap (λ (c : ℕ). sheet_kept (touched (view a).k w) c (view m) s) h.changed
-                  ∙ ap (sheet_kept (touched (view a).k w) (changed_after board a w) (view m)) was
-                  ∙ kept
+              go false _ = ap (λ (x : Whose). sheet_kept x (view m) s) r ∙ ap (sheet_kept (touched (view a).k w) (view m)) was ∙ kept
 
           table_after : {n : List ℕ} → n ≡ cond x.stands b (bytes_of m) → n ≡ bytes_of m
           table_after e = e ∙ go x.stands refl
@@ -216,7 +211,7 @@ module _ (board : Board) (b s : List ℕ) (w : ℕ) where
               go false k = refl
 
           pub call_both : ((i : ℕ) → get_or s i 0 < 256) → {v r v' : ℕ} {n u : List ℕ} → r ≡ result_packed 0 x.caller.0 f → n ≡ cond x.stands b (bytes_of m)
-              → {whose : Whose} → (whose ≡ touched (view a).k w) × Named whose → u ≡ cond x.stands s (sheet_kept whose x.changed (view m) s) → v' ≡ g → CallSheetLent board b s w v r n u v'
+              → {whose : Whose} → (whose ≡ touched (view a).k w) × Named whose → u ≡ cond x.stands s (sheet_kept whose (view m) s) → v' ≡ g → CallSheetLent board b s w v r n u v'
           call_both bytes p e (r, named) d k =
               beside (call_lent b size load h q p (table_after e) k)
               (both_done s h.ran q (λ v y t e. call_right board a w (loaded_words board b load small) e) (sheet_after bytes r named d) ∙ ap (λ (l : List ℕ). sheet_bytes_after s (call_on board l w)) is)

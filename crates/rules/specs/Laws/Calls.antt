@@ -32,7 +32,6 @@ use Rattle.rules.specs.Laws.Ran.{ran_one, ran_refused, ran_as, pass, fail}
 use Rattle.rules.specs.Reads.{only_reads, stands_after}
 use Rattle.rules.specs.Changes.{changed_by, changed_of, changed_after}
 use Rattle.rules.specs.Calls.{caller_of, CallAnswers}
-use Rattle.rules.specs.Laws.Changes.{up_small, down_small, next_small}
 
 pub caller_small : (board : Board) (l : List ℕ) → caller_of board l < 16
 unfolding caller_of
@@ -120,24 +119,20 @@ module _ (board : Board) (l : List ℕ) (w : ℕ) where
       go false = refl
 
 -- ── whose records a service can change ──
--- the services whose records are told one by one, the last first
+-- the services that do not change everybody's, the last first
 abbrev pub narrow : List ℕ
 narrow = 15 ∷ 13 ∷ 12 ∷ 11 ∷ 9 ∷ 8 ∷ 7 ∷ 6 ∷ 5 ∷ []
-
--- the services that change a record, the last first
-abbrev pub changing : List ℕ
-changing = 15 ∷ 14 ∷ 9 ∷ 8 ∷ 7 ∷ 6 ∷ 5 ∷ 4 ∷ 3 ∷ 2 ∷ 1 ∷ []
 
 module _ (k : K) (f : CallFields) where
   pub changed_at : (n : ℕ) {x : ℕ} → f.service ≡ n → x ≡ changed_by n k f → x ≡ changed_by f.service k f
   changed_at n q z = z ∙ ap (λ (m : ℕ). changed_by m k f) (sym q)
 
-  pub changed_none : NoneOf f.service changing → 0 ≡ changed_by f.service k f
+  pub changed_all : NoneOf f.service narrow → 0xffff ≡ changed_by f.service k f
   unfolding changed_by
-  changed_none h = rw (no 1 refl, no 2 refl, no 3 refl, no 4 refl, no 5 refl, no 6 refl, no 7 refl, no 8 refl, no 9 refl, no 14 refl, no 15 refl) refl
+  changed_all h = rw (no 5 refl, no 6 refl, no 7 refl, no 8 refl, no 9 refl, no 11 refl, no 12 refl, no 13 refl, no 15 refl) refl
     where
-      no : (i : ℕ) → listed i changing ≡ true → eqb f.service i ≡ false
-      no i = none_of_at f.service i changing h
+      no : (i : ℕ) → listed i narrow ≡ true → eqb f.service i ≡ false
+      no i = none_of_at f.service i narrow h
 
 -- .. always of the sixteen partitions
 either_small : (b : Bool) (x y : ℕ) → x < 0x1_0000 → y < 0x1_0000 → cond b x y < 0x1_0000
@@ -161,13 +156,11 @@ changed_by_small l f n s =
     let current : (view l).k.current < 16 = omega (arith, c.current, c.current_small) in
     let own : 2 ^ (view l).k.current < 0x1_0000 = pow-lt current in
     let named : 2 ^ f.partition.0 < 0x1_0000 = pow-lt s.partition in
-    either_small (eqb n 1) _ _ (or_lt 16 _ _ (up_small _ _) (pow-lt (next_small (view l).k)))
-    (either_small (eqb n 2 || eqb n 3 || eqb n 4) _ _ (up_small _ _)
-    (either_small (eqb n 5) _ _ (or_lt 16 _ _ own named)
+    either_small (eqb n 5) _ _ (or_lt 16 _ _ own named)
     (either_small (eqb n 6) _ _ (or_lt 16 _ _ own (pow-lt (given_in_small l (view l).k.current f.slot.0 current s.slot)))
     (either_small (eqb n 7 || eqb n 8) _ _ own
     (either_small (eqb n 9 || eqb n 15) _ _ named
-    (either_small (eqb n 14) _ _ (or_lt 16 _ _ (up_small _ _) (down_small _ _)) (omega arith)))))))
+    (either_small (eqb n 11 || eqb n 12 || eqb n 13) 0 0xffff (omega arith) (omega arith)))))
 
 pub changed_small : (board : Board) (l : List ℕ) (w : ℕ) → changed_after board l w < 0x1_0000
 changed_small board l w =

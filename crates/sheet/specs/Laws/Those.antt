@@ -14,7 +14,8 @@ use Rattle.sound.specs.Whole.{Right}
 use Rattle.sheetrules.specs.Sheet.{masks_word, lines_word, sheet_of}
 use Rattle.sheetrules.specs.Bytes.{sheet_bytes, pair_put}
 use Rattle.summing.specs.Sums.{children_of, masks_with}
-use Rattle.sheet.specs.Touched.{put_those}
+use Rattle.sheet.specs.Touched.{touches, put_those}
+use Rattle.sheet.specs.declared.calls.Whose.TheVariants.{Gone}
 use Rattle.sheetrules.specs.Laws.Bytes.{pair_sheet, pair_on_law}
 use Rattle.summing.specs.Laws.Written.{with_children}
 use Rattle.tables.specs.Search.{is_some, is_none, present, absent}
@@ -245,3 +246,8 @@ module _ (t : Table) {s : List ℕ} where
   pub zero_end : {u : List ℕ} {i : ℕ} → Filling (or_zero t) s 256 i u → 256 ≤ i → u ≡ put_those (absent t.k) t s
   unfolding put_those
   zero_end inv h = fill_tab inv h
+
+-- who is gone, and then the way up from the current one
+pub gone_put : (t : Table) (s : List ℕ) {c : ℕ} {u v : List ℕ} → t.k.current ≡ c → u ≡ put_those (absent t.k) t s → v ≡ put_those (above t.k c) t u → v ≡ put_those (touches Gone t.k) t s
+unfolding touches
+gone_put t s e q r = r ∙ rw (q, ← e) (those_twice t (above t.k t.k.current) (absent t.k) s)

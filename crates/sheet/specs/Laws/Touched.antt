@@ -1,11 +1,10 @@
 -- The words of those that a call does not touch are as they were, so the sheet that the code keeps is the one of the table after it.
-use Rattle.std.specs.Prelude.{◌≡◌, Bool, false, cond, ◌||◌, List, ℕ, ◌+◌, ◌*◌, ◌/◌, ◌%◌, ◌^◌, ◌≤◌, ◌<◌, eqb, get_or}
-use Rattle.std.proofs.Math.Path.{refl, ap, sym}
-use Rattle.std.proofs.Common.{subst, ◌∙◌, arith}
+use Rattle.std.proofs.Math.Path.{◌≡◌, refl, ap, sym}
+use Rattle.std.proofs.Common.{subst, ◌∙◌, true≢false, inl, inr, arith}
+use Rattle.std.specs.Prelude.{Bool, false, cond, ◌||◌, List, ℕ, ◌+◌, ◌*◌, ◌/◌, ◌%◌, ◌^◌, ◌<◌, eqb, get_or}
 use Rattle.std.proofs.Math.Bool.{true, false≢true}
 use Rattle.std.proofs.Math.Decide.{ℕ_discrete}
-use borrow.Author.Tests.{eq-eqb, ne_eqb, lt-ltb, le-ltb}
-use Rattle.loops.specs.Loops.{names}
+use borrow.Author.Tests.{eq-eqb, ne_eqb}
 use Rattle.loops.specs.Laws.Rewrite.{length_tab, tab_at, tab_is, tab_ext}
 use Rattle.words.specs.Kind.{fields_in}
 use Rattle.words.specs.Laws.Kind.{fields_back}
@@ -16,21 +15,28 @@ use Rattle.words.specs.declared.Partition.{Partition}
 use Rattle.words.specs.declared.call_word.CallFields.{CallFields}
 use Rattle.words.specs.declared.masks_word.MasksFields.{MasksFields}
 use Rattle.shapes.specs.declared.Board.{Board}
-use Rattle.tables.specs.State.{Opt, some, Entry, given_to, Area, K, Table}
+use Rattle.tables.specs.State.{Opt, none, some, Entry, given_to, Area, K, Table}
 use Rattle.tables.specs.Update.{upd}
 use Rattle.tables.specs.Laws.Update.{upd_same, upd_other, row_other}
 use Rattle.tables.specs.View.{view}
-use Rattle.tables.specs.Search.{is_some, present, child, given_in}
+use Rattle.tables.specs.Search.{is_some, is_none, lowest, present, absent, absent_child, child, given_in}
 use Rattle.tables.specs.Write.{with_slot, with_current}
 use Rattle.tables.specs.Settle.{open_bit, open_at, settle}
 use Rattle.tables.specs.Fitting.{Words}
 use Rattle.tables.specs.Laws.Stays.{Stays}
 use Rattle.memory.specs.Bytes.{byte_of, word_from, word_at}
+use Rattle.sound.specs.Sound.{Present}
+use Rattle.sound.specs.Core.{Core}
 use Rattle.sound.specs.Laws.Settled.{right_settled}
 use Rattle.sound.specs.Whole.{Right}
-use Rattle.rules.specs.Rules.{done, serve, call_on}
-use Rattle.rules.specs.Changes.{changed_after}
+use Rattle.rules.specs.Rules.{done, create_k, remove_k, serve, call_on}
 use Rattle.rules.specs.Laws.Each.{done_each}
+use Rattle.isolation.specs.Ladders.{OwnOrChild}
+use Rattle.isolation.specs.Laws.Remove.{Goes}
+use Rattle.isolation.specs.Laws.Create.{CreateOk, create_done, create_number}
+use Rattle.isolation.specs.Laws.Delete.{delete_done}
+use Rattle.isolation.specs.Laws.Prepare.{prepare_done}
+use Rattle.isolation.specs.Laws.Collect.{collect_done}
 use Rattle.isolation.specs.Laws.Give.{give_done}
 use Rattle.isolation.specs.Laws.Take.{take_done}
 use Rattle.isolation.specs.Laws.Cut.{cut_done}
@@ -38,20 +44,23 @@ use Rattle.isolation.specs.Laws.Merge.{merge_done}
 use Rattle.isolation.specs.Laws.Regions.{load_done, unload_done, read_region_same_law}
 use Rattle.isolation.specs.Laws.Find.{find_same}
 use Rattle.isolation.specs.Laws.Switch.{switch_done}
+use Rattle.isolation.specs.Laws.ClearOut.{branch_goes, clear_done}
 use Rattle.isolation.specs.Laws.Pack.{pack_done}
-use Rattle.isolation.specs.Laws.Elsewhere.{call_elsewhere}
-use Rattle.isolation.specs.Whole.{served}
+use Rattle.isolation.specs.Whole.{serve_right, served}
+use Rattle.sheet.specs.Touched.{touched_of_caller, touched_by, touched, Named, touches, kept_pair, put_those, sheet_kept}
+use Rattle.sheet.specs.declared.calls.Whose.{Whose}
+use Rattle.sheet.specs.declared.calls.Whose.TheVariants.{Nobody, One, Up, Gone}
+use Rattle.sheet.specs.Laws.Children.{SameChildren, heads_same, serve_children}
+use Rattle.sheet.specs.Laws.Kept.{PairAlike, stays_alike, masks_same, lines_same}
+use Rattle.sheet.specs.Laws.Those.{those_all, pair_size, pair_in, pair_out}
 use Rattle.sheetrules.specs.Sheet.{number_of_lines, masks_of, masks_word, lines_word, sheet_word, sheet_of}
 use Rattle.sheetrules.specs.Bytes.{sheet_bytes, pair_put}
 use Rattle.summing.specs.Sums.{children_of, masks_with}
-use Rattle.sheet.specs.Touched.{areas_move, touched_of_caller, touched_by, touched, Named, touches, kept_pair, put_those, sheet_kept}
-use Rattle.sheet.specs.declared.calls.Whose.{Whose}
-use Rattle.sheet.specs.declared.calls.Whose.TheVariants.{Nobody, One, Changed}
+use Rattle.rules.specs.Changes.{above, next_in}
 use Rattle.sheetrules.specs.Laws.Words.{masks_in}
 use Rattle.sheetrules.specs.Laws.Reading.{sheet_masks_read, bytes_same}
-use Rattle.sheet.specs.Laws.Children.{SameChildren, heads_same}
-use Rattle.sheet.specs.Laws.Kept.{PairAlike, stays_alike, masks_same, lines_same, call_kept}
-use Rattle.sheet.specs.Laws.Those.{those_all, pair_size, pair_in, pair_out}
+use Rattle.isolation.specs.Laws.Above.{above_not}
+use Rattle.isolation.specs.Laws.Outside.{create_stays, prepare_stays, collect_stays, removal_stays}
 
 -- the two words of q are as they were
 abbrev SamePair : Table → Table → ℕ → Type 0
@@ -99,24 +108,31 @@ module _ {t : Table} (h : Right t) where
   before = sheet_bytes (sheet_of t)
 
   -- What is put brings the sheet up to the table: the others' pairs stay.
-  record Follows (x : Whose) (m : ℕ) (new : Table) : Type 0 where
-    others : (q : ℕ) → q < 16 → touches x m q ≡ false → SamePair t new q
-    bytes : sheet_kept x m new before ≡ sheet_bytes (sheet_of new)
+  record Follows (x : Whose) (new : Table) : Type 0 where
+    others : (q : ℕ) → q < 16 → touches x new.k q ≡ false → SamePair t new q
+    bytes : sheet_kept x new before ≡ sheet_bytes (sheet_of new)
 
-  follows_nobody : {m : ℕ} {new : Table} → ((q : ℕ) → SamePair t new q) → Follows Nobody m new
+  follows_nobody : {new : Table} → ((q : ℕ) → SamePair t new q) → Follows Nobody new
   unfolding sheet_kept
-  follows_nobody {new = new} same = record { others = λ q _ _. same q; bytes = ap sheet_bytes (sym (all_same t new same)) }
+  follows_nobody {new} same = record { others = λ q _ _. same q; bytes = ap sheet_bytes (sym (all_same t new same)) }
 
-  follows_one : {m : ℕ} {new : Table} (p : ℕ) → p < 16 → ((q : ℕ) → (q ≡ p → ⊥) → SamePair t new q) → masks_with (fields_in masks (word_at before (2 * p))).children new p ≡ masks_word new p → Follows (One (record { 0 = p })) m new
+  follows_one : {new : Table} (p : ℕ) → p < 16 → ((q : ℕ) → (q ≡ p → ⊥) → SamePair t new q) → masks_with (fields_in masks (word_at before (2 * p))).children new p ≡ masks_word new p → Follows (One (record { 0 = p })) new
   unfolding sheet_kept kept_pair touches
-  follows_one {new = new} p b same own = record {
+  follows_one {new} p b same own = record {
     others = λ q _ x. same q (λ z. false≢true (sym x ∙ eq-eqb q p z));
     bytes = one_put t new p b same own refl;
   }
 
-  follows_changed : {m : ℕ} {new : Table} → ((q : ℕ) → q < 16 → names m q ≡ false → SamePair t new q) → Follows Changed m new
+  those_bytes : (new : Table) (m : ℕ → Bool) → ((q : ℕ) → q < 16 → m q ≡ false → SamePair t new q) → put_those m new before ≡ sheet_bytes (sheet_of new)
+  those_bytes new m same = those_all new m before (λ n b x. other_byte t new n b (same (n / 16) (omega arith) x))
+
+  follows_up : {new : Table} (p : Partition) → ((q : ℕ) → q < 16 → above new.k p.0 q ≡ false → SamePair t new q) → Follows (Up p) new
   unfolding sheet_kept touches
-  follows_changed {m} {new} same = record { others = same; bytes = those_all new (names m) before (λ n b x. other_byte t new n b (same (n / 16) (omega arith) x)) }
+  follows_up {new} p same = record { others = same; bytes = those_bytes new (above new.k p.0) same }
+
+  follows_gone : {new : Table} → ((q : ℕ) → q < 16 → absent new.k q || above new.k new.k.current q ≡ false → SamePair t new q) → Follows Gone new
+  unfolding sheet_kept touches
+  follows_gone {new} same = record { others = same; bytes = those_bytes new (λ q. absent new.k q || above new.k new.k.current q) same }
 
   -- ── entries of p change, and of others at most whom they are given to ──
   module _ (p : ℕ) (b : p < 16) (slot : ℕ → ℕ → Opt Entry) (region : ℕ → ℕ → Opt ℕ) (like : (q i : ℕ) → (q ≡ p → ⊥) → Like (slot q i) (t.k.slot q i)) where
@@ -144,14 +160,13 @@ module _ {t : Table} (h : Right t) where
         go true q = rw (read q) refl
         go false q = rw q refl
 
-    one_follows : {m : ℕ} → Follows (One (record { 0 = p })) m new
+    one_follows : Follows (One (record { 0 = p })) new
     unfolding settle
     one_follows = follows_one p b (λ q n. (masks_same (others q n) (same_heads q), lines_same (others q n))) own
       where
         same_heads : (q : ℕ) → SameChildren t.k new.k q
         same_heads = heads_same t.k new.k (λ _. refl) (λ _. refl)
 
-  -- ── the services ──
   -- two slots of c
   two_slots : (c i j : ℕ) (x y : Opt Entry) (q k : ℕ) → (q ≡ c → ⊥) → Like (upd (upd t.k.slot c i x) c j y q k) (t.k.slot q k)
   two_slots c i j x y q k n = like_of (upd_other (upd t.k.slot c i x) c j y q k (λ z. n z.0) ∙ upd_other t.k.slot c i x q k (λ z. n z.0))
@@ -172,39 +187,67 @@ module _ {t : Table} (h : Right t) where
   stays_pair : {new : Table} → ((q : ℕ) → Stays t new q) → ((q : ℕ) → new.k.parent q ≡ t.k.parent q) → (q : ℕ) → SamePair t new q
   stays_pair {new} s parent q = (masks_same (stays_alike (s q)) (heads_same t.k new.k parent (λ q. (s q).area 0) q), lines_same (stays_alike (s q)))
 
-  region_follows : {m : ℕ} (region : ℕ → ℕ → Opt ℕ) → Follows Nobody m (settle t.k region)
+  region_follows : (region : ℕ → ℕ → Opt ℕ) → Follows Nobody (settle t.k region)
   unfolding settle
   region_follows region = follows_nobody (stays_pair (λ p. record { area = λ j. refl; slot = λ i. refl; opened = (right_settled h).bits p }) (λ q. refl))
 
-  current_follows : {m : ℕ} (c : ℕ) → Follows Nobody m (settle (with_current t.k c) t.region)
+  current_follows : (c : ℕ) → Follows Nobody (settle (with_current t.k c) t.region)
   unfolding settle open_at
   current_follows c = follows_nobody (stays_pair (λ p. record { area = λ j. refl; slot = λ i. refl; opened = (right_settled h).bits p }) (λ q. refl))
 
-  same_follows : {m : ℕ} {new : Table} → new ≡ t → Follows Nobody m new
+  same_follows : {new : Table} → new ≡ t → Follows Nobody new
   same_follows z = rw z (follows_nobody (λ q. (refl, refl)))
 
   -- what follows a table follows an equal one
-  moved : {m : ℕ} {new k : Table} (x : Whose) → new ≡ k → Follows x m k → Follows x m new
+  moved : {new k : Table} (x : Whose) → new ≡ k → Follows x k → Follows x new
   moved x z e = rw z e
 
   module _ (b : Board) (f : CallFields) {new : Table} {v w : ℕ} (z : serve b t f ≡ done v w new) where
-    at : {m : ℕ} (n : ℕ) → f.service ≡ n → Follows (touched_by n t.k f) m new → Follows (touched_by f.service t.k f) m new
-    at {m} n q e = subst (λ (n : ℕ). Follows (touched_by n t.k f) m new) (sym q) e
+    abbrev right : Right new
+    right = serve_right b h f z
 
-    -- m is the mask of the records that it can change
-    serve_follows : {m : ℕ} → ((q : ℕ) → q < 16 → names m q ≡ false → SamePair t new q) → Named (touched_by f.service t.k f) → Follows (touched_by f.service t.k f) m new
-    unfolding areas_move touched_by touched_of_caller given_in settle
-    serve_follows changed named =
+    stayed : {q : ℕ} → Stays t new q → SamePair t new q
+    stayed s = (masks_same (stays_alike s) (serve_children b h f z s), lines_same (stays_alike s))
+
+    present_small : {k : K} → Core k → {p : ℕ} → Present k p → p < 16
+    present_small g {p} (a, u) = (g.s2_range p 0 a u).0
+
+    create_follows : {s n : ℕ} {e : Entry} → CreateOk t.k s n e → new.k ≡ create_k t.k n e → Follows (Up (record { 0 = n })) new
+    create_follows ok is = follows_up _ (λ q b x. stayed (create_stays h right ok is (above_not right.core ok.number x)))
+
+    own_small : {p : ℕ} → OwnOrChild t.k p → p < 16
+    own_small (inl y) = rw y (present_small h.core h.core.s1_current)
+    own_small (inr c) = present_small h.core c.present
+
+    remove_follows : {c : ℕ} {m : ℕ → Bool} → Goes t.k c m → new.k ≡ remove_k t.k c m → Follows Gone new
+    unfolding absent
+    remove_follows ok is = follows_gone (λ q b x. go q x (new.k.area q 0) refl)
+      where
+        caller : new.k.current ≡ t.k.current
+        caller = ap (λ (k : K). k.current) is
+
+        go : (q : ℕ) → is_none (new.k.area q 0) || above new.k new.k.current q ≡ false → (o : Opt Area) → new.k.area q 0 ≡ o → SamePair t new q
+        go q x none u = absurd (true≢false (rw u at x))
+        go q x (some a) u =
+            let far = above_not right.core (rw caller (present_small h.core h.core.s1_current)) (rw u at x) in
+            stayed (removal_stays h right ok is (a, u) (rw caller at far))
+
+    at : (n : ℕ) → f.service ≡ n → Follows (touched_by n t.k f) new → Follows (touched_by f.service t.k f) new
+    at n q e = subst (λ (n : ℕ). Follows (touched_by n t.k f) new) (sym q) e
+
+    serve_follows : Named (touched_by f.service t.k f) → Follows (touched_by f.service t.k f) new
+    unfolding touched_by touched_of_caller given_in next_in settle
+    serve_follows named =
         let p = f.partition.0 in
         let i = f.slot.0 in
         let u = f.other in
         let l = f.line.0 in
         let c = t.k.current in
         done_each b t f z (record {
-          create = λ n _. at 1 n (follows_changed changed);
-          delete = λ n _. at 2 n (follows_changed changed);
-          prepare = λ n _. at 3 n (follows_changed changed);
-          collect = λ n _. at 4 n (follows_changed changed);
+          create = λ n x. let (e, ok, y) = create_done h i x in at 1 n (rw (create_number h i x) (create_follows ok (ap (λ (t : Table). t.k) y)));
+          delete = λ n x. let (ok, y) = delete_done h p x in at 2 n (remove_follows ok (ap (λ (t : Table). t.k) y));
+          prepare = λ n x. let (e, ok, y) = prepare_done h p i x in at 3 n (follows_up f.partition (λ q _ d. stayed (prepare_stays h right ok (ap (λ (t : Table). t.k) y) (above_not right.core (own_small ok.who) d))));
+          collect = λ n x. let (ok, y) = collect_done h p u x in at 4 n (follows_up f.partition (λ q _ d. stayed (collect_stays h right ok (ap (λ (t : Table). t.k) y) (above_not right.core (own_small ok.who) d))));
           give = λ n x. let (e, ok, y) = give_done h p i f.rights f.whole x in at 5 n (moved (One f.partition) y (one_follows p (named.one f.partition (rw n refl)) _ _ (giving i e ok.entry.at _ p _ _)));
           take = λ n x. let (j, e, g, ok, y) = take_done h i x in at 6 n (moved (One (record { 0 = given_in (t.k.slot c i) })) y (rw ok.at (one_follows e.given (named.one (record { 0 = e.given }) (rw (n, ok.at) refl)) _ _ (giving i e ok.at _ e.given _ _))));
           cut = λ n x. let (e, ok, y) = cut_done h i l x in at 7 n (moved (One (record { 0 = c })) y (one_follows c (named.one (record { 0 = c }) (rw n refl)) _ _ (two_slots c _ _ _ _)));
@@ -214,55 +257,49 @@ module _ {t : Table} (h : Right t) where
           read_region = λ n x. at 11 n (same_follows (read_region_same_law h p u x));
           find = λ n x. at 12 n (same_follows (find_same h p l x));
           switch = λ n x. let (_, y) = switch_done h p x in at 13 n (moved Nobody y (current_follows p));
-          clear_out = λ n _. at 14 n (follows_changed changed);
+          clear_out = λ n x. let (d, _, y) = clear_done h p x in at 14 n (remove_follows (branch_goes h.core d) (ap (λ (t : Table). t.k) y));
           pack = λ n x. let (_, _, y) = pack_done h p x in at 15 n (moved (One f.partition) y (one_follows p (named.one f.partition (rw n refl)) _ _ (λ q k m. like_of (row_other t.k.slot p _ q k m))));
         })
 
 -- THE THEOREM, over words, of a call that is done: the words of those that it does not touch are as they were ..
 module _ (b : Board) (l : List ℕ) (w : ℕ) (small : Words l) (named : Named (touched (view l).k w)) {v y : ℕ} {new : Table} (z : call_on b l w ≡ done v y new) where
-  follows : Follows (served b l w small z).1 (touched (view l).k w) (changed_after b l w) new
-  follows =
-      let (_, h, x) = served b l w small z in
-      serve_follows h b (fields_in call w) x (λ q a d. call_kept b l w small z q (call_elsewhere b l w small z q a d)) named
+  follows : Follows (served b l w small z).1 (touched (view l).k w) new
+  follows = let (_, h, x) = served b l w small z in serve_follows h b (fields_in call w) x named
 
-  pub call_touched : (q : ℕ) → q < 16 → touches (touched (view l).k w) (changed_after b l w) q ≡ false → (masks_word new q ≡ masks_word (view l) q) × (lines_word new q ≡ lines_word (view l) q)
+  pub call_touched : (q : ℕ) → q < 16 → touches (touched (view l).k w) new.k q ≡ false → (masks_word new q ≡ masks_word (view l) q) × (lines_word new q ≡ lines_word (view l) q)
   call_touched = follows.others
 
   -- .. so what the code puts makes the sheet of the table after it
-  pub call_put : sheet_kept (touched (view l).k w) (changed_after b l w) new (sheet_bytes (sheet_of (view l))) ≡ sheet_bytes (sheet_of new)
+  pub call_put : sheet_kept (touched (view l).k w) new (sheet_bytes (sheet_of (view l))) ≡ sheet_bytes (sheet_of new)
   call_put = follows.bytes
 
 -- ── the exits of the code ──
 abbrev number_in : Whose → ℕ
 number_in Nobody = 0
 number_in (One p) = p.0
-number_in Changed = 0
+number_in (Up p) = p.0
+number_in Gone = 0
 
 named_by : {x : Whose} → number_in x < 16 → Named x
-named_by {x} h = record { one = λ q e. omega (arith, ap number_in e) }
+named_by {x} h = record { one = λ q e. omega (arith, ap number_in e); up = λ q e. omega (arith, ap number_in e) }
 
--- areas come or go
-pub moves_few : (n : ℕ) → n < 5 → true ≡ areas_move n
-unfolding areas_move
-moves_few n h = rw (lt-ltb n 5 h) refl
-
-pub moves_last : (n : ℕ) → 5 ≤ n → eqb n 14 ≡ areas_move n
-unfolding areas_move
-moves_last n h = rw (le-ltb n 5 h) refl
-
--- touched_of_caller: p is whom the slot is given to, or the caller
+-- touched_of_caller: p is the child, whom the slot is given to, or the caller
 module _ (n : ℕ) (k : K) (s : ℕ) (p : Partition) where
-  pub caller_cuts : k.current ≡ p.0 → p.0 < 16 → (n ≡ 6 → ⊥) → {x : Bool} → x ≡ eqb n 7 || eqb n 8 → x ≡ true → (One p ≡ touched_of_caller n k s) × Named (One p)
+  pub caller_creates : n ≡ 1 → p.0 ≡ next_in (lowest 16 (absent_child k)) → p.0 < 16 → (Up p ≡ touched_of_caller n k s) × Named (Up p)
   unfolding touched_of_caller
-  caller_cuts c h b e z = (rw (ne_eqb n 6 b, sym e ∙ z) (ap (λ (m : ℕ). One (record { 0 = m })) (sym c)), named_by h)
+  caller_creates z e h = (rw (eq-eqb n 1 z) (ap (λ (m : ℕ). Up (record { 0 = m })) e), named_by h)
 
-  pub caller_takes : {c : ℕ} → n ≡ 6 → k.current ≡ c → p.0 ≡ given_in (k.slot c s) → p.0 < 16 → (One p ≡ touched_of_caller n k s) × Named (One p)
+  pub caller_cuts : k.current ≡ p.0 → p.0 < 16 → (n ≡ 1 → ⊥) → (n ≡ 6 → ⊥) → {x : Bool} → x ≡ eqb n 7 || eqb n 8 → x ≡ true → (One p ≡ touched_of_caller n k s) × Named (One p)
   unfolding touched_of_caller
-  caller_takes z c e h = (rw (eq-eqb n 6 z) (ap (λ (m : ℕ). One (record { 0 = m })) (e ∙ ap (λ (c : ℕ). given_in (k.slot c s)) (sym c))), named_by h)
+  caller_cuts c h a b e z = (rw (ne_eqb n 1 a, ne_eqb n 6 b, sym e ∙ z) (ap (λ (m : ℕ). One (record { 0 = m })) (sym c)), named_by h)
 
-pub caller_else : (n : ℕ) (k : K) (s : ℕ) → (n ≡ 6 → ⊥) → {x : Bool} → x ≡ eqb n 7 || eqb n 8 → x ≡ false → (Nobody ≡ touched_of_caller n k s) × Named Nobody
+  pub caller_takes : {c : ℕ} → (n ≡ 1 → ⊥) → n ≡ 6 → k.current ≡ c → p.0 ≡ given_in (k.slot c s) → p.0 < 16 → (One p ≡ touched_of_caller n k s) × Named (One p)
+  unfolding touched_of_caller
+  caller_takes a z c e h = (rw (ne_eqb n 1 a, eq-eqb n 6 z) (ap (λ (m : ℕ). One (record { 0 = m })) (e ∙ ap (λ (c : ℕ). given_in (k.slot c s)) (sym c))), named_by h)
+
+pub caller_else : (n : ℕ) (k : K) (s : ℕ) → (n ≡ 1 → ⊥) → (n ≡ 6 → ⊥) → {x : Bool} → x ≡ eqb n 7 || eqb n 8 → x ≡ false → (Nobody ≡ touched_of_caller n k s) × Named Nobody
 unfolding touched_of_caller
-caller_else n k s b e z = (rw (ne_eqb n 6 b, sym e ∙ z) refl, named_by (omega arith))
+caller_else n k s a b e z = (rw (ne_eqb n 1 a, ne_eqb n 6 b, sym e ∙ z) refl, named_by (omega arith))
 
 -- touched: f are the fields of the word
 pub told_slot : (w : ℕ) {f : CallFields} → f ≡ fields_in call w → f.slot.0 < 32
@@ -275,20 +312,25 @@ module _ (k : K) (w : ℕ) {f : CallFields} (is : f ≡ fields_in call w) where
   small_p : f.partition.0 < 16
   small_p = subst (λ (f : CallFields). f.partition.0 < 16) (sym is) (call_small w).partition
 
-  -- whether areas come or go
-  module _ {a : Bool} (q : a ≡ areas_move f.service) where
-    pub told_changed : a ≡ true → (Changed ≡ touched k w) × Named Changed
+  -- whether the service is one of two
+  module _ {a : Bool} (q : a ≡ eqb f.service 2 || eqb f.service 14) where
+    pub told_gone : a ≡ true → (Gone ≡ touched k w) × Named Gone
     unfolding touched_by
-    told_changed z = (told (rw (sym q ∙ z) refl), named_by (omega arith))
+    told_gone z = (told (rw (sym q ∙ z) refl), named_by (omega arith))
 
-    module _ (u : a ≡ false) {c : Bool} (s : c ≡ eqb f.service 5 || eqb f.service 15) where
-      pub told_one : c ≡ true → (One f.partition ≡ touched k w) × Named (One f.partition)
+    module _ (u : a ≡ false) {b : Bool} (r : b ≡ eqb f.service 3 || eqb f.service 4) where
+      pub told_up : b ≡ true → (Up f.partition ≡ touched k w) × Named (Up f.partition)
       unfolding touched_by
-      told_one z = (told (rw (sym q ∙ u, sym s ∙ z) refl), named_by small_p)
+      told_up z = (told (rw (sym q ∙ u, sym r ∙ z) refl), named_by small_p)
 
-      pub told_else : {x : Whose} → c ≡ false → (x ≡ touched_of_caller f.service k f.slot.0) × Named x → (x ≡ touched k w) × Named x
-      unfolding touched_by
-      told_else z (e, named) = (told (rw (sym q ∙ u, sym s ∙ z) e), named)
+      module _ (v : b ≡ false) {c : Bool} (s : c ≡ eqb f.service 5 || eqb f.service 15) where
+        pub told_one : c ≡ true → (One f.partition ≡ touched k w) × Named (One f.partition)
+        unfolding touched_by
+        told_one z = (told (rw (sym q ∙ u, sym r ∙ v, sym s ∙ z) refl), named_by small_p)
+
+        pub told_else : {x : Whose} → c ≡ false → (x ≡ touched_of_caller f.service k f.slot.0) × Named x → (x ≡ touched k w) × Named x
+        unfolding touched_by
+        told_else z (e, named) = (told (rw (sym q ∙ u, sym r ∙ v, sym s ∙ z) e), named)
 
 -- the two words of p are put afresh
 pub few_again : (w : ℕ) {f : MasksFields} → f ≡ fields_in masks w → f.children < 2 ^ 16
@@ -301,15 +343,19 @@ pair_again t p s {i} d q e z =
     z ∙ ap (λ (f : MasksFields). pair_put s p (masks_with f.children t p) (lines_word t p)) (e ∙ ap (fields_in masks) (q ∙ ap (word_from s) y))
 
 -- whose words are put
-module _ (m : ℕ) (t : Table) (s : List ℕ) {x : Whose} where
-  pub kept_nobody : x ≡ Nobody → s ≡ sheet_kept x m t s
+module _ (t : Table) (s : List ℕ) {x : Whose} where
+  pub kept_nobody : x ≡ Nobody → s ≡ sheet_kept x t s
   unfolding sheet_kept
-  kept_nobody e = ap (λ (x : Whose). sheet_kept x m t s) (sym e)
+  kept_nobody e = ap (λ (x : Whose). sheet_kept x t s) (sym e)
 
-  pub kept_one : {p : Partition} {u : List ℕ} → x ≡ One p → u ≡ kept_pair t p.0 s → u ≡ sheet_kept x m t s
+  pub kept_one : {p : Partition} {u : List ℕ} → x ≡ One p → u ≡ kept_pair t p.0 s → u ≡ sheet_kept x t s
   unfolding sheet_kept
-  kept_one e z = z ∙ ap (λ (x : Whose). sheet_kept x m t s) (sym e)
+  kept_one e z = z ∙ ap (λ (x : Whose). sheet_kept x t s) (sym e)
 
-  pub kept_changed : {u : List ℕ} → x ≡ Changed → u ≡ put_those (names m) t s → u ≡ sheet_kept x m t s
+  pub kept_up : {p : Partition} {u : List ℕ} → x ≡ Up p → u ≡ put_those (above t.k p.0) t s → u ≡ sheet_kept x t s
+  unfolding sheet_kept touches
+  kept_up e z = z ∙ ap (λ (x : Whose). sheet_kept x t s) (sym e)
+
+  pub kept_gone : {u : List ℕ} → x ≡ Gone → u ≡ put_those (touches Gone t.k) t s → u ≡ sheet_kept x t s
   unfolding sheet_kept
-  kept_changed e z = z ∙ ap (λ (x : Whose). sheet_kept x m t s) (sym e)
+  kept_gone e z = z ∙ ap (λ (x : Whose). sheet_kept x t s) (sym e)

@@ -1,8 +1,7 @@
--- src/changes.rt, next_child: (r.0 ≡ next_in (lowest 16 (absent_child (view t).k))) × (r.0 < 16)
-use Rattle.rules.specs.Laws.Changes.{next_some, next_none}
+-- src/calls.rt, next_child: (r.0 ≡ next_in (lowest 16 (absent_child (view t).k))) × (r.0 < 16)
 use native.Mathlib.Omega.{arith}
-use borrow.Author.Rules.{rules}
-use Rattle.calls.proofs.changes.next_child.Goals as goal
+use Rattle.rules.specs.Laws.Changes.{next_some, next_none}
+use Rattle.sheet.proofs.calls.next_child.Goals as goal
 
 pub returns-in-Number : goal.returns-in-Number
 returns-in-Number c = next_some _ c.absent_partition-found.ensures c.in-Number.is

@@ -1,37 +1,19 @@
--- src/changes.rt, changed_by: r ≡ changed_by f.service (view t).k f
-use mathlib.Core.Path.{ap, ap₂, sym, ◌∙◌}
+-- src/lib.rt, changed_by: r ≡ changed_by f.service (view t).k f
+use mathlib.Core.Path.{refl, ap, ap₂, sym, ◌∙◌}
 use Prim.Native.Nat.{ℕ, ◌^◌}
 use lib.Bits.{bit_or}
 use Rattle.tables.specs.Search.{given_in}
 use Rattle.tables.specs.View.{view}
-use Rattle.rules.specs.Changes.{up_from, changed_by}
-use Rattle.rules.specs.Laws.Calls.{changed_at, changed_none}
+use Rattle.rules.specs.Changes.{changed_by}
+use Rattle.rules.specs.Laws.Calls.{changed_at, changed_all}
 use borrow.Author.Rules.{rules}
-use Rattle.calls.proofs.changes.changed_by.Goals as goal
-
-pub returns-in-1 : goal.returns-in-1
-unfolding changed_by
-returns-in-1 c =
-    changed_at (view c.args.t.now).k c.args.f 1 c.in-1.is
-    (ap₂ bit_or (c.up_from.ensures ∙ ap (up_from (view c.args.t.now).k) (sym c.requires.0)) (c.one_partition.ensures ∙ ap (λ (n : ℕ). 2 ^ n) c.next_child-child.ensures.0))
-
-pub returns-in-2 : goal.returns-in-2
-unfolding changed_by
-returns-in-2 c = changed_at (view c.args.t.now).k c.args.f 2 c.in-2.is c.up_from-in-2.ensures
-
-pub returns-in-3 : goal.returns-in-3
-unfolding changed_by
-returns-in-3 c = changed_at (view c.args.t.now).k c.args.f 3 c.in-3.is c.up_from-in-3.ensures
-
-pub returns-in-4 : goal.returns-in-4
-unfolding changed_by
-returns-in-4 c = changed_at (view c.args.t.now).k c.args.f 4 c.in-4.is c.up_from-in-4.ensures
+use Rattle.calls.proofs.changed_by.Goals as goal
 
 pub returns-in-5 : goal.returns-in-5
 unfolding changed_by
 returns-in-5 c =
     changed_at (view c.args.t.now).k c.args.f 5 c.in-5.is
-    (ap₂ bit_or (c.one_partition-in-5.ensures ∙ ap (λ (n : ℕ). 2 ^ n) (sym c.requires.0)) c.one_partition-in-5-2.ensures)
+    (ap₂ bit_or (c.one_partition.ensures ∙ ap (λ (n : ℕ). 2 ^ n) (sym c.requires.0)) c.one_partition-in-5.ensures)
 
 pub returns-in-6 : goal.returns-in-6
 unfolding changed_by
@@ -53,9 +35,17 @@ pub returns-in-9 : goal.returns-in-9
 unfolding changed_by
 returns-in-9 c = changed_at (view c.args.t.now).k c.args.f 9 c.in-9.is c.one_partition-in-9.ensures
 
-pub returns-in-14 : goal.returns-in-14
+pub returns-in-11 : goal.returns-in-11
 unfolding changed_by
-returns-in-14 c = changed_at (view c.args.t.now).k c.args.f 14 c.in-14.is (ap₂ bit_or c.up_from-in-14.ensures c.down_from.ensures)
+returns-in-11 c = changed_at (view c.args.t.now).k c.args.f 11 c.in-11.is refl
+
+pub returns-in-12 : goal.returns-in-12
+unfolding changed_by
+returns-in-12 c = changed_at (view c.args.t.now).k c.args.f 12 c.in-12.is refl
+
+pub returns-in-13 : goal.returns-in-13
+unfolding changed_by
+returns-in-13 c = changed_at (view c.args.t.now).k c.args.f 13 c.in-13.is refl
 
 pub returns-in-15 : goal.returns-in-15
 unfolding changed_by
@@ -63,4 +53,4 @@ returns-in-15 c = changed_at (view c.args.t.now).k c.args.f 15 c.in-15.is c.one_
 
 pub returns-in_default : goal.returns-in_default
 unfolding changed_by
-returns-in_default c = changed_none (view c.args.t.now).k c.args.f c.in_default.in_default-own.rest
+returns-in_default c = changed_all (view c.args.t.now).k c.args.f c.in_default.in_default-own.rest

@@ -1,0 +1,30 @@
+-- src/kept.rt, zero_absent: now sheet.exit ≡ put_those (absent (view t).k) (view t) sheet
+use mathlib.Core.Path.{sym, ◌∙◌}
+use Rattle.sheet.specs.Laws.Those.{zero_start, zero_put, zero_skip, zero_end}
+use native.Mathlib.Omega.{arith}
+use Rattle.sheet.proofs.kept.zero_absent.Goals as goal
+use Rattle.sheet.proofs.kept.zero_absent.Goals.{then-not-is_present, else-not-is_present}
+
+pub loop-p-init : goal.loop-p-init
+loop-p-init c = (omega arith, zero_start _ c.requires)
+
+pub is_present-requires : goal.is_present-requires
+is_present-requires c = omega arith
+
+pub zero_pair-requires : goal.zero_pair-requires
+zero_pair-requires c = (omega arith, c.loop-p.invariant.1.size)
+
+pub loop-p-preserved : goal.loop-p-preserved
+loop-p-preserved c =
+    let inv = c.loop-p.invariant in
+    let seen = c.is_present.ensures in
+    elim c.if-not-is_present.branch [
+      | then-not-is_present w ↦ (omega arith, rw w.sheet-is (zero_put _ _ inv.1 (omega arith) (sym seen ∙ w.if-not-is_present.true) w.zero_pair.ensures))
+      | else-not-is_present w ↦ (omega arith, rw w.sheet-is (zero_skip _ _ inv.1 (omega arith) (sym seen ∙ w.if-not-is_present.false)))
+    ]
+
+pub shape_of-sheet : goal.shape_of-sheet
+shape_of-sheet c = c.loop-p.invariant.1.size ∙ sym c.requires
+
+pub returns : goal.returns
+returns c = zero_end _ c.loop-p.invariant.1 (omega arith)
