@@ -1,3 +1,5 @@
+#![tactic(auto)]
+
 // The services on a block: give, take, cut, merge.
 pub mod cut_service;
 pub mod give_service;

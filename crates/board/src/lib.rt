@@ -1,3 +1,5 @@
+#![tactic(auto)]
+
 ghost use Rattle.shapes.specs.declared.Board.TheVariants.{V7};
 ghost use Rattle.rules.specs.Rules.{boot_on};
 ghost use Rattle.face.specs.Face.{handed, Lent, CallLent, ListLent};

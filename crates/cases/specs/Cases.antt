@@ -194,7 +194,7 @@ abbrev pub right : List Case → Bool
 right [] = true
 right (c ∷ cs) = equal c.0 c.1 && right cs
 
-equal_says : (a b : List ℕ) → equal a b ≡ true → a ≡ b
+pub equal_says : (a b : List ℕ) → equal a b ≡ true → a ≡ b
 equal_says [] [] h = refl
 equal_says [] (n ∷ ns) h = absurd (false≢true h)
 equal_says (m ∷ ms) [] h = absurd (false≢true h)
@@ -214,19 +214,5 @@ unfolding carried rest tab_from climb first header structure regions slot call f
 computes = tt
 
 -- 01's cases, and before them that the session's table is X: so the session is computed once for both
-abbrev with_table : List ℕ × List ℕ → List Case
+abbrev pub with_table : List ℕ × List ℕ → List Case
 with_table s = (s.1, X) ∷ cases_of B s
-
-base_right : right (with_table session) ≡ true
-unfolding computes B session X
-base_right = refl
-
-parts_right : (equal session.1 X ≡ true) × (right cases ≡ true)
-parts_right = (and-eq-true_iff (equal session.1 X) (right cases)).0 base_right
-
--- ── the statement: in every case, what is computed is what 01 says ──
-pub every_case : computed cases ≡ expected cases
-every_case = right_says cases parts_right.1
-
-pub session_table : session.1 ≡ X
-session_table = equal_says session.1 X parts_right.0

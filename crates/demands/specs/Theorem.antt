@@ -2,7 +2,7 @@
 use Rattle.std.specs.Prelude.{◌≡◌, refl, List, ℕ}
 use Rattle.std.proofs.Math.Path.{ap}
 use Rattle.std.proofs.Common.{sym, subst, ◌∙◌, arith}
-use Rattle.words.specs.Trips.{first_trips, header_trips, structure_trips, regions_trips, slot_trips, call_trips, boot_trips}
+use Rattle.words.proofs.Trips.{first_trips, header_trips, structure_trips, regions_trips, slot_trips, call_trips, boot_trips}
 use Rattle.shapes.specs.declared.Board.{Board}
 use Rattle.tables.specs.State.{Table}
 use Rattle.tables.specs.View.{view}
@@ -12,14 +12,15 @@ use Rattle.sound.specs.Sound.{Sound}
 use Rattle.sound.specs.Properties.{Isolated}
 use Rattle.rules.specs.Rules.{done, boot_on}
 use Rattle.isolation.specs.Ladders.{boot_ladder}
-use Rattle.isolation.specs.Laws.Boot.{boot_exact, boot_right}
+use Rattle.isolation.proofs.Laws.Boot.{boot_exact, boot_right}
 use Rattle.isolation.specs.Laws.Fits.{Good}
 use Rattle.isolation.specs.Ladder.{Answers, Ends}
 use Rattle.isolation.specs.Laws.Ladder.{ends}
-use Rattle.isolation.specs.Whole.{boot_good, after_all, from_boot_sound, from_boot_isolated}
+use Rattle.isolation.specs.Whole.{after_all}
+use Rattle.isolation.proofs.Whole.{boot_good, from_boot_sound, from_boot_isolated}
 use Rattle.ledger.specs.Ledger.{Ledger, opening, kept_on}
-use Rattle.ledger.specs.Theorem.{demand_3}
-use Rattle.ledger.specs.Laws.LedgerRuns.{runs_demand}
+use Rattle.ledger.proofs.Theorem.{demand_3}
+use Rattle.ledger.proofs.Laws.LedgerRuns.{runs_demand}
 use Rattle.face.specs.Face.{handed, bytes_after}
 use Rattle.demands.specs.Demands.{BootLent, first_in, Accepted, Answered, Changed, Called, Tells, DemandOne, DemandTwo, DemandThree}
 use Rattle.demands.specs.Laws.Rising.{boot_rises}

@@ -1,4 +1,3 @@
 pub mod Masks
 pub mod Marking
 pub mod Exits
-pub mod Exact

@@ -1,3 +1,5 @@
+#![tactic(auto)]
+
 ghost use Rattle.std.specs.Prelude.{◌≡◌, ◌≤◌, length};
 ghost use Rattle.engine.specs.Engine.{between, joined, mask_struck, memory_right, child_right, members_right, block_right, lines_right, strike_right, StartLent, GiveLent, TakeLent, StrikeLent};
 

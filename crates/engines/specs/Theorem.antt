@@ -14,7 +14,7 @@ use Rattle.rules.specs.Calls.{caller_of}
 use Rattle.isolation.specs.Laws.Fits.{Good}
 use Rattle.isolation.specs.Whole.{after_all}
 use Rattle.ledger.specs.Ledger.{Ledger, opening, Event, noted, lines_named, kept_on}
-use Rattle.ledger.specs.Laws.Kept.{Keeps, after_kept, from_boot_kept}
+use Rattle.ledger.proofs.Laws.Kept.{Keeps, after_kept, from_boot_kept}
 use Rattle.loops.specs.Loops.{names}
 use Rattle.engine.specs.Engine.{start_masks, engine_refusal, Memory, StartLent}
 use Rattle.engine.specs.Laws.Exits.{memory_of}

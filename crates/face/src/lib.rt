@@ -1,3 +1,5 @@
+#![tactic(auto)]
+
 ghost use Rattle.std.specs.Prelude.{◌≡◌, ◌^◌, ◌<◌};
 ghost use Rattle.rules.specs.Rules.{boot_on};
 ghost use Rattle.face.specs.Face.{handed, result_packed, Lent, CallLent, ListLent};

@@ -1,4 +1,3 @@
-pub mod Kept
 pub mod Lists
 pub mod Listing
 pub mod LedgerRuns

@@ -1,3 +1,5 @@
+#![tactic(auto)]
+
 ghost use Rattle.std.specs.Prelude.{◌≡◌, ◌+◌, ◌*◌, ◌≤◌, ◌<◌, length, replicate};
 ghost use Rattle.memory.specs.Bytes.{word_from, words_of, byte_of, bytes_of, put_word};
 ghost use Rattle.memory.specs.Quads.{Quad, put_quad, turned, zero_four, zero_forty};

@@ -1,3 +1,5 @@
+#![tactic(auto)]
+
 // The entries of each partition by rising start, and whether two of them share a line: S6.
 pub mod arrange;
 pub mod order;

@@ -1,4 +1,1 @@
 pub mod Word
-pub mod Pair
-pub mod Answers
-pub mod Exactly

@@ -1,3 +1,5 @@
+#![tactic(auto)]
+
 ghost use Rattle.std.specs.Prelude.{◌≡◌, cond};
 ghost use Rattle.words.specs.Kind.{zeroed};
 ghost use Rattle.pairs.specs.Word.{pair};

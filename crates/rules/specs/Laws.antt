@@ -1,10 +1,8 @@
 pub mod Each
 pub mod Branch
-pub mod Pack
 pub mod Ran
 pub mod Changes
 pub mod Calls
 pub mod Reads
 pub mod Unloaded
 pub mod Removed
-pub mod Brief

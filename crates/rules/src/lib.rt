@@ -1,3 +1,5 @@
+#![tactic(auto)]
+
 // The rules of the services, one row each, as 01 says them.
 use tables::Outcome;
 use words::Partition;

@@ -1,3 +1,5 @@
+#![tactic(auto)]
+
 ghost use Rattle.std.specs.Prelude.{◌≡◌};
 ghost use Rattle.tables.specs.Top.{Top};
 ghost use Rattle.runs.specs.Marks.{run_at, MarksAt};

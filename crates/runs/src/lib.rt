@@ -1,3 +1,5 @@
+#![tactic(auto)]
+
 // The runs of lines that have the same holders.
 mod marks;
 mod pieces;

@@ -1,3 +1,5 @@
+#![tactic(auto)]
+
 ghost use Rattle.std.specs.Prelude.{◌≡◌, ◌*◌, ◌≤◌, ◌<◌};
 ghost use Rattle.loops.specs.Loops.{bit_of, map_from, map_of};
 ghost use Rattle.tables.specs.View.{view};

@@ -1,3 +1,5 @@
+#![tactic(auto)]
+
 ghost use Rattle.rules.specs.Rules.{boot_on};
 ghost use Rattle.rules.specs.Ran.{Ran};
 

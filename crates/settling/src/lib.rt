@@ -1,3 +1,5 @@
+#![tactic(auto)]
+
 ghost use Rattle.std.specs.Prelude.{◌≡◌, ◌<◌};
 ghost use Rattle.tables.specs.View.{named, view};
 ghost use Rattle.tables.specs.Encode.{region_for, regions_for, Canon, Is};

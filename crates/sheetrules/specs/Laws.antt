@@ -1,5 +1,3 @@
 pub mod Rules
 pub mod Held
-pub mod Words
 pub mod Bytes
-pub mod Reading

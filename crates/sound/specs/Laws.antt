@@ -3,11 +3,6 @@ pub mod Tests
 pub mod Means
 pub mod Meets
 pub mod Cover
-pub mod MeansEntries
-pub mod MeansAreas
-pub mod MeansWords
-pub mod MeansRegions
-pub mod List
 pub mod Canonical
 pub mod Core
 pub mod Grants
@@ -15,8 +10,4 @@ pub mod Properties
 pub mod Chain
 pub mod Limit
 pub mod Local
-pub mod Whole
 pub mod Settled
-pub mod Holders
-pub mod Found
-pub mod Looks

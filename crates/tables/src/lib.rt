@@ -1,3 +1,5 @@
+#![tactic(auto)]
+
 ghost use Rattle.std.specs.Prelude.{◌≡◌, ◌^◌, ◌<◌, length};
 ghost use Rattle.tables.specs.Fitting.{Words};
 ghost use Rattle.tables.specs.Store.{stored};

@@ -1,4 +1,2 @@
-pub mod Names
-pub mod Stages
 pub mod Records
 pub mod Opens

@@ -1,4 +1,3 @@
 pub mod Verdict
 pub mod Stages
 pub mod Laws
-pub mod Theorem

@@ -18,7 +18,7 @@ use Rattle.rules.specs.Rules.{done, load}
 use Rattle.isolation.specs.Ladders.{OwnOrChild}
 use Rattle.isolation.specs.Ladder.{finished, holds, found}
 use Rattle.isolation.specs.Laws.Ladder.{answer_one}
-use Rattle.isolation.specs.Laws.Regions.{load_exact, load_done}
+use Rattle.isolation.proofs.Laws.Regions.{load_exact, load_done}
 use Rattle.who.specs.Who.{names_it, can_write}
 use Rattle.who.specs.Laws.Pieces.{sum_only, number, is_0, is_2, is_3}
 

@@ -1,3 +1,5 @@
+#![tactic(auto)]
+
 ghost use Rattle.std.specs.Prelude.{false, ◌^◌, ◌<◌};
 ghost use Rattle.tables.specs.State.{none, some};
 ghost use Rattle.tables.specs.View.{view, entry_of};

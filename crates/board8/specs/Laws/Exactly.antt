@@ -15,12 +15,12 @@ use Rattle.tables.specs.Laws.Seen.{see}
 use Rattle.sound.specs.Clauses.{sound}
 use Rattle.sound.specs.Sound.{Present}
 use Rattle.sound.specs.Laws.Core.{sound_core}
-use Rattle.sound.specs.Laws.List.{sound_means}
+use Rattle.sound.proofs.Laws.List.{sound_means}
 use Rattle.face.specs.Face.{handed}
 use Rattle.pairs.specs.Pair.{Readable, pair_of, entry_of_pair, one_word, halves, writes, open_word, reads}
 use Rattle.pairs.specs.Exactly.{registers}
-use Rattle.pairs.specs.Laws.Answers.{writes_done, writes_unread}
-use Rattle.pairs.specs.Laws.Exactly.{pairs}
+use Rattle.pairs.proofs.Laws.Answers.{writes_done, writes_unread}
+use Rattle.pairs.proofs.Laws.Exactly.{pairs}
 use Rattle.pairs.specs.declared.PairWritten.{PairWritten}
 use Rattle.pairs.specs.declared.PairWritten.TheVariants.{Pair, Refused}
 use Rattle.board8.specs.Regions.{entry_pair, pair_on, write_answer, rbar_after, rlar_after, WriteLent, read_answer, entry_after, ReadLent}

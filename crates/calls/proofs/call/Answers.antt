@@ -1,6 +1,6 @@
 -- src/lib.rt, call: CallAnswers board t word r t'
 use Rattle.tables.specs.Laws.Top.{top_16}
-use Rattle.sound.specs.Laws.Holders.{wrong_length}
+use Rattle.sound.proofs.Laws.Holders.{wrong_length}
 use Rattle.rules.specs.Laws.Calls.{answers_unsound}
 use Rattle.rules.specs.Laws.Reads.{answers_copied, answers_left}
 use borrow.Author.Rules.{rules}

@@ -1,7 +1,7 @@
 -- src/lib.rt, serve_word: CallAnswers board t word r t'
 use mathlib.Core.Path.{sym, ◌∙◌}
-use Rattle.sound.specs.Laws.List.{sound_means}
-use Rattle.sound.specs.Laws.Whole.{sound_right}
+use Rattle.sound.proofs.Laws.List.{sound_means}
+use Rattle.sound.proofs.Laws.Whole.{sound_right}
 use Rattle.sound.specs.Laws.Canonical.{sound_canon}
 use Rattle.rules.specs.Laws.Calls.{read_small, answers_served, answers_unread}
 use borrow.Author.Rules.{rules}

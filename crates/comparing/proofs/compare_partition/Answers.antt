@@ -5,7 +5,7 @@ use Rattle.tables.specs.Laws.Top.{top_absent}
 use Rattle.sound.specs.Laws.Tests.{and_says, never}
 use Rattle.shape.specs.AtOnce.{shape_at}
 use Rattle.decide.specs.Laws.Decide.{failed, passed, absent_shape, and_is, top_shape}
-use Rattle.sheetrules.specs.Laws.Words.{pair_absent}
+use Rattle.sheetrules.proofs.Laws.Words.{pair_absent}
 use Rattle.comparing.specs.Laws.Once.{same_on, compared_refused, compared_passed, compared_as}
 use native.Mathlib.Omega.{arith}
 use borrow.Author.Rules.{rules}

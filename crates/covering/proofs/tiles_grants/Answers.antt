@@ -24,8 +24,8 @@ returns-then-i-n c = cover_stuck c.requires c.loop-j.invariant (omega arith) c.s
 pub loop-j-preserved : goal.loop-j-preserved
 loop-j-preserved c =
     elim c.if-g-p.branch [
-      then-g-p+else-i-n w ↦ rw w.i-is (cover_on c.requires c.loop-j.invariant (omega arith) c.slot_at-s.ensures c.entry-g.ensures w.if-g-p.true w.tile_for-i.ensures w.if-i-n.false)
-    | else-g-p w ↦ rw w.i-is (cover_skip c.requires c.loop-j.invariant (omega arith) c.slot_at-s.ensures c.entry-g.ensures w.if-g-p.false)
+      | then-g-p+else-i-n w ↦ rw w.i-is (cover_on c.requires c.loop-j.invariant (omega arith) c.slot_at-s.ensures c.entry-g.ensures w.if-g-p.true w.tile_for-i.ensures w.if-i-n.false)
+      | else-g-p w ↦ rw w.i-is (cover_skip c.requires c.loop-j.invariant (omega arith) c.slot_at-s.ensures c.entry-g.ensures w.if-g-p.false)
     ]
 
 pub returns : goal.returns

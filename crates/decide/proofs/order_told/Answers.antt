@@ -27,16 +27,15 @@ pub returns-then-not-mark_all : goal.returns-then-not-mark_all
 returns-then-not-mark_all c = not_marked _ c.mark_all.ensures (ap not c.if-not-mark_all.true)
 
 pub partitions_sound-requires : goal.partitions_sound-requires
-partitions_sound-requires c =
-    (
-      c.requires.0,
-      record {
-        shaped = formed_shaped _ (passed c.is_formed.ensures (ap not c.if-not-is_formed.false));
-        s6 = passed c.arrange.ensures.says (ap not c.if-not-arrange.false);
-        orders = c.arrange.ensures.orders c.if-not-arrange.false;
-        marked = c.mark_all.ensures.on c.if-not-mark_all.false;
-      },
-    )
+partitions_sound-requires c = (
+  c.requires.0,
+  record {
+    shaped = formed_shaped _ (passed c.is_formed.ensures (ap not c.if-not-is_formed.false));
+    s6 = passed c.arrange.ensures.says (ap not c.if-not-arrange.false);
+    orders = c.arrange.ensures.orders c.if-not-arrange.false;
+    marked = c.mark_all.ensures.on c.if-not-mark_all.false;
+  },
+)
 
 pub returns : goal.returns
 returns c =

@@ -16,13 +16,13 @@ use Rattle.sound.specs.Sound.{Present, S8, S9, Sound}
 use Rattle.sound.specs.Clauses.{s1, s2, s3_first, s3, s4, s5, s6, s7_given, s7_whole, undivided, s8_backed, s8_apart, s8, sound}
 use Rattle.sound.specs.Laws.Tests.{and_says, and_true, every_says, every_true}
 use Rattle.sound.specs.Laws.Sound.{s7_of, s8_of, s9_of}
-use Rattle.sound.specs.Laws.List.{sound_means}
+use Rattle.sound.proofs.Laws.List.{sound_means}
 use Rattle.sound.specs.Laws.Core.{sound_core, backed_s8}
 use Rattle.sound.specs.Laws.Grants.{core_grants}
 use Rattle.sound.specs.Laws.Local.{MarkedOnce, LocalOpen, marked_apart, s9_local, local_s9}
-use Rattle.sound.specs.Laws.MeansEntries.{else_true, present_means, child_means}
-use Rattle.sound.specs.Laws.MeansAreas.{s8_means}
-use Rattle.sound.specs.Laws.MeansRegions.{s9_means}
+use Rattle.sound.proofs.Laws.MeansEntries.{else_true, present_means, child_means}
+use Rattle.sound.proofs.Laws.MeansAreas.{s8_means}
+use Rattle.sound.proofs.Laws.MeansRegions.{s9_means}
 use Rattle.shape.specs.AtOnce.{rest_at, Shaped}
 use Rattle.shape.specs.Laws.AtOnce.{areas_apart, at_once, Passes, rest_true, rest_says, sound_at_once, shaped_s2, shaped_record}
 use Rattle.decide.specs.Entries.{exactly}

@@ -14,8 +14,8 @@ use Rattle.sound.specs.Clauses.{s3, s4, s5, s6, s7_given, s7_inside, s7_cover}
 use Rattle.sound.specs.Laws.Tests.{and_says, every_says}
 use Rattle.sound.specs.Laws.Grants.{Grants}
 use Rattle.sound.specs.Laws.Local.{RootAreas, given_clear}
-use Rattle.sound.specs.Laws.MeansEntries.{else_says, present_means, child_means, slots32, owner_present, inside_means, cover_means, s6_means}
-use Rattle.sound.specs.Laws.MeansWords.{s2_means, s4_means, s5_means}
+use Rattle.sound.proofs.Laws.MeansEntries.{else_says, present_means, child_means, slots32, owner_present, inside_means, cover_means, s6_means}
+use Rattle.sound.proofs.Laws.MeansWords.{s2_means, s4_means, s5_means}
 use Rattle.shape.specs.AtOnce.{Shaped}
 use Rattle.shape.specs.Laws.AtOnce.{shaped_s2, shaped_record, shaped_s5}
 use Rattle.decide.specs.Entries.{exactly}

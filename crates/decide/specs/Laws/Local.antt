@@ -16,7 +16,7 @@ use Rattle.tables.specs.Search.{child, present}
 use Rattle.sound.specs.Sound.{Around}
 use Rattle.sound.specs.Clauses.{when, undivided, s10, s11}
 use Rattle.sound.specs.Laws.Tests.{and_says, and_true, then_says, then_true, every_says, every_true}
-use Rattle.sound.specs.Laws.MeansRegions.{beq_means}
+use Rattle.sound.proofs.Laws.MeansRegions.{beq_means}
 use Rattle.decide.specs.Entries.{exactly}
 use Rattle.marking.specs.Marking.{slot_marked}
 use Rattle.decide.specs.Local.{entry_right, open_inside, grants_open, local_at, local_where, left_where}

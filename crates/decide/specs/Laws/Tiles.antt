@@ -23,9 +23,9 @@ use Rattle.tables.specs.Seen.{Seen}
 use Rattle.sound.specs.Sound.{Around}
 use Rattle.sound.specs.Clauses.{s7_root, s7_inside, s7_cover, within, s11}
 use Rattle.sound.specs.Laws.Tests.{and_says, and_true, never}
-use Rattle.sound.specs.Laws.MeansEntries.{present_means, slots32, root_means, inside_means, cover_means}
-use Rattle.sound.specs.Laws.MeansRegions.{beq_means, within_means, same_rights_means, s11_means}
-use Rattle.sound.specs.Laws.MeansWords.{s2_means}
+use Rattle.sound.proofs.Laws.MeansEntries.{present_means, slots32, root_means, inside_means, cover_means}
+use Rattle.sound.proofs.Laws.MeansRegions.{beq_means, within_means, same_rights_means, s11_means}
+use Rattle.sound.proofs.Laws.MeansWords.{s2_means}
 use Rattle.decide.specs.Entries.{exactly}
 use Rattle.decide.specs.Local.{grants_open}
 use Rattle.decide.specs.Laws.Local.{grants_open_means}

@@ -19,8 +19,8 @@ use Rattle.tables.specs.Search.{present}
 use Rattle.tables.specs.Seen.{Seen}
 use Rattle.sound.specs.Clauses.{s11}
 use Rattle.sound.specs.Laws.Tests.{and_says, and_true, never}
-use Rattle.sound.specs.Laws.MeansEntries.{present_means, child_means}
-use Rattle.sound.specs.Laws.MeansWords.{s2_means}
+use Rattle.sound.proofs.Laws.MeansEntries.{present_means, child_means}
+use Rattle.sound.proofs.Laws.MeansWords.{s2_means}
 use Rattle.shape.specs.Laws.AtOnce.{shaped_s2}
 use Rattle.decide.specs.Entries.{exactly}
 use Rattle.ordering.specs.Order.{placed}

@@ -10,15 +10,16 @@ use Rattle.memory.specs.Bytes.{byte_at, bytes_of, record_byte}
 use Rattle.memory.specs.Laws.ByteTrips.{bytes_words, record_byte_law}
 use Rattle.sound.specs.Sound.{Present, Sound}
 use Rattle.sound.specs.Whole.{Right}
-use Rattle.sound.specs.Laws.List.{sound_means}
+use Rattle.sound.proofs.Laws.List.{sound_means}
 use Rattle.rules.specs.Rules.{Result, done, refused, call_on, words_after}
 use Rattle.rules.specs.Ran.{outcome_of}
 use Rattle.rules.specs.Calls.{caller_of}
 use Rattle.isolation.specs.Laws.Fits.{Good}
-use Rattle.isolation.specs.Whole.{after_all, after_good}
+use Rattle.isolation.specs.Whole.{after_all}
+use Rattle.isolation.proofs.Whole.{after_good}
 use Rattle.untouched.specs.Untouched.{Within, Beside, Untouched, turned_to}
-use Rattle.untouched.specs.Laws.Theorem.{untouched}
-use Rattle.untouched.specs.Laws.TwoLists.{still_present, put_current_right, turned_caller, same_answers}
+use Rattle.untouched.proofs.Laws.Theorem.{untouched}
+use Rattle.untouched.proofs.Laws.TwoLists.{still_present, put_current_right, turned_caller, same_answers}
 use Rattle.face.specs.Face.{handed, result_of, second_after, bytes_after, CallLent}
 use Rattle.face.specs.Laws.Face.{handed_is, handed_unsound}
 use Rattle.demands.specs.Demands.{Bytes}

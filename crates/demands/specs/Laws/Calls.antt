@@ -19,9 +19,9 @@ use Rattle.memory.specs.Laws.ByteTrips.{length_bytes_of_law, words_small, words_
 use Rattle.sound.specs.Sound.{Sound}
 use Rattle.sound.specs.Clauses.{sound}
 use Rattle.sound.specs.Properties.{Isolated}
-use Rattle.sound.specs.Laws.Whole.{right_isolated}
+use Rattle.sound.proofs.Laws.Whole.{right_isolated}
 use Rattle.sound.specs.Whole.{Right}
-use Rattle.sound.specs.Laws.List.{sound_means}
+use Rattle.sound.proofs.Laws.List.{sound_means}
 use Rattle.rules.specs.Rules.{Result, done, refused, call_on, words_after}
 use Rattle.rules.specs.Ran.{outcome_of}
 use Rattle.rules.specs.Calls.{caller_of}
@@ -29,8 +29,9 @@ use Rattle.rules.specs.Laws.Calls.{caller_small}
 use Rattle.isolation.specs.Laws.Fits.{Good, right_fit}
 use Rattle.isolation.specs.Ladder.{Ladder, Answers}
 use Rattle.isolation.specs.Ladders.{call_ladder}
-use Rattle.isolation.specs.Laws.Exact.{call_exact}
-use Rattle.isolation.specs.Whole.{call_right, after_all, next_good}
+use Rattle.isolation.proofs.Laws.Exact.{call_exact}
+use Rattle.isolation.specs.Whole.{after_all}
+use Rattle.isolation.proofs.Whole.{call_right, next_good}
 use Rattle.ledger.specs.Ledger.{Ledger, Event, apply, event_of, noted, lines_named, kept_on}
 use Rattle.face.specs.Face.{handed, result_of, second_after, bytes_after, CallLent}
 use Rattle.face.specs.Laws.Face.{handed_is}

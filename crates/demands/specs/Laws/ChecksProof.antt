@@ -6,7 +6,7 @@ use Rattle.std.proofs.Math.Decide.{ℕ_discrete}
 use Rattle.shapes.specs.declared.Board.{Board}
 use Rattle.memory.specs.Bytes.{words_of}
 use Rattle.sound.specs.Sound.{Sound}
-use Rattle.sound.specs.Laws.List.{sound_means}
+use Rattle.sound.proofs.Laws.List.{sound_means}
 use Rattle.face.specs.Face.{handed}
 use Rattle.face.specs.Laws.Face.{handed_is, handed_unsound}
 use Rattle.face.specs.Laws.Check.{check_says}

@@ -18,9 +18,9 @@ use Rattle.sound.specs.Sound.{Sound}
 use Rattle.sound.specs.Laws.Core.{sound_core}
 use Rattle.sound.specs.Clauses.{sound}
 use Rattle.sound.specs.Laws.Means.{le_means, lt_means, and_means}
-use Rattle.sound.specs.Laws.List.{sound_means}
-use Rattle.sound.specs.Laws.MeansEntries.{holds_means}
-use Rattle.sound.specs.Laws.Looks.{looks_few}
+use Rattle.sound.proofs.Laws.List.{sound_means}
+use Rattle.sound.proofs.Laws.MeansEntries.{holds_means}
+use Rattle.sound.proofs.Laws.Looks.{looks_few}
 use Rattle.sound.specs.Holders.{holders_of, looks_of, in_memory, holders_outcome, holders_bytes}
 use Rattle.rules.specs.Rules.{Result, done, refused, check}
 use Rattle.rules.specs.Ran.{outcome_of}

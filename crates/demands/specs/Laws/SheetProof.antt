@@ -10,7 +10,7 @@ use Rattle.words.specs.Laws.Kind.{fields_back}
 use Rattle.words.specs.Words.{call, masks, lines}
 use Rattle.words.specs.declared.lines_word.LinesFields.{LinesFields}
 use Rattle.words.specs.Laws.Kinds.{lines_lawful}
-use Rattle.words.specs.Trips.{masks_trips, lines_trips}
+use Rattle.words.proofs.Trips.{masks_trips, lines_trips}
 use Rattle.shapes.specs.declared.Board.{Board}
 use Rattle.words.specs.declared.call_word.CallFields.{CallFields}
 use Rattle.tables.specs.State.{Opt, none, Table}
@@ -24,24 +24,25 @@ use Rattle.memory.specs.Laws.ByteTrips.{length_bytes_of_law, record_stays}
 use Rattle.sound.specs.Sound.{Present, Sound}
 use Rattle.sound.specs.Clauses.{sound}
 use Rattle.sound.specs.Whole.{Right}
-use Rattle.sound.specs.Laws.List.{sound_means}
+use Rattle.sound.proofs.Laws.List.{sound_means}
 use Rattle.rules.specs.Rules.{Result, done, refused, call_on, boot_on}
 use Rattle.rules.specs.Ran.{outcome_of}
 use Rattle.rules.specs.Calls.{caller_of}
 use Rattle.services.specs.Laws.Boot.{boot_length}
-use Rattle.isolation.specs.Laws.Boot.{boot_right}
+use Rattle.isolation.proofs.Laws.Boot.{boot_right}
 use Rattle.isolation.specs.Ladder.{Ladder, finish, must, there, least}
 use Rattle.isolation.specs.Ladders.{boot_ladder, numbered_ladder, call_ladder}
 use Rattle.isolation.specs.Laws.Fits.{Good, right_fit, good_right}
-use Rattle.isolation.specs.Whole.{call_right, after_all}
-use Rattle.ledger.specs.Laws.Kept.{from_boot_kept}
+use Rattle.isolation.specs.Whole.{after_all}
+use Rattle.isolation.proofs.Whole.{call_right}
+use Rattle.ledger.proofs.Laws.Kept.{from_boot_kept}
 use Rattle.sheetrules.specs.Sheet.{lines_word, lines_for, sheet_of, matches, call_sheet_on, boot_sheet_on}
 use Rattle.sheetrules.specs.Bytes.{handed_sheet, sheet_bytes, sheet_bytes_after}
 use Rattle.sheetrules.specs.Laws.Rules.{call_1, call_20, call_else, boot_1, boot_20, boot_else}
 use Rattle.sheetrules.specs.Laws.Held.{root_lines}
-use Rattle.sheetrules.specs.Laws.Words.{lines_in_law, masks_back, lines_back, pair_absent}
+use Rattle.sheetrules.proofs.Laws.Words.{lines_in_law, masks_back, lines_back, pair_absent}
 use Rattle.sheetrules.specs.Laws.Bytes.{matches_means, matches_length, short_handed, handed_length, sheet_bytes_law}
-use Rattle.sheetrules.specs.Laws.Reading.{sheet_words, sheet_masks_read, sheet_lines_read, bytes_same}
+use Rattle.sheetrules.proofs.Laws.Reading.{sheet_words, sheet_masks_read, sheet_lines_read, bytes_same}
 use Rattle.sheet.specs.Laws.Kept.{call_kept}
 use Rattle.face.specs.Face.{handed, result_of, second_after, bytes_after, Lent, CallLent}
 use Rattle.face.specs.Laws.Face.{handed_is, handed_unsound, handed_whole, handed_short}

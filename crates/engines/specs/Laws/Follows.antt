@@ -18,20 +18,20 @@ use Rattle.sound.specs.Laws.Means.{eq_means, not_means}
 use Rattle.sound.specs.Laws.Tests.{and_says}
 use Rattle.sound.specs.Laws.Properties.{held_range}
 use Rattle.sound.specs.Whole.{Right}
-use Rattle.sound.specs.Laws.List.{sound_means}
+use Rattle.sound.proofs.Laws.List.{sound_means}
 use Rattle.rules.specs.Rules.{Result, done, refused, branch, give, take, clear_out, serve, call_on}
 use Rattle.rules.specs.Laws.Each.{serve_done, done_each, perform_at}
 use Rattle.rules.specs.Ran.{outcome_of}
 use Rattle.rules.specs.Calls.{caller_of}
 use Rattle.loops.specs.Laws.Named.{names_map}
 use Rattle.isolation.specs.Laws.Fits.{Good}
-use Rattle.isolation.specs.Laws.Delete.{delete_done}
-use Rattle.isolation.specs.Laws.Give.{give_done}
-use Rattle.isolation.specs.Laws.Take.{take_done}
-use Rattle.isolation.specs.Laws.ClearOut.{branch_goes, clear_done}
-use Rattle.isolation.specs.Whole.{served}
+use Rattle.isolation.proofs.Laws.Delete.{delete_done}
+use Rattle.isolation.proofs.Laws.Give.{give_done}
+use Rattle.isolation.proofs.Laws.Take.{take_done}
+use Rattle.isolation.proofs.Laws.ClearOut.{branch_goes, clear_done}
+use Rattle.isolation.proofs.Whole.{served}
 use Rattle.ledger.specs.Ledger.{Ledger, Lines, Event, adopt, enter, strike, strike_all, nothing, apply, child_for, struck, accepted, event_of, lines_in, lines_named}
-use Rattle.ledger.specs.Laws.Kept.{Keeps, child_for_law}
+use Rattle.ledger.proofs.Laws.Kept.{Keeps, child_for_law}
 use Rattle.engine.specs.Engine.{Memory, Block}
 use Rattle.engine.specs.Laws.Exits.{lines_say, lines_right_law, strike_of}
 use Rattle.engine.specs.Laws.Marking.{between_length, between_from}

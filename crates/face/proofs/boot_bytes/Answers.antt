@@ -2,7 +2,7 @@
 use mathlib.Core.Path.{sym, ◌∙◌}
 use lib.ListN.{length-replicate}
 use Prim.Native.Nat.{ℕ}
-use Rattle.rules.specs.Laws.Brief.{boot_brief, brief_first, number_small}
+use Rattle.rules.proofs.Laws.Brief.{boot_brief, brief_first, number_small}
 use Rattle.face.specs.Laws.Face.{boot_root, boot_none, boot_lent, boot_kept}
 use native.Mathlib.Omega.{arith}
 use borrow.Author.Rules.{rules}

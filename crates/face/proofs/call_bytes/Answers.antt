@@ -4,7 +4,7 @@ use lib.ListN.{length}
 use borrow.Author.Tests.{not-false}
 use Rattle.memory.specs.Bytes.{bytes_of}
 use Rattle.tables.specs.Laws.Top.{top_at}
-use Rattle.rules.specs.Laws.Brief.{call_brief, brief_first, number_small}
+use Rattle.rules.proofs.Laws.Brief.{call_brief, brief_first, number_small}
 use Rattle.face.specs.Laws.Face.{call_none, call_lent, call_tells, call_told, call_stored, call_stands, call_lent_refused, call_caller_small}
 use native.Mathlib.Omega.{arith}
 use borrow.Author.Rules.{rules}
@@ -46,8 +46,8 @@ returns-after-not-stands c =
     let small = c.slice_known-1.given in
     call_lent _ size load answer c.in-Done.is c.packed-in-Done.ensures
     (elim c.if-not-stands.branch [
-      then-not-stands w ↦ w.table-is ∙ w.store.ensures
-    | else-not-stands w ↦ w.table-is ∙ call_stands _ size load answer (λ i. (small i).fits) w.if-not-stands.false
+      | then-not-stands w ↦ w.table-is ∙ w.store.ensures
+      | else-not-stands w ↦ w.table-is ∙ call_stands _ size load answer (λ i. (small i).fits) w.if-not-stands.false
     ])
     refl
 

@@ -5,7 +5,7 @@ use Rattle.shapes.specs.declared.Board.{Board}
 use Rattle.memory.specs.Bytes.{words_of}
 use Rattle.sound.specs.Sound.{Sound}
 use Rattle.verdict.specs.Verdict.{image_verdict, checked, Names}
-use Rattle.verdict.specs.Theorem.{image_sound, image_names, image_length}
+use Rattle.verdict.proofs.Theorem.{image_sound, image_names, image_length}
 use Rattle.verdict.specs.declared.Verdict.{Verdict}
 use Rattle.verdict.specs.declared.Verdict.TheVariants.{Accepted, Fails, Length}
 use Rattle.face.specs.Face.{result_of}

@@ -21,9 +21,9 @@ use Rattle.tables.specs.declared.Outcome.{Outcome}
 use Rattle.tables.specs.declared.Outcome.TheVariants.{Done, Refused}
 use Rattle.sound.specs.Sound.{Sound}
 use Rattle.sound.specs.Clauses.{sound}
-use Rattle.sound.specs.Laws.List.{sound_means}
+use Rattle.sound.proofs.Laws.List.{sound_means}
 use Rattle.shape.specs.Laws.Absent.{header_tells}
-use Rattle.sound.specs.Laws.Holders.{wrong_length, holders_few, listed_unsound, listed_copy}
+use Rattle.sound.proofs.Laws.Holders.{wrong_length, holders_few, listed_unsound, listed_copy}
 use Rattle.sound.specs.Holders.{in_memory, holders_of, looks_of, holders_outcome, HoldersListed}
 use Rattle.rules.specs.Rules.{Result, done, refused, check, call_on, boot_k, boot_on, words_after}
 use Rattle.rules.specs.Ran.{outcome_of, Ran}
@@ -33,8 +33,8 @@ use Rattle.rules.specs.declared.Answer.{Answer}
 use Rattle.rules.specs.Laws.Calls.{caller_small, changed_small, answers_unsound}
 use Rattle.rules.specs.Calls.{CallAnswers}
 use Rattle.rules.specs.Laws.Reads.{answers_stand}
-use Rattle.isolation.specs.Whole.{call_sound}
-use Rattle.isolation.specs.Laws.Elsewhere.{call_elsewhere}
+use Rattle.isolation.proofs.Whole.{call_sound}
+use Rattle.isolation.proofs.Laws.Elsewhere.{call_elsewhere}
 use Rattle.face.specs.Face.{handed, result_packed, result_of, second_after, bytes_after, Lent, CallLent, ListLent}
 
 -- two results are equal: the result, and every byte

@@ -10,7 +10,7 @@ use Rattle.tables.specs.declared.Outcome.{Outcome}
 use Rattle.tables.specs.declared.Outcome.TheVariants.{Done, Refused}
 use Rattle.memory.specs.Bytes.{words_of}
 use Rattle.sound.specs.Clauses.{sound}
-use Rattle.sound.specs.Laws.Holders.{wrong_length}
+use Rattle.sound.proofs.Laws.Holders.{wrong_length}
 use Rattle.holders.specs.Listing.{list_outcome, slot_outcome, pieces_outcome, PiecesListed}
 use Rattle.holders.specs.Laws.Listing.{pieces_unsound, pieces_copy, entry_few}
 use Rattle.runs.specs.declared.Run.{Run}

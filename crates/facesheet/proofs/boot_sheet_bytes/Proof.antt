@@ -2,7 +2,7 @@
 use mathlib.Core.Path.{sym, ◌∙◌}
 use lib.ListN.{length-replicate}
 use Prim.Native.Nat.{ℕ}
-use Rattle.rules.specs.Laws.Brief.{boot_brief, brief_first, number_small}
+use Rattle.rules.proofs.Laws.Brief.{boot_brief, brief_first, number_small}
 use Rattle.face.specs.Laws.Face.{boot_root}
 use Rattle.facesheet.specs.Laws.Sheets.{booted_right, boot_short, boot_no_sheet, boot_both, boot_neither}
 use native.Mathlib.Omega.{arith}

@@ -2,7 +2,7 @@
 use mathlib.Core.Path.{refl, sym, ◌∙◌}
 use borrow.Author.Tests.{not-true, not-false}
 use Rattle.tables.specs.Laws.Top.{top_at}
-use Rattle.rules.specs.Laws.Brief.{call_brief, brief_first, number_small}
+use Rattle.rules.proofs.Laws.Brief.{call_brief, brief_first, number_small}
 use Rattle.face.specs.Laws.Face.{call_tells, call_told, call_stored, call_caller_small}
 use Rattle.facesheet.specs.Laws.Sheets.{loaded_right, called_right, call_short, call_unsound, call_mismatch, call_neither, call_both}
 use native.Mathlib.Omega.{arith}

@@ -14,8 +14,8 @@ use Rattle.memory.specs.Bytes.{words_of, bytes_of}
 use Rattle.memory.specs.Laws.ByteTrips.{words_small}
 use Rattle.sound.specs.Clauses.{sound}
 use Rattle.sound.specs.Whole.{Right}
-use Rattle.sound.specs.Laws.List.{sound_means}
-use Rattle.sound.specs.Laws.Whole.{sound_right}
+use Rattle.sound.proofs.Laws.List.{sound_means}
+use Rattle.sound.proofs.Laws.Whole.{sound_right}
 use Rattle.sound.specs.Laws.Canonical.{sound_canon}
 use Rattle.rules.specs.Rules.{Result, done, refused, call_on, boot_on, words_after}
 use Rattle.rules.specs.Ran.{outcome_of, Ran}
@@ -25,8 +25,8 @@ use Rattle.rules.specs.Calls.{caller_of, CallAnswers}
 use Rattle.rules.specs.Laws.Reads.{answers_stand}
 use Rattle.services.specs.Laws.Boot.{boot_any}
 use Rattle.isolation.specs.Laws.Fits.{right_fit}
-use Rattle.isolation.specs.Laws.Boot.{boot_right}
-use Rattle.isolation.specs.Whole.{call_right}
+use Rattle.isolation.proofs.Laws.Boot.{boot_right}
+use Rattle.isolation.proofs.Whole.{call_right}
 use Rattle.sheet.specs.Touched.{touched, Named, sheet_kept}
 use Rattle.sheet.specs.declared.calls.Whose.{Whose}
 use Rattle.sheet.specs.Laws.Touched.{call_put}

@@ -3,8 +3,8 @@ use native.Mathlib.Omega.{arith}
 use borrow.Author.Rules.{rules}
 use Rattle.tables.specs.View.{view}
 use Rattle.tables.specs.Laws.Answers.{looked_count}
-use Rattle.sound.specs.Laws.Holders.{deepest_here, deepest_last}
-use Rattle.sound.specs.Laws.Looks.{Descending, looks_descent_room, looks_descent_down, looks_descent_here, looks_descent_last}
+use Rattle.sound.proofs.Laws.Holders.{deepest_here, deepest_last}
+use Rattle.sound.proofs.Laws.Looks.{Descending, looks_descent_room, looks_descent_down, looks_descent_here, looks_descent_last}
 use Rattle.holders.proofs.descend.Given as goal
 
 abbrev pub invariant-loop-left : goal.invariant-loop-left

@@ -1,6 +1,6 @@
 -- src/lib.rt, holders: HoldersListed board t line list r list'
 use Rattle.tables.specs.Laws.Top.{top_16}
-use Rattle.sound.specs.Laws.Holders.{wrong_length, listed_unsound, listed_copy}
+use Rattle.sound.proofs.Laws.Holders.{wrong_length, listed_unsound, listed_copy}
 use borrow.Author.Rules.{rules}
 use Rattle.holders.proofs.holders.Goals as goal
 

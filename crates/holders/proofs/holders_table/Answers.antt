@@ -2,8 +2,8 @@
 use mathlib.Core.Path.{sym, ◌∙◌, ap}
 use borrow.Author.Tests.{not-true}
 use Rattle.decide.specs.Laws.Decide.{passed}
-use Rattle.sound.specs.Laws.Whole.{tested}
-use Rattle.sound.specs.Laws.Holders.{listed_unsound, listed_outside, listed_short, listed_done, below_base, from_end, in_memory_law}
+use Rattle.sound.proofs.Laws.Whole.{tested}
+use Rattle.sound.proofs.Laws.Holders.{listed_unsound, listed_outside, listed_short, listed_done, below_base, from_end, in_memory_law}
 use native.Mathlib.Omega.{arith}
 use borrow.Author.Rules.{rules}
 use mathlib.Core.Bool.{not}

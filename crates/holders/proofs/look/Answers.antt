@@ -1,7 +1,7 @@
 -- src/lib.rt, look: (r.heir.0 ≡ heir (view t).k l.0 p.0) × (r.heir.0 < 16) × (r.count ≡ (look_for (view t).k l.0 p.0).count)
 use Rattle.tables.specs.Laws.Search.{lowest_some}
 use Rattle.tables.specs.Laws.Answers.{looked_slot, looked_count}
-use Rattle.sound.specs.Laws.Holders.{heir_none, heir_given, heir_empty}
+use Rattle.sound.proofs.Laws.Holders.{heir_none, heir_given, heir_empty}
 use native.Mathlib.Omega.{arith}
 use borrow.Author.Rules.{rules}
 use Rattle.holders.proofs.look.Goals as goal

@@ -1,5 +1,5 @@
 -- src/lib.rt, write_holders: Writes (view t).k l.0 list r list'
-use Rattle.sound.specs.Laws.Holders.{writes_from}
+use Rattle.sound.proofs.Laws.Holders.{writes_from}
 use borrow.Author.Rules.{rules}
 use Rattle.holders.proofs.write_holders.Goals as goal
 

@@ -6,7 +6,7 @@ use Rattle.std.proofs.lemmas.Bool.{lt-leb}
 use Rattle.words.specs.declared.slot_word.SlotFields.{SlotFields}
 use Rattle.shapes.specs.declared.Board.{Board}
 use Rattle.shapes.specs.declared.Board.TheVariants.{V7, V8}
-use Rattle.shapes.specs.Laws.Halves.{pieces_few}
+use Rattle.shapes.proofs.Laws.Halves.{pieces_few}
 use Rattle.shapes.specs.Pieces.{pieces_for, CanList, ShapesListed}
 use Rattle.tables.specs.State.{some, Entry}
 use Rattle.tables.specs.Laws.State.{never_some, not_none, same_at}

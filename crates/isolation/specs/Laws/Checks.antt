@@ -9,7 +9,7 @@ use Rattle.tables.specs.Lines.{Clear}
 use Rattle.sound.specs.Clauses.{long}
 use Rattle.sound.specs.Laws.Tests.{and_says, and_true}
 use Rattle.sound.specs.Laws.Means.{eq_means, le_means, or_means}
-use Rattle.sound.specs.Laws.MeansEntries.{is_some_means, child_means}
+use Rattle.sound.proofs.Laws.MeansEntries.{is_some_means, child_means}
 use Rattle.sound.specs.Properties.{Child}
 use Rattle.sound.specs.Whole.{Right}
 use Rattle.rules.specs.Rules.{Result, own_or_child, free_entry, area_of}

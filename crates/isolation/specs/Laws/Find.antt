@@ -1,7 +1,7 @@
 -- Find changes nothing; its answer is that of its conditions.
 use Rattle.std.specs.Prelude.{◌≡◌, refl, ℕ}
 use Rattle.tables.specs.State.{Table}
-use Rattle.sound.specs.Laws.MeansEntries.{holds_means}
+use Rattle.sound.proofs.Laws.MeansEntries.{holds_means}
 use Rattle.sound.specs.Whole.{Right}
 use Rattle.rules.specs.Rules.{done, find}
 use Rattle.isolation.specs.Laws.Settled.{right_same}

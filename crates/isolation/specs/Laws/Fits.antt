@@ -14,10 +14,10 @@ use Rattle.sound.specs.Sound.{Rooted, Sound}
 use Rattle.sound.specs.Core.{Core}
 use Rattle.sound.specs.Laws.Canonical.{sound_canon}
 use Rattle.sound.specs.Laws.Core.{parent_range}
-use Rattle.sound.specs.Laws.Found.{in_table}
+use Rattle.sound.proofs.Laws.Found.{in_table}
 use Rattle.sound.specs.Laws.Properties.{held_range}
 use Rattle.sound.specs.Whole.{Right, Few}
-use Rattle.sound.specs.Laws.Whole.{right_sound, sound_right}
+use Rattle.sound.proofs.Laws.Whole.{right_sound, sound_right}
 
 module _ {k : K} (h : Core k) (b : k.stop < 2 ^ 27) where
   -- the root holds the last line of each entry

@@ -6,7 +6,7 @@ use Rattle.std.proofs.Math.Decide.{ℕ_discrete}
 use Rattle.loops.specs.Loops.{carried}
 use Rattle.tables.specs.State.{Opt, none, Entry}
 use Rattle.rules.specs.Pack.{Packing, move_slot, pack_slot}
-use Rattle.rules.specs.Laws.Pack.{Moves, turns, to_holds, to_empty, from_empty, slot_same, Tight, tight_stays, tight_moves, none_between}
+use Rattle.rules.proofs.Laws.Pack.{Moves, turns, to_holds, to_empty, from_empty, slot_same, Tight, tight_stays, tight_moves, none_between}
 use Rattle.isolation.specs.Pack.{entry_only, entries_of}
 
 -- ── the entries of the first n slots ──

@@ -13,7 +13,7 @@ use Rattle.tables.specs.Lines.{Holds}
 use Rattle.sound.specs.Core.{Core}
 use Rattle.sound.specs.Laws.Properties.{parent_holds, siblings_one, holder_present}
 use Rattle.sound.specs.Holders.{heir, deepest, trail, holders_of}
-use Rattle.sound.specs.Laws.Found.{heir_is, heir_holds}
+use Rattle.sound.proofs.Laws.Found.{heir_is, heir_holds}
 use Rattle.ledger.specs.Lists.{nth_name, Lists}
 
 -- the list is a way down from the root, each the parent of the next, m steps to p

@@ -8,8 +8,8 @@ use Rattle.tables.specs.State.{K, Table}
 use Rattle.tables.specs.Settle.{settle}
 use Rattle.sound.specs.Whole.{Right}
 use Rattle.rules.specs.Rules.{done, pack_k, pack}
-use Rattle.isolation.specs.Laws.Pack.{pack_lowered, pack_core, pack_done}
-use Rattle.isolation.specs.Laws.Packed.{deepest_same}
+use Rattle.isolation.proofs.Laws.Pack.{pack_lowered, pack_core, pack_done}
+use Rattle.isolation.proofs.Laws.Packed.{deepest_same}
 use Rattle.runs.specs.declared.Run.{Run}
 use Rattle.runs.specs.Runs.{deepest_at, joined_runs, runs_from, runs_of}
 

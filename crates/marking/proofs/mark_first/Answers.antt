@@ -4,7 +4,7 @@ use mathlib.Core.Bool.{false≢true}
 use native.Mathlib.Omega.{arith}
 use borrow.Author.Rules.{rules}
 use borrow.Author.Tests.{not-true, not-false}
-use Rattle.sound.specs.Laws.MeansAreas.{rooted_means}
+use Rattle.sound.proofs.Laws.MeansAreas.{rooted_means}
 use Rattle.marking.specs.Laws.Marking.{says_rooted, structure_absent, own_first, parent_first}
 use Rattle.marking.proofs.mark_first.Goals as goal
 

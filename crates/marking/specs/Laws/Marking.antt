@@ -27,7 +27,7 @@ use Rattle.sound.specs.Sound.{Rooted, Equals}
 use Rattle.sound.specs.Clauses.{has, rooted}
 use Rattle.sound.specs.Laws.Core.{apart_both}
 use Rattle.sound.specs.Laws.Tests.{and_says, and_true}
-use Rattle.sound.specs.Laws.MeansAreas.{rooted_means}
+use Rattle.sound.proofs.Laws.MeansAreas.{rooted_means}
 use Rattle.sound.specs.Laws.Local.{EqualAt, MarkedOnce}
 use Rattle.shape.specs.AtOnce.{Shaped}
 use Rattle.shape.specs.Laws.AtOnce.{shaped_s2, shaped_record}

@@ -35,8 +35,8 @@ loop-rest-preserved c =
       omega (arith, within),
       bits_half _ _ rest,
       elim c.if-rest-eq1.branch [
-        then-rest-eq1 w' ↦ rw w'.b-is (wrote_at (wrote_on w (omega arith) (omega arith) w'.store_record.ensures) _ _ refl (omega arith))
-      | else-rest-eq1 w' ↦ rw w'.b-is (wrote_at (wrote_on w (omega arith) (omega arith) (there_already _ w.size (stored_after wrote (omega arith) (c.requires.3.at _ within)) (bit_not _ _ rest w'.if-rest-eq1.false))) _ _ refl (omega arith))
+        | then-rest-eq1 w' ↦ rw w'.b-is (wrote_at (wrote_on w (omega arith) (omega arith) w'.store_record.ensures) _ _ refl (omega arith))
+        | else-rest-eq1 w' ↦ rw w'.b-is (wrote_at (wrote_on w (omega arith) (omega arith) (there_already _ w.size (stored_after wrote (omega arith) (c.requires.3.at _ within)) (bit_not _ _ rest w'.if-rest-eq1.false))) _ _ refl (omega arith))
       ],
     )
 

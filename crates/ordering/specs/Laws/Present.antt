@@ -8,8 +8,8 @@ use Rattle.tables.specs.Search.{present}
 use Rattle.tables.specs.ZeroRecord.{zero_record}
 use Rattle.sound.specs.Clauses.{s2, s3, s4, s5}
 use Rattle.sound.specs.Laws.Tests.{and_says}
-use Rattle.sound.specs.Laws.MeansEntries.{present_means}
-use Rattle.sound.specs.Laws.MeansWords.{s2_means, s5_means}
+use Rattle.sound.proofs.Laws.MeansEntries.{present_means}
+use Rattle.sound.proofs.Laws.MeansWords.{s2_means, s5_means}
 use Rattle.ordering.specs.Order.{Solid}
 
 module _ (l : List ℕ) (p : ℕ) where

@@ -10,7 +10,7 @@ use Rattle.tables.specs.Laws.ZeroWord.{not_open}
 use Rattle.settling.specs.Settled.{UsedEnd}
 use Rattle.settling.specs.Laws.Settled.{ends_one}
 use Rattle.sound.specs.Sound.{S5}
-use Rattle.sound.specs.Laws.MeansWords.{s5_means}
+use Rattle.sound.proofs.Laws.MeansWords.{s5_means}
 use Rattle.shape.specs.AtOnce.{Shaped}
 use Rattle.shape.specs.Laws.AtOnce.{shaped_s5}
 use Rattle.ordering.specs.Used.{Used}

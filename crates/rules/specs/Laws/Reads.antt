@@ -17,8 +17,8 @@ use Rattle.tables.specs.Settle.{settled}
 use Rattle.sound.specs.Laws.Tests.{or_says}
 use Rattle.sound.specs.Clauses.{sound}
 use Rattle.sound.specs.Laws.Canonical.{sound_canon}
-use Rattle.sound.specs.Laws.List.{sound_means}
-use Rattle.sound.specs.Laws.Whole.{sound_right}
+use Rattle.sound.proofs.Laws.List.{sound_means}
+use Rattle.sound.proofs.Laws.Whole.{sound_right}
 use Rattle.sound.specs.Laws.Settled.{right_settled, settled_words}
 use Rattle.rules.specs.Rules.{Result, refused, check, need, read_region, find, known, perform, serve, serve_read, call_on, words_after}
 use Rattle.rules.specs.Laws.Each.{perform_at}

@@ -2,7 +2,7 @@
 use mathlib.Core.Path.{refl, ◌∙◌, ap}
 use native.Mathlib.Omega.{arith}
 use borrow.Author.Rules.{rules}
-use Rattle.sound.specs.Laws.Whole.{tested}
+use Rattle.sound.proofs.Laws.Whole.{tested}
 use Rattle.runlist.specs.Laws.Listing.{decided_unsound, decided_sound, decided_order, plan_unsound, plan_short, plan_done, marks_unsound, marks_sound}
 use mathlib.Core.Bool.{not}
 use Rattle.runlist.proofs.plan_of.Goals as goal

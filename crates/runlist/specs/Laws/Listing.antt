@@ -9,7 +9,7 @@ use Rattle.tables.specs.View.{view}
 use Rattle.tables.specs.Laws.Seen.{see_first}
 use Rattle.tables.specs.declared.Outcome.TheVariants.{Done}
 use Rattle.sound.specs.Clauses.{sound}
-use Rattle.sound.specs.Laws.Whole.{tested}
+use Rattle.sound.proofs.Laws.Whole.{tested}
 use Rattle.decide.specs.Decide.{Decided}
 use Rattle.runs.specs.declared.Run.{Run}
 use Rattle.runlist.specs.declared.Plan.{Plan}

@@ -13,7 +13,7 @@ use Rattle.sound.specs.Holders.{heir, deepest}
 use Rattle.runs.specs.declared.Run.{Run}
 use Rattle.runs.specs.Runs.{deepest_at, runs_of, nth_run}
 use Rattle.runs.specs.Laws.RunLaws.{run_within, Runs, runs_to}
-use Rattle.sound.specs.Laws.Found.{in_table, heir_is, heir_holds}
+use Rattle.sound.proofs.Laws.Found.{in_table, heir_is, heir_holds}
 
 -- an entry starts at line l
 pub record Starts (k : K) (l : ℕ) : Type 0 where

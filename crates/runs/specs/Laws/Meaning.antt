@@ -10,7 +10,7 @@ use Rattle.tables.specs.View.{view}
 use Rattle.tables.specs.declared.Outcome.{Outcome}
 use Rattle.tables.specs.declared.Outcome.TheVariants.{Done, Refused}
 use Rattle.sound.specs.Clauses.{sound}
-use Rattle.sound.specs.Laws.Whole.{tested}
+use Rattle.sound.proofs.Laws.Whole.{tested}
 use Rattle.runs.specs.declared.Run.{Run}
 use Rattle.runs.specs.Runs.{run_of, runs_of, nth_run, Longest, runs_over, runs_outcome, runs_records, RunsListed}
 use Rattle.runs.specs.Laws.RunLaws.{runs_longest}

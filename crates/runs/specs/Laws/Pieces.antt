@@ -15,10 +15,10 @@ use Rattle.tables.specs.Lines.{Holds}
 use Rattle.tables.specs.Search.{lowest, holds_at}
 use Rattle.tables.specs.Laws.Search.{lowest_some}
 use Rattle.sound.specs.Core.{Core}
-use Rattle.sound.specs.Laws.MeansEntries.{holds_means}
+use Rattle.sound.proofs.Laws.MeansEntries.{holds_means}
 use Rattle.sound.specs.Holders.{receiver, given_by, heir, deepest}
-use Rattle.sound.specs.Laws.Holders.{deepest_here, deepest_last, deepest_down}
-use Rattle.sound.specs.Laws.Found.{in_table, line_found, heir_holds}
+use Rattle.sound.proofs.Laws.Holders.{deepest_here, deepest_last, deepest_down}
+use Rattle.sound.proofs.Laws.Found.{in_table, line_found, heir_holds}
 use Rattle.runs.specs.declared.pieces.Hop.{Hop}
 use Rattle.runs.specs.Runs.{deepest_at}
 use Rattle.runs.specs.Pieces.{end_of, end_by, end_at, nearest, piece_end, Hopped, Descent}

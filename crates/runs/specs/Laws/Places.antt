@@ -13,7 +13,7 @@ use Rattle.tables.specs.Lines.{Holds}
 use Rattle.tables.specs.Search.{present}
 use Rattle.settling.specs.Rising.{low_of, high_of}
 use Rattle.sound.specs.Core.{Core}
-use Rattle.sound.specs.Laws.Found.{in_table, line_found}
+use Rattle.sound.proofs.Laws.Found.{in_table, line_found}
 use Rattle.ordering.specs.Order.{lines_of, lines_at, placed, Rows}
 use Rattle.ordering.specs.Laws.Order.{lines_of_law}
 use Rattle.runs.specs.Laws.Pieces.{hop_found}

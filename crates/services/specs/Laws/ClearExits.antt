@@ -21,7 +21,7 @@ use Rattle.tables.specs.Search.{is_some, present, child}
 use Rattle.tables.specs.Settle.{settled}
 use Rattle.sound.specs.Sound.{Present}
 use Rattle.sound.specs.Laws.Tests.{and_says, or_says, or_left}
-use Rattle.sound.specs.Laws.MeansEntries.{present_means, child_means}
+use Rattle.sound.proofs.Laws.MeansEntries.{present_means, child_means}
 use Rattle.rules.specs.Rules.{remove, branch, done, clear_out}
 use Rattle.rules.specs.Branch.{Under, itself, below}
 use Rattle.rules.specs.Laws.Branch.{under_root, branch_of_law, branch_at, branch_cut, branch_self}

@@ -13,11 +13,13 @@ use Rattle.rules.specs.Rules.{done, create, prepare, collect}
 use Rattle.rules.specs.Changes.{up_from}
 use Rattle.rules.specs.Laws.Changes.{up_small, up_names}
 use Rattle.isolation.specs.Laws.Above.{above_not}
-use Rattle.isolation.specs.Laws.Create.{create_done, create_right}
-use Rattle.isolation.specs.Laws.Prepare.{prepare_done, prepare_right}
-use Rattle.isolation.specs.Laws.Collect.{collect_done, collect_right}
-use Rattle.isolation.specs.Laws.Remove.{Goes, remove_right}
-use Rattle.isolation.specs.Laws.Outside.{came_opened, collect_spares, removal_spares}
+use Rattle.isolation.proofs.Laws.Create.{create_done, create_right}
+use Rattle.isolation.proofs.Laws.Prepare.{prepare_done, prepare_right}
+use Rattle.isolation.proofs.Laws.Collect.{collect_done, collect_right}
+use Rattle.isolation.specs.Laws.Remove.{Goes}
+use Rattle.isolation.proofs.Laws.Remove.{remove_right}
+use Rattle.isolation.proofs.Laws.Spares.{collect_spares, removal_spares}
+use Rattle.isolation.proofs.Laws.Opened.{came_opened}
 use Rattle.services.specs.DeleteExits.{ungiven}
 use Rattle.services.specs.Zeroed.{zero_records}
 

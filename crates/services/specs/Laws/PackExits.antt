@@ -30,7 +30,7 @@ use Rattle.tables.specs.declared.Outcome.TheVariants.{Done}
 use Rattle.sound.specs.Whole.{Right}
 use Rattle.sound.specs.Laws.Settled.{Settled, right_settled, settled_words}
 use Rattle.rules.specs.Pack.{usable, Packing, free_in, rename, move_entry, move_to, pack_slot, packing_of, packed}
-use Rattle.rules.specs.Laws.Pack.{packed_few, packed_open}
+use Rattle.rules.proofs.Laws.Pack.{packed_few, packed_open}
 use Rattle.rules.specs.Rules.{own_or_child, pack}
 use Rattle.rules.specs.Ran.{Ran}
 use Rattle.rules.specs.Laws.Ran.{ran_done, pass}

@@ -24,7 +24,7 @@ use Rattle.sound.specs.Laws.Sound.{s2_of}
 use Rattle.sound.specs.Clauses.{when, s3, rooted, s4_area, s4_absent, s4, s5_slot, s5, apart_e, s6, s7_given, s7_whole, s7, s8_backed, s9, s10_names, s10_once, s10, s11_within, s11_equal, s11}
 use Rattle.sound.specs.Laws.Limit.{none_loaded}
 use Rattle.sound.specs.Laws.Tests.{and_true}
-use Rattle.sound.specs.Laws.MeansWords.{s3_means}
+use Rattle.sound.proofs.Laws.MeansWords.{s3_means}
 
 -- in a sound table the header's word alone tells that a partition is absent
 pub header_tells : {board : Board} {l : List ℕ} → Sound board l → HeaderTells l

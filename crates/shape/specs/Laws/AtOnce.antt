@@ -9,7 +9,7 @@ use Rattle.tables.specs.State.{K}
 use Rattle.tables.specs.View.{view}
 use Rattle.sound.specs.Clauses.{s1, s2, s3_first, s3, s4, s5, s6, s7, s8_backed, s8_apart, s8, s9, s10, s11, clause_at, sound}
 use Rattle.sound.specs.Laws.Tests.{and_says, and_true, or_right}
-use Rattle.sound.specs.Laws.List.{each_clause, sound_passed, passed_sound}
+use Rattle.sound.proofs.Laws.List.{each_clause, sound_passed, passed_sound}
 use Rattle.shape.specs.AtOnce.{rest_at, shape_at, Shaped}
 
 -- no two areas share a line

@@ -21,20 +21,21 @@ use Rattle.rules.specs.Rules.{done, create_k, remove_k, remove, serve, area_of}
 use Rattle.rules.specs.Laws.Each.{done_each}
 use Rattle.rules.specs.Laws.Removed.{records_was}
 use Rattle.isolation.specs.Laws.Checks.{is_child_means}
-use Rattle.isolation.specs.Laws.Remove.{Goes, remove_right}
-use Rattle.isolation.specs.Laws.Create.{CreateOk, create_done, create_right}
-use Rattle.isolation.specs.Laws.Delete.{delete_done}
-use Rattle.isolation.specs.Laws.Prepare.{prepare_done}
-use Rattle.isolation.specs.Laws.Collect.{collect_done}
-use Rattle.isolation.specs.Laws.Give.{give_done}
-use Rattle.isolation.specs.Laws.Take.{take_done}
-use Rattle.isolation.specs.Laws.Cut.{cut_done}
-use Rattle.isolation.specs.Laws.Merge.{merge_done}
-use Rattle.isolation.specs.Laws.Regions.{load_done, unload_done, read_region_same_law}
+use Rattle.isolation.specs.Laws.Remove.{Goes}
+use Rattle.isolation.proofs.Laws.Remove.{remove_right}
+use Rattle.isolation.proofs.Laws.Create.{CreateOk, create_done, create_right}
+use Rattle.isolation.proofs.Laws.Delete.{delete_done}
+use Rattle.isolation.proofs.Laws.Prepare.{prepare_done}
+use Rattle.isolation.proofs.Laws.Collect.{collect_done}
+use Rattle.isolation.proofs.Laws.Give.{give_done}
+use Rattle.isolation.proofs.Laws.Take.{take_done}
+use Rattle.isolation.proofs.Laws.Cut.{cut_done}
+use Rattle.isolation.proofs.Laws.Merge.{merge_done}
+use Rattle.isolation.proofs.Laws.Regions.{load_done, unload_done, read_region_same_law}
 use Rattle.isolation.specs.Laws.Find.{find_same}
-use Rattle.isolation.specs.Laws.Switch.{switch_done}
-use Rattle.isolation.specs.Laws.ClearOut.{branch_goes, clear_done}
-use Rattle.isolation.specs.Laws.Pack.{pack_done}
+use Rattle.isolation.proofs.Laws.Switch.{switch_done}
+use Rattle.isolation.proofs.Laws.ClearOut.{branch_goes, clear_done}
+use Rattle.isolation.proofs.Laws.Pack.{pack_done}
 use Rattle.tables.specs.Laws.Stays.{Stays}
 
 -- the children of p are as before

@@ -15,7 +15,7 @@ use Rattle.tables.specs.Laws.Back.{view_encode}
 use Rattle.tables.specs.Search.{is_some, present}
 use Rattle.rules.specs.Rules.{done, call_on}
 use Rattle.isolation.specs.Laws.Fits.{right_fit}
-use Rattle.isolation.specs.Whole.{served, call_right}
+use Rattle.isolation.proofs.Whole.{served, call_right}
 use Rattle.sheetrules.specs.Sheet.{number_of_lines, masks_word, lines_word}
 use Rattle.tables.specs.Laws.Stays.{Stays, stays}
 use Rattle.sheet.specs.Laws.Children.{SameChildren, same_mask, serve_children}

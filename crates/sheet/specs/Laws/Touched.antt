@@ -33,20 +33,20 @@ use Rattle.rules.specs.Rules.{done, create_k, remove_k, serve, call_on}
 use Rattle.rules.specs.Laws.Each.{done_each}
 use Rattle.isolation.specs.Ladders.{OwnOrChild}
 use Rattle.isolation.specs.Laws.Remove.{Goes}
-use Rattle.isolation.specs.Laws.Create.{CreateOk, create_done, create_number}
-use Rattle.isolation.specs.Laws.Delete.{delete_done}
-use Rattle.isolation.specs.Laws.Prepare.{prepare_done}
-use Rattle.isolation.specs.Laws.Collect.{collect_done}
-use Rattle.isolation.specs.Laws.Give.{give_done}
-use Rattle.isolation.specs.Laws.Take.{take_done}
-use Rattle.isolation.specs.Laws.Cut.{cut_done}
-use Rattle.isolation.specs.Laws.Merge.{merge_done}
-use Rattle.isolation.specs.Laws.Regions.{load_done, unload_done, read_region_same_law}
+use Rattle.isolation.proofs.Laws.Create.{CreateOk, create_done, create_number}
+use Rattle.isolation.proofs.Laws.Delete.{delete_done}
+use Rattle.isolation.proofs.Laws.Prepare.{prepare_done}
+use Rattle.isolation.proofs.Laws.Collect.{collect_done}
+use Rattle.isolation.proofs.Laws.Give.{give_done}
+use Rattle.isolation.proofs.Laws.Take.{take_done}
+use Rattle.isolation.proofs.Laws.Cut.{cut_done}
+use Rattle.isolation.proofs.Laws.Merge.{merge_done}
+use Rattle.isolation.proofs.Laws.Regions.{load_done, unload_done, read_region_same_law}
 use Rattle.isolation.specs.Laws.Find.{find_same}
-use Rattle.isolation.specs.Laws.Switch.{switch_done}
-use Rattle.isolation.specs.Laws.ClearOut.{branch_goes, clear_done}
-use Rattle.isolation.specs.Laws.Pack.{pack_done}
-use Rattle.isolation.specs.Whole.{serve_right, served}
+use Rattle.isolation.proofs.Laws.Switch.{switch_done}
+use Rattle.isolation.proofs.Laws.ClearOut.{branch_goes, clear_done}
+use Rattle.isolation.proofs.Laws.Pack.{pack_done}
+use Rattle.isolation.proofs.Whole.{serve_right, served}
 use Rattle.sheet.specs.Touched.{touched_of_caller, touched_by, touched, Named, touches, kept_pair, put_those, sheet_kept}
 use Rattle.sheet.specs.declared.calls.Whose.{Whose}
 use Rattle.sheet.specs.declared.calls.Whose.TheVariants.{Nobody, One, Up, Gone}
@@ -57,10 +57,10 @@ use Rattle.sheetrules.specs.Sheet.{number_of_lines, masks_of, masks_word, lines_
 use Rattle.sheetrules.specs.Bytes.{sheet_bytes, pair_put}
 use Rattle.summing.specs.Sums.{children_of, masks_with}
 use Rattle.rules.specs.Changes.{above, next_in}
-use Rattle.sheetrules.specs.Laws.Words.{masks_in}
-use Rattle.sheetrules.specs.Laws.Reading.{sheet_masks_read, bytes_same}
+use Rattle.sheetrules.proofs.Laws.Words.{masks_in}
+use Rattle.sheetrules.proofs.Laws.Reading.{sheet_masks_read, bytes_same}
 use Rattle.isolation.specs.Laws.Above.{above_not}
-use Rattle.isolation.specs.Laws.Outside.{create_stays, prepare_stays, collect_stays, removal_stays}
+use Rattle.isolation.proofs.Laws.Outside.{create_stays, prepare_stays, collect_stays, removal_stays}
 
 -- the two words of q are as they were
 abbrev SamePair : Table → Table → ℕ → Type 0

@@ -12,9 +12,9 @@ use Rattle.loops.specs.Laws.Count.{count_ext, count_apart, count_fewer}
 use Rattle.tables.specs.State.{Opt, none, some, Entry, K}
 use Rattle.tables.specs.Search.{holds}
 use Rattle.sound.specs.Laws.Tests.{and_says}
-use Rattle.sound.specs.Laws.MeansEntries.{holds_means}
+use Rattle.sound.proofs.Laws.MeansEntries.{holds_means}
 use Rattle.sound.specs.Core.{Core}
-use Rattle.sound.specs.Laws.Found.{in_table}
+use Rattle.sound.proofs.Laws.Found.{in_table}
 use Rattle.sound.specs.Laws.Properties.{held_range}
 use Rattle.sheetrules.specs.Sheet.{number_of_lines, held_lines}
 

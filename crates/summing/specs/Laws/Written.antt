@@ -14,7 +14,7 @@ use Rattle.tables.specs.State.{K, Table}
 use Rattle.tables.specs.Search.{present, child}
 use Rattle.sound.specs.Whole.{Right}
 use Rattle.sheetrules.specs.Sheet.{occupied, structured, lines_for, masks_word, lines_word}
-use Rattle.sheetrules.specs.Laws.Words.{with_in, lines_in_law}
+use Rattle.sheetrules.proofs.Laws.Words.{with_in, lines_in_law}
 use Rattle.summing.specs.Sums.{word_in, Adding, children_of, masks_with}
 use Rattle.summing.specs.declared.sums.Sums.{Sums}
 use Rattle.summing.specs.Laws.Sums.{adding_end}

@@ -1,6 +1,6 @@
 -- src/lib.rt, of_image: r ≡ image_verdict board b
 use mathlib.Core.Path.{refl}
-use Rattle.verdict.specs.Laws.Stages.{image_other, image_said}
+use Rattle.verdict.proofs.Laws.Stages.{image_other, image_said}
 use borrow.Author.Rules.{rules}
 use Rattle.verdict.proofs.of_image.Goals as goal
 

@@ -5,7 +5,7 @@ use Prim.Native.Nat.{◌-◌, ◌≤◌}
 use lib.Dec.{eqb}
 use borrow.Author.Tests.{not-true, not-false, eq-eqb}
 use Rattle.sound.specs.Laws.Tests.{not_says}
-use Rattle.sound.specs.Laws.MeansRegions.{beq_means}
+use Rattle.sound.proofs.Laws.MeansRegions.{beq_means}
 use Rattle.decide.specs.Tiles.{row_of, opened_bit, Tiling, AllSet}
 use Rattle.decide.specs.Laws.Tiles.{ComparedWith, compare_start, set_start, set_on, few, stuck_as, other_bits, same_bits, tile_start, tile_none, tile_elsewhere, tile_over, tile_unlike, tile_next, compare_next, not_first}
 use native.Mathlib.Omega.{arith}

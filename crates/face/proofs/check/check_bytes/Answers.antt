@@ -1,7 +1,7 @@
 -- src/check.rt, check_bytes: r ≡ resultOf 0 (checked (image_verdict board table))
 use mathlib.Core.Path.{sym, subst}
 use Rattle.verdict.specs.Verdict.{ClauseNamed}
-use Rattle.verdict.specs.Theorem.{image_few}
+use Rattle.verdict.proofs.Theorem.{image_few}
 use borrow.Author.Rules.{rules}
 use Rattle.face.proofs.check.check_bytes.Goals as goal
 

@@ -1,6 +1,6 @@
 -- src/pieces.rt, pieces: PiecesListed board t partition slot list r list'
 use Rattle.tables.specs.Laws.Top.{top_16}
-use Rattle.sound.specs.Laws.Holders.{wrong_length}
+use Rattle.sound.proofs.Laws.Holders.{wrong_length}
 use Rattle.holders.specs.Laws.Listing.{pieces_unsound, pieces_copy}
 use borrow.Author.Rules.{rules}
 use Rattle.holders.proofs.pieces.pieces.Goals as goal

@@ -3,7 +3,7 @@ use mathlib.Core.Path.{sym, ◌∙◌, ap}
 use borrow.Author.Tests.{not-true}
 use native.Mathlib.Omega.{arith}
 use Rattle.decide.specs.Laws.Decide.{passed}
-use Rattle.sound.specs.Laws.Whole.{tested}
+use Rattle.sound.proofs.Laws.Whole.{tested}
 use Rattle.holders.specs.Laws.Listing.{pieces_unsound, pieces_nowhere, pieces_listed}
 use borrow.Author.Rules.{rules}
 use mathlib.Core.Bool.{not}

@@ -6,7 +6,7 @@ use borrow.Author.Tests.{ltb-true, ltb-false}
 use Rattle.std.specs.Io.KnownBytes.{Appends, Consumes, IsAtEnd}
 use Rattle.shapes.specs.declared.Board.{Board}
 use Rattle.verdict.specs.Verdict.{image_verdict, ClauseNamed}
-use Rattle.verdict.specs.Theorem.{image_few, image_length}
+use Rattle.verdict.proofs.Theorem.{image_few, image_length}
 use Rattle.report.specs.Report.{printed_line}
 use Rattle.report.proofs.printing.judge.Goals as goal
 

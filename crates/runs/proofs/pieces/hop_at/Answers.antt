@@ -26,11 +26,10 @@ pub bounds-places-at-then-l-f : goal.bounds-places-at-then-l-f
 bounds-places-at-then-l-f c = omega (arith, holder_small c.requires.0 c.requires.3)
 
 pub returns-then-l-f : goal.returns-then-l-f
-returns-then-l-f c =
-    (
-      pass_here c.requires.0 c.requires.1 c.requires.3 c.loop-a.invariant.passing _ c.entry_at-f.ensures.slot (omega arith) c.entry_at-f.ensures.given_small,
-      passed_set c.loop-a.invariant.passed c.loop-a.invariant.passing,
-    )
+returns-then-l-f c = (
+  pass_here c.requires.0 c.requires.1 c.requires.3 c.loop-a.invariant.passing _ c.entry_at-f.ensures.slot (omega arith) c.entry_at-f.ensures.given_small,
+  passed_set c.loop-a.invariant.passed c.loop-a.invariant.passing,
+)
 
 pub loop-a-preserved : goal.loop-a-preserved
 loop-a-preserved c =

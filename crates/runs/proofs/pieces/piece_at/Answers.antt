@@ -27,11 +27,10 @@ pub returns-then-q-eq0 : goal.returns-then-q-eq0
 returns-then-q-eq0 c = walk_here c.requires.0 c.loop-d.invariant c.hop_at-h.ensures.0 c.lower-end.ensures c.hop_at-h.ensures.1 (omega arith) c.if-q-eq0.true
 
 pub mark_of-requires : goal.mark_of-requires
-mark_of-requires c =
-    (
-      low_small c.requires.0 c.loop-d.invariant c.hop_at-h.ensures.0 c.lower-end.ensures c.hop_at-h.ensures.1 (omega arith) (stop_small c.args.t.now),
-      c.hop_at-h.ensures.0.small,
-    )
+mark_of-requires c = (
+  low_small c.requires.0 c.loop-d.invariant c.hop_at-h.ensures.0 c.lower-end.ensures c.hop_at-h.ensures.1 (omega arith) (stop_small c.args.t.now),
+  c.hop_at-h.ensures.0.small,
+)
 
 pub offset_bounds-way-d-in-loop-d : goal.offset_bounds-way-d-in-loop-d
 offset_bounds-way-d-in-loop-d c = omega (arith, c.loop-d.invariant.way.deep)

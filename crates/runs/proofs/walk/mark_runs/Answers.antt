@@ -19,13 +19,12 @@ pub piece_at-c-requires : goal.piece_at-c-requires
 piece_at-c-requires c = (c.requires.0, c.requires.1, standing c.loop-at.invariant (omega (arith, c.first-f.ensures.stop, c.loop-at-test.true)))
 
 pub mark-n-requires : goal.mark-n-requires
-mark-n-requires c =
-    (
-      c.loop-at.invariant.marking.size,
-      marks_few c.requires.0 c.loop-at.invariant.marking,
-      omega (arith, c.loop-at-test.true, c.first-f.ensures.end_small),
-      c.piece_at-c.ensures.small,
-    )
+mark-n-requires c = (
+  c.loop-at.invariant.marking.size,
+  marks_few c.requires.0 c.loop-at.invariant.marking,
+  omega (arith, c.loop-at-test.true, c.first-f.ensures.end_small),
+  c.piece_at-c.ensures.small,
+)
 
 pub loop-at-smaller : goal.loop-at-smaller
 loop-at-smaller c = rw c.first-f.ensures.stop at (walk_nearer c.loop-at.invariant (omega (arith, c.first-f.ensures.stop, c.loop-at-test.true)) c.piece_at-c.ensures.end)

@@ -22,8 +22,8 @@ clear_children-overflow_add-n t c = omega (arith, empty_few c.loop-q.invariant, 
 pub clear_children-loop-q-preserved : goal.clear_children-loop-q-preserved
 clear_children-loop-q-preserved t c =
     elim c.if-is_child.branch [
-      clear_children-then-is_child w ↦ empty_yes c.loop-q.invariant (fit_view (is_canon c.requires.0.is)) (sym c.is_child.ensures ∙ w.if-is_child.true) w.clear_partition-n.ensures w.t-is w.n-is
-    | clear_children-else-is_child w ↦ empty_no c.loop-q.invariant c.requires.2 (sym c.is_child.ensures ∙ w.if-is_child.false) w.t-is w.n-is
+      | clear_children-then-is_child w ↦ empty_yes c.loop-q.invariant (fit_view (is_canon c.requires.0.is)) (sym c.is_child.ensures ∙ w.if-is_child.true) w.clear_partition-n.ensures w.t-is w.n-is
+      | clear_children-else-is_child w ↦ empty_no c.loop-q.invariant c.requires.2 (sym c.is_child.ensures ∙ w.if-is_child.false) w.t-is w.n-is
     ]
 
 pub clear_children-returns : goal.clear_children-returns

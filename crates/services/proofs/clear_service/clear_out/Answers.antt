@@ -4,7 +4,7 @@ use borrow.Author.Tests.{not-true, not-false}
 use Rattle.tables.specs.Laws.Encode.{is_canon}
 use Rattle.rules.specs.Rules.{clear_out}
 use Rattle.rules.specs.Laws.Ran.{ran_refused, fail}
-use Rattle.isolation.specs.Laws.ClearOut.{branch_goes, clear_done}
+use Rattle.isolation.proofs.Laws.ClearOut.{branch_goes, clear_done}
 use Rattle.blocks.specs.Laws.GiveExits.{child_now}
 use Rattle.services.specs.Laws.Unsettled.{right_gone, gone_words, gone_ungiven, gone_branch, ran_settled}
 use Rattle.services.specs.Laws.ClearExits.{ungiven_child, clear_is, cleared_out}

@@ -4,7 +4,7 @@ use borrow.Author.Tests.{not-true, not-false}
 use Rattle.tables.specs.Laws.Encode.{is_canon}
 use Rattle.rules.specs.Rules.{delete}
 use Rattle.rules.specs.Laws.Ran.{ran_refused, fail}
-use Rattle.isolation.specs.Laws.Delete.{delete_done}
+use Rattle.isolation.proofs.Laws.Delete.{delete_done}
 use Rattle.blocks.specs.Laws.GiveExits.{child_now}
 use Rattle.services.specs.Laws.Unsettled.{right_gone, gone_words, gone_ungiven, gone_cleared, ran_settled}
 use Rattle.services.specs.Laws.DeleteExits.{delete_parent, delete_is, deleted}

@@ -1,6 +1,6 @@
 use native.Mathlib.Omega.{arith}
-use Rattle.shapes.specs.Laws.Zeros.{zeros_out, zeros_few}
-use Rattle.shapes.specs.Laws.Counting.{CountingPieces, pieces_count_start, pieces_count_on, pieces_count_end}
+use Rattle.shapes.proofs.Laws.Zeros.{zeros_out, zeros_few}
+use Rattle.shapes.proofs.Laws.Counting.{CountingPieces, pieces_count_start, pieces_count_on, pieces_count_end}
 use borrow.Author.Rules.{rules}
 use Rattle.shapes.proofs.pieces.shaped_count.Given as goal
 

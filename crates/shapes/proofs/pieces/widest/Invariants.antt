@@ -1,6 +1,6 @@
 use Prim.Native.Nat.{◌-◌}
 use native.Mathlib.Omega.{arith}
-use Rattle.shapes.specs.Laws.Widest.{Growing, grow_start, grow_some, grow_on, grow_odd, grow_full}
+use Rattle.shapes.proofs.Laws.Widest.{Growing, grow_start, grow_some, grow_on, grow_odd, grow_full}
 use borrow.Author.Rules.{rules}
 use Rattle.shapes.proofs.pieces.widest.Given as goal
 

@@ -1,5 +1,5 @@
 -- src/pieces.rt, write_pieces: ShapesListed (pieces_for board start end) list r list'
-use Rattle.shapes.specs.Laws.Listing.{can_list_on, listed_on}
+use Rattle.shapes.proofs.Laws.Listing.{can_list_on, listed_on}
 use borrow.Author.Rules.{rules}
 use Rattle.shapes.proofs.pieces.write_pieces.Goals as goal
 

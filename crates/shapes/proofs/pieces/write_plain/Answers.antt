@@ -1,5 +1,5 @@
 -- src/pieces.rt, write_plain: ShapesListed (pieces_for V8 start end) list r list'
-use Rattle.shapes.specs.Laws.Listing.{plain_listed}
+use Rattle.shapes.proofs.Laws.Listing.{plain_listed}
 use borrow.Author.Rules.{rules}
 use Rattle.shapes.proofs.pieces.write_plain.Goals as goal
 

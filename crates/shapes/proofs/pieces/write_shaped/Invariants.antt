@@ -1,6 +1,6 @@
 use Prim.Native.Nat.{◌-◌}
 use native.Mathlib.Omega.{arith}
-use Rattle.shapes.specs.Laws.Listing.{Listing, list_start, list_size, list_room, list_within, list_some, list_on, list_end}
+use Rattle.shapes.proofs.Laws.Listing.{Listing, list_start, list_size, list_room, list_within, list_some, list_on, list_end}
 use borrow.Author.Rules.{rules}
 use Rattle.shapes.proofs.pieces.write_shaped.Given as goal
 

@@ -2,7 +2,7 @@
 use mathlib.Core.Path.{◌≡◌}
 use native.Mathlib.Omega.{arith}
 use Rattle.sound.specs.Clauses.{s5, clause_at}
-use Rattle.verdict.specs.Laws.Stages.{reached_s3, reached_shaped}
+use Rattle.verdict.proofs.Laws.Stages.{reached_s3, reached_shaped}
 use borrow.Author.Rules.{rules}
 use Rattle.verdict.proofs.early.holds.Goals as goal
 

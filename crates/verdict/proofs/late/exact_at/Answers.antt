@@ -1,6 +1,6 @@
 -- src/late.rt, exact_at: r ≡ s7 (view t) p.0
 use Rattle.decide.specs.Laws.Decide.{passed}
-use Rattle.verdict.specs.Laws.Stages.{s7_absent, given_fails, exact_decides}
+use Rattle.verdict.proofs.Laws.Stages.{s7_absent, given_fails, exact_decides}
 use borrow.Author.Rules.{rules}
 use mathlib.Core.Path.{ap}
 use mathlib.Core.Bool.{not}

@@ -2,7 +2,7 @@
 use mathlib.Core.Path.{◌≡◌}
 use native.Mathlib.Omega.{arith}
 use Rattle.sound.specs.Clauses.{clause_at}
-use Rattle.verdict.specs.Laws.Stages.{reached_shaped, reached_before}
+use Rattle.verdict.proofs.Laws.Stages.{reached_shaped, reached_before}
 use borrow.Author.Rules.{rules}
 use Rattle.verdict.proofs.late.holds.Goals as goal
 

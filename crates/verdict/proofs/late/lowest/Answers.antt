@@ -1,7 +1,7 @@
 -- src/late.rt, lowest: r ≡ lowest_of board t 176
 use Prim.Native.Nat.{◌-◌, ◌≤◌}
 use native.Mathlib.Omega.{arith}
-use Rattle.verdict.specs.Laws.Stages.{NoneFails, cleared_from, cleared_reached, cleared_hit, cleared_on, cleared_end}
+use Rattle.verdict.proofs.Laws.Stages.{NoneFails, cleared_from, cleared_reached, cleared_hit, cleared_on, cleared_end}
 use borrow.Author.Rules.{rules}
 use mathlib.Core.Path.{ap}
 use mathlib.Core.Bool.{not}

@@ -1,6 +1,6 @@
 -- src/late.rt, rights_at: r ≡ s11 (view t).k p.0
 use Rattle.decide.specs.Laws.Decide.{passed}
-use Rattle.verdict.specs.Laws.Stages.{s11_absent, rights_decide}
+use Rattle.verdict.proofs.Laws.Stages.{s11_absent, rights_decide}
 use borrow.Author.Rules.{rules}
 use mathlib.Core.Path.{ap}
 use mathlib.Core.Bool.{not}

@@ -1,0 +1,10 @@
+pub mod Widest
+pub mod Greedy
+pub mod Halves
+pub mod Zeros
+pub mod Counting
+pub mod Listing
+pub mod Clean
+pub mod Shapes
+pub mod Cover
+pub mod Only

@@ -1,0 +1,9 @@
+pub mod MeansEntries
+pub mod MeansAreas
+pub mod MeansRegions
+pub mod MeansWords
+pub mod List
+pub mod Holders
+pub mod Whole
+pub mod Found
+pub mod Looks
