@@ -51,12 +51,11 @@ lib_folder := $(lib_folder_$(BOARD))
 lib_headers := $(lib_headers_$(BOARD):%=$(lib_folder)/%)
 lib: $(lib_folder)/libulavrepit.a $(lib_headers)
 
-# Made again when anything in crates/ is newer; folders count too, so that a file taken away is seen. The module that it is compiled
-# from is kept beside it, for other processors (arm/arm.mk).
-$(lib_folder)/libulavrepit.a: crates.txt arm/capture $(shell find crates)
+# Made again when anything in crates/ is newer, but for what rt makes there; folders count too, so that a file taken away is seen. The
+# module that it is compiled from is kept beside it, for other processors (arm/arm.mk).
+$(lib_folder)/libulavrepit.a: crates crates.txt arm/capture $(shell find crates -mindepth 2 -path 'crates/*/out' -prune -o -print)
 	@mkdir -p $(@D)
-	@bash -c '. tests/lib.sh && prove_first $(lib_crate) arm/capture $(lib_crate) $(@D)/board.bc'
-	@cp target/staticlib/lib$(lib_crate).a $@
+	@bash -c '. tests/lib.sh && prove_first $(lib_crate) arm/capture $(lib_crate) $@ $(@D)/board.bc'
 
 $(lib_headers): $(lib_folder)/%: include/%
 	@mkdir -p $(@D)

@@ -5,7 +5,11 @@
 #   finish                  prints 'N passed, M failed' and ends the test
 #   $room                   a folder of its own, removed when it ends
 #   step NAME COMMAND..     a command that is to end well; where it does not, the test ends
-#   make_alone WORDS.., rt_alone WORDS..  make and rt, for what tests share in build/ and target/: no other test does so then
+#   make_alone WORDS..      make, for what tests share in build/: no other test does so then
+#   is_recorded             whether what rt ci made of the crates still stands in their out/ (build/proved)
+#   have_program NAME       sees that crates/NAME/out/NAME is the proved program: rt ci's, or else rt run's
+#   have_libraries CRATE..  sees that these libraries, and those below them, stand in their out/: rt ci's, or else rt lib's
+#   rattle_over 'LIBRARIES' VERB WORDS..  the kit's rattle on the crate in this folder, over libraries of this repository
 #   target_cc WORDS..       the C compiler that makes x86-64 programs; target_cxx: the one for C++;
 #                           target_nm: the one that lists names
 #   strict_c                words for it: C99 without a warning
@@ -20,9 +24,12 @@
 #   agrees COMMAND..        runs a comparison that is too short to come to every refusal and every clause
 #   build_compare PROGRAM WORDS..  makes the comparison of the library with the second program
 # make run and make lib use its
-#   prove_first CRATE COMMAND..  runs a command of rt that proves the crate and those below it, and says how it gets on
+#   prove_first CRATE COMMAND..  runs a command that proves the crate and those below it, and says how it gets on
+# and the gate, where rt ci passed,
+#   record_proved           writes down what was proved and what rt ci made of it
 
 passed=0 failed=0
+repository=$PWD
 room=$(mktemp -d) || exit 2
 trap 'rm -rf "$room"' EXIT
 
@@ -55,15 +62,14 @@ step() { # NAME COMMAND..
     fi
 }
 
-# Tests run side by side, and neither command may run twice at once in one folder. Who has both waits for make's turn first.
+# Tests run side by side, and make may not run twice at once in one folder. (Of rt a second one waits by itself.)
 make_alone() { flock Makefile make --no-print-directory "$@"; }
-rt_alone() { flock crates.txt rt "$@"; }
 
 # shellcheck disable=SC2034 # for the tests
 strict_c=(-std=c99 -O2 -Wall -Wextra -Werror -pedantic)
 
-# Rattle's code is for x86-64. On Arm another compiler makes such programs, and the kit's emulator,
-# which has no C library to load, runs them: so they are linked with theirs.
+# Rattle's code is for x86-64. On Arm another compiler makes such programs, and an emulator, which has no C
+# library to load, runs them: so they are linked with theirs.
 target_cc() {
     case $(uname -m) in
     x86_64) cc "$@" ;;
@@ -93,8 +99,8 @@ target_nm() {
 # Prints the kit's folder, found as rt finds it.
 kit_home() { printf '%s\n' "${RATTLE_HOME:-$(dirname "$(dirname "$(readlink -f "$(command -v rt)")")")}"; }
 
-# Prints the folder with the kit's compiler and linker for this machine.
-kit_bin() { printf '%s\n' "$(kit_home)/on/$(uname -m)/toolchain/bin"; }
+# Prints the folder with the kit's compiler and linker.
+kit_bin() { printf '%s\n' "$(kit_home)/toolchain/bin"; }
 
 run_x86() {
     case $(uname -m) in
@@ -104,7 +110,7 @@ run_x86() {
         *) "$AS_IF_EMULATED" "$@" ;;
         esac
         ;;
-    aarch64) "$(kit_bin)/qemu-x86_64" "$@" ;;
+    aarch64) qemu-x86_64 "$@" ;;
     *) echo "no x86-64 emulator is known for $(uname -m)" >&2; return 1 ;;
     esac
 }
@@ -120,12 +126,12 @@ use_native() { # WORDS OF make..
     make_alone native "$@"
 }
 
-# Runs a program that rt linked: it loads a C library, on Arm the kit's, as rt itself has it do.
+# Runs a program that rt linked: it loads a C library, on Arm the kit's.
 run_proved() { # PROGRAM WORDS..
     local kit
     case $(uname -m) in
     aarch64)
-        kit=$(kit_home)/on/aarch64/toolchain
+        kit=$(kit_home)/toolchain
         run_x86 "$kit/lib/ld-linux-x86-64.so.2" --library-path "$kit/lib" "$@"
         ;;
     *) run_x86 "$@" ;;
@@ -179,34 +185,101 @@ planted() { # FUNCTION OLD NEW
     printf '%s%s%s\n' "$before" "${body/"$2"/"$3"}" "${whole:$((${#before} + ${#body}))}"
 }
 
-# Proving takes minutes, and a reader should know what is waited for. Says on stderr at once that something is to be
-# proved, and passes on rt's line for each crate as it is proved; nothing where nothing has to be. All that rt said is
-# shown where it failed. It waits its turn, as rt_alone does.
+# ---- what is proved
+
+# Prints the sums of all that crates are proved and made of, and of the libraries and programs that stand in their out/. (The file
+# 'format' of a library has the sums of its other files.)
+made_of() {
+    {
+        find crates.txt HANDLES "$(kit_home)/KIT-ID" -maxdepth 0 -type f
+        find crates -mindepth 2 \( -path 'crates/*/out' -o -path 'crates/*/must-fail' \) -prune -o -type f -print
+        find crates -mindepth 5 -maxdepth 5 -path 'crates/*/out/rlib/*.rlib/format'
+        find crates -mindepth 3 -maxdepth 3 -path 'crates/*/out/*' -type f -perm -100
+    } 2>/dev/null | sort | tr '\n' '\0' | xargs -0 sha256sum
+}
+
+# rt ci proves from nothing, and leaves in out/ the libraries that the proofs stood on and the programs that it ran. Where none of the
+# libraries is one that another command of rt had made before, and which rt ci put back (such a one has a stamp), all fit one another.
+proved=${PROVED:-build/proved}
+record_proved() {
+    [ -z "$(find crates -mindepth 4 -maxdepth 4 -path 'crates/*/out/rlib/stamp')" ] || return 0
+    mkdir -p "$(dirname "$proved")" && made_of >"$proved.new" && mv "$proved.new" "$proved"
+}
+is_recorded() { [ -f "$proved" ] && made_of | cmp -s - "$proved"; }
+
+# Prints the crates of this repository that a crate stands on, itself last.
+crates_below() { # CRATE
+    awk -v top="$1" '
+        { sub(/#.*/, "") }
+        /:/ { split($0, part, ":"); split(part[1], word, " "); order[++n] = word[1]; uses[word[1]] = part[2] }
+        function visit(crate,    list, count, i) {
+            if (!(crate in uses) || seen[crate]++) return
+            count = split(uses[crate], list, /[ \t,]+/)
+            for (i = 1; i <= count; i++) visit(list[i])
+            print crate
+        }
+        END { visit(top) }' crates.txt
+}
+
+# rt run proves a program, compiles and runs it.
+have_program() { # NAME
+    is_recorded || (cd "crates/$1" && rt run </dev/null 2>&1 >/dev/null)
+}
+
+have_libraries() { # CRATE..
+    local crate
+    is_recorded || for crate; do (cd "crates/$crate" && rt lib) || return; done
+}
+
+# As rt calls rattle for the crate in this folder. WORDS end with the crate's root file.
+rattle_over() { # 'LIBRARIES' VERB WORDS..
+    local kit library words=()
+    kit=$(kit_home)
+    for library in std $1; do
+        if [ -d "$repository/crates/$library" ]; then
+            words+=(--extern "$library=$repository/crates/$library/out/rlib/$library.rlib")
+        else
+            words+=(--extern "$library=$kit/rlibs/$library.rlib")
+        fi
+    done
+    for library in "$repository"/crates/*/out/rlib; do words+=(-L "dependency=$library"); done
+    "$kit/bin/rattle" "$2" "${words[@]}" -L "dependency=$kit/rlibs" --antt-project "$kit/rattle/logic/antt-project.json" \
+        --logic-built "$kit/logic_built" --jobs 2 "${@:3}"
+}
+
+# Proving takes minutes, and a reader should know what is waited for. Says on stderr at once that something is to be proved, and the name
+# of each crate as it is proved; nothing where nothing has to be. All that rt said is shown where it failed. It waits its turn.
 # shellcheck disable=SC2094 # the file is there to be locked, and is read
 prove_first() { # CRATE COMMAND..
-    local name line new='' told=''
+    local name line new='' told='' proving=''
     flock 9
-    # shellcheck disable=SC2013 # words, not lines
-    for name in $(sed -n "s/^$1:\(.*\)/\1 $1/p" crates.txt); do
-        if [ -d "crates/$name" ] && [ ! -f "target/stamp/$name" ]; then new+=" $name"; fi
-    done
+    if ! is_recorded; then
+        for name in $(crates_below "$1"); do
+            if ! compgen -G "crates/$name/out/rlib/stamp" >/dev/null && ! compgen -G "crates/$name/out/*.stamp" >/dev/null &&
+                [ ! -f "crates/$name/out/lib$name.a" ]; then new+=" $name"; fi
+        done
+    fi
     tell() { # TEXT
         [ -n "$told" ] || printf '%s\n' "$1" >&2
         told=1
     }
-    [ -z "$new" ] || tell "to be proved first:$new. All together take some four minutes on two cores, once; a line for each:"
+    [ -z "$new" ] || tell "to be proved first:$new. All together that takes minutes, once; a line for each:"
     : >"$room/said"
     rm -f "$room/proved"
     while :; do
         if IFS= read -r -t "${PATIENCE:-3}" line; then
             printf '%s\n' "$line" >>"$room/said"
-            [[ $line =~ ^rt:\ [a-z_0-9]+\ proved\ \([0-9] ]] || continue
+            if [[ $line =~ ^rt:\ chose\ --jobs\ [0-9]+\ for\ ([a-z_0-9]+)$ ]]; then proving=${BASH_REMATCH[1]}; fi
+            [[ $line == 'logic=proved '* ]] && [ -n "$proving" ] || continue
         elif [ $? -le 128 ]; then
             break
+        else
+            line=''
         fi
         # a crate was proved, or nothing was said for some seconds (PATIENCE), so that one is being proved
         tell 'what is not proved as it stands is proved first; a line for each crate:'
-        [ -z "$line" ] || printf '%s\n' "$line" >&2
+        [ -z "$line" ] || printf '%s is proved\n' "$proving" >&2
+        [ -z "$line" ] || proving=''
     done < <("${@:2}" 2>&1 && touch "$room/proved")
     [ -f "$room/proved" ] || { cat "$room/said" >&2; return 1; }
 } 9<crates.txt
