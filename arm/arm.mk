@@ -56,9 +56,11 @@ arm_access_any := -munaligned-access
 arm_access = $(arm_access_$(if $(filter cortex-m0,$(notdir $(@D))),aligned,$(ARM_ACCESS)))
 arm_library_access = $(arm_access)
 
-# As the kit compiles it for x86-64, and with a list of the functions' frames.
-arm_library_flags := -O3 -ffunction-sections -fdata-sections -mllvm -trap-unreachable -mllvm -no-trap-after-noreturn \
-    -Werror -Wno-override-module -fstack-usage
+# As the kit compiles it for x86-64, and with a list of the functions' frames. The kit leaves out some passes that are known to be
+# wrong at times.
+arm_kit_flags := -O3 -ffunction-sections -fdata-sections $(addprefix -mllvm ,-trap-unreachable -no-trap-after-noreturn \
+    -disable-machine-licm -disable-postra-machine-licm -sink-common-insts=false)
+arm_library_flags := $(arm_kit_flags) -Werror -Wno-override-module -fstack-usage
 
 # board.bc is made with the archive.
 arm_module := $(lib_folder)/arm/board.ll

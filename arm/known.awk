@@ -3,7 +3,7 @@
 #
 # Pointers have another width there, so nothing may see their width. A place in memory is of one of these kinds:
 #   cell    a pointer alone (alloca ptr)
-#   pair    a slice: a pointer and, 8 bytes further on, its length; it is handed over by its address
+#   pair    a slice: a pointer and, 8 bytes further on, its length
 #   length  that second part of a pair
 #   plain   numbers: everything else
 # The first reading finds the pairs. The second asks of every line that pointers are read and written in cells and pairs and
@@ -12,7 +12,7 @@
 function refuse(why) { print "arm/known.awk: line " FNR ": " why ": " $0 >"/dev/stderr"; bad = 1 }
 
 BEGIN {
-    operations = "alloca load store getelementptr call ret br switch unreachable icmp zext trunc add sub mul udiv urem xor or and shl lshr"
+    operations = "alloca load store getelementptr call ret br switch unreachable icmp zext trunc add sub mul udiv urem xor or and shl lshr extractvalue"
     others = "i1 i8 i16 i32 i64 ptr void x label to align nuw inbounds eq ne ult ule ugt uge true false"
     words = split(operations " " others, word, " ")
     for (i = 1; i <= words; i++) known[word[i]] = 1
@@ -48,7 +48,7 @@ function join(one, other) { left[++joins] = one; right[joins] = other }
 NR == FNR && /^define / { read_call(); f = name }
 NR == FNR && / = alloca ptr,/ { kind[f, $1] = "cell" }
 NR == FNR && / (load ptr,|store ptr) / { make_pair(f SUBSEP place_used()) }
-NR == FNR && / call / {
+NR == FNR && / call / && !/ @llvm\.memset\./ {
     read_call()
     if (name ~ /^@llvm\.memmove/) join(f SUBSEP last_word(operand[1]), f SUBSEP last_word(operand[2]))
     else for (i = 1; i <= count; i++) if (operand[i] ~ /^ptr /) join(f SUBSEP last_word(operand[i]), name SUBSEP "%a" (i - 1))
@@ -66,7 +66,7 @@ FNR == 1 {
 # ---- the second reading, outside of functions
 
 # A processor that a function names would be taken before the one asked for.
-/^attributes / { gsub(/"probe-stack"="inline-asm"/, ""); if (/"/) refuse("a function asks for something"); next }
+/^attributes / { gsub(/"probe-stack"="inline-asm"|"stack-probe-size"="[0-9]+"/, ""); if (/"/) refuse("a function asks for something"); next }
 /^(source_filename = |!|;|$)/ { next }
 /^declare void @llvm\.(memmove\.p0\.p0|memset\.p0)\.i64\(/ { next }
 /^declare i32 @llvm\.cttz\.i32\(i32, i1 immarg\) / { next }
@@ -89,17 +89,21 @@ FNR == 1 {
 
 {
     text = $0
+    # several numbers at once, with the same places among one another, are an answer of one function of the module to another
+    gsub(/\{ i(8|16|32|64)(, i(8|16|32|64))+ \}/, " ", text)
+    # a C caller may have a null pointer to nothing at all: a function for C takes another in its place
+    if (f ~ /^@ulavrepit_/) sub(/ icmp eq ptr %a[0-9]+, null$/, " icmp eq ", text)
     gsub(/@"[^"]*"|[@%!#][A-Za-z0-9._]+|[][(),=]/, " ", text)
     gsub(/ -?[0-9]+/, " ", text)
     words = split(text, word, " ")
     for (i = 1; i <= words; i++) if (!(word[i] in known)) refuse("the word " word[i] " is not known")
 }
-/ (icmp [a-z]+|ret) ptr / { refuse("a pointer is compared, or handed back") }
+/ (icmp [a-z]+|ret) ptr / && !(f ~ /^@ulavrepit_/ && / icmp eq ptr %a[0-9]+, null$/) { refuse("a pointer is compared, or handed back") }
 / = alloca / && kind_of($1) == "pair" && !/ \[16 x i8\], align 8$/ { refuse("a pointer among other things than a length") }
 / (load ptr,|store ptr) / && kind_of(place_used()) !~ /^(cell|pair)$/ { refuse("a pointer in a place for numbers") }
 / store ptr / && kind_of(substr($3, 1, length($3) - 1)) != "plain" { refuse("a pointer to a pointer") }
 / = load ptr, / && kind_of($1) != "plain" { refuse("a pointer to a pointer") }
-/ (load|store) i[0-9]/ && kind_of(place_used()) !~ /^(plain|length)$/ { refuse("a number in a place for a pointer") }
+/ (load|store) (i[0-9]|\{)/ && kind_of(place_used()) !~ /^(plain|length)$/ { refuse("a number in a place for a pointer") }
 / = getelementptr / {
     if (kind_of(place_used()) == "pair" && / i64 8$/) kind[f, $1] = "length"
     else if (kind_of(place_used()) != "plain" || kind_of($1) != "plain") refuse("a part of a place with a pointer")
@@ -113,6 +117,8 @@ FNR == 1 {
     }
     if (name ~ /^@llvm\./ && !/@llvm\.(memmove\.p0\.p0|memset\.p0)\.i64\(ptr %[ar][0-9]+, (ptr %[ar][0-9]+|i8 0), i64 [0-9]+, i1 false\)$/)
         refuse("size not known")
+    # a slice that is not yet one: no pointer, and the length 0
+    if (name ~ /^@llvm\.memset/ && kind_of(last_word(operand[1])) == "pair" && operand[2] == "i8 0" && operand[3] == "i64 16") next
     if (name ~ /^@llvm\.memmove/ && kind_of(last_word(operand[1])) == "pair" && kind_of(last_word(operand[2])) == "pair" && operand[3] == "i64 16") next
     for (i = 1; i <= count; i++)
         if (operand[i] ~ /^ptr / && kind_of(last_word(operand[i])) != kind_taken(name, i)) refuse("operand " i " is not of the kind that is taken")
