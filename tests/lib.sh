@@ -270,7 +270,7 @@ prove_first() { # CRATE COMMAND..
         if IFS= read -r -t "${PATIENCE:-3}" line; then
             printf '%s\n' "$line" >>"$room/said"
             if [[ $line =~ ^rt:\ chose\ --jobs\ [0-9]+\ for\ ([a-z_0-9]+)$ ]]; then proving=${BASH_REMATCH[1]}; fi
-            [[ $line == 'logic=proved '* ]] && [ -n "$proving" ] || continue
+            if [[ $line != 'logic=proved '* ]] || [ -z "$proving" ]; then continue; fi
         elif [ $? -le 128 ]; then
             break
         else
