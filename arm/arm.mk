@@ -74,7 +74,7 @@ $(arm_module): $(lib_folder)/libulavrepit.a arm/as_text arm/gives_archive arm/kn
 # walk_entries and has_lent are for the walk, which has the registers to itself then: find takes 400 to 3,700 less on the densest table.
 # store is for its loop over eight words, which is unrolled once more by itself.
 arm_apart := runs::walk::leave_marks searching::holding_slot marking::backing::equal_slot loaded::limit::entry_pieces \
-    settling::areas::zero_record settling::areas::clear_of settling::came::settle \
+    settling::areas::zero_record settling::areas::clear_of settling::came::settle_named \
     decide::walk::walk_entries decide::entries::has_lent summing::pairs::words_of facesheet::is_sound_beside memory::store
 # Beside them on one processor, of the look for zeros and of the load: on a Cortex-M0 the load, which then counts from an address of
 # its own; on the others the look at a record, whose loop is unrolled then, with places that differ by constants.
