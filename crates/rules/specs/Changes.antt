@@ -9,7 +9,7 @@ use Rattle.words.specs.declared.call_word.CallRead.{CallRead}
 use Rattle.words.specs.declared.call_word.CallRead.TheVariants.{Fields, Refused}
 use Rattle.shapes.specs.declared.Board.{Board}
 use Rattle.tables.specs.State.{Opt, none, some, K}
-use Rattle.tables.specs.Search.{lowest, absent_child, given_in}
+use Rattle.tables.specs.Search.{given_in}
 use Rattle.tables.specs.View.{view}
 use Rattle.sound.specs.Clauses.{sound}
 use Rattle.rules.specs.Rules.{branch}

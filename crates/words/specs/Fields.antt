@@ -1,6 +1,5 @@
 -- Fields of a call word that fit their bits; a region that is not loaded.
 use Rattle.std.specs.Prelude.{false, ◌^◌, ◌<◌}
-use Rattle.words.specs.Words.{slot}
 use Rattle.words.specs.declared.call_word.CallFields.{CallFields}
 use Rattle.words.specs.declared.regions_word.Region.{Region}
 

@@ -1,4 +1,4 @@
--- src/lib.rt, call: CallAnswers board t word r t'
+-- src/lib.rt, call: CallAnswers board t.old word result t.new
 use Rattle.tables.specs.Laws.Top.{top_16}
 use Rattle.sound.proofs.Laws.Holders.{wrong_length}
 use Rattle.rules.specs.Laws.Calls.{answers_unsound}

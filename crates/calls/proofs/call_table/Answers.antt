@@ -1,4 +1,4 @@
--- src/lib.rt, call_table: CallAnswers board t word r t'
+-- src/lib.rt, call_table: CallAnswers board t.old word result t.new
 use mathlib.Core.Path.{sym, ◌∙◌}
 use borrow.Author.Tests.{not-true, not-false}
 use Rattle.rules.specs.Laws.Calls.{answers_unsound}

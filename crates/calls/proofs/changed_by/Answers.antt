@@ -1,4 +1,4 @@
--- src/lib.rt, changed_by: r ≡ changed_by f.service (view t).k f
+-- src/lib.rt, changed_by: result ≡ changed_by f.service (view t.now).k f
 use mathlib.Core.Path.{refl, ap, ap₂, sym, ◌∙◌}
 use Prim.Native.Nat.{ℕ, ◌^◌}
 use lib.Bits.{bit_or}

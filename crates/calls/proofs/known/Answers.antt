@@ -1,4 +1,4 @@
--- src/lib.rt, known: b ≡ known f
+-- src/lib.rt, known: result ≡ known f
 use mathlib.Core.Path.{refl, ◌∙◌}
 use Rattle.rules.specs.Rules.{uses}
 use Rattle.rules.specs.Laws.Each.{known_at}

@@ -1,4 +1,4 @@
--- src/lib.rt, no_rights: b ≡ no_rights r
+-- src/lib.rt, no_rights: result ≡ no_rights r
 use mathlib.Core.Path.{refl}
 use Rattle.rules.specs.Rules.{no_rights}
 use Rattle.calls.proofs.no_rights.Goals as goal

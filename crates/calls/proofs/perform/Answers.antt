@@ -1,4 +1,4 @@
--- src/lib.rt, perform: Ran (perform board (view t) f) t r t'
+-- src/lib.rt, perform: Ran (perform board (view t.old) f) t.old result t.new
 use mathlib.Core.Path.{◌∙◌}
 use mathlib.Core.Bool.{false≢true}
 use Rattle.rules.specs.Laws.Ran.{ran_as}

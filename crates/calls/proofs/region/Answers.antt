@@ -1,4 +1,4 @@
--- src/lib.rt, region: Ran (numbered board 9 (view t) f) t r t'
+-- src/lib.rt, region: Ran (numbered board 9 (view t.old) f) t.old result t.new
 use Rattle.rules.specs.Laws.Ran.{ran_as}
 use Rattle.rules.specs.Laws.Each.{region_loads, region_unloads}
 use Rattle.calls.proofs.region.Goals as goal

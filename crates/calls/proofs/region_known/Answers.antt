@@ -1,4 +1,4 @@
--- src/lib.rt, region_known: b ≡ region_call f && unused (record { p = true; s = true; u = true; r = true; l = false; w = false }) f
+-- src/lib.rt, region_known: result ≡ region_call f && unused (record { p = true; s = true; u = true; r = true; l = false; w = false }) f
 use mathlib.Core.Path.{refl}
 use borrow.Author.Tests.{not-true, not-false}
 use Rattle.rules.specs.Rules.{unused, region_call}

@@ -1,4 +1,4 @@
--- src/lib.rt, serve: Ran (serve board (view t) f) t r t'
+-- src/lib.rt, serve: Ran (serve board (view t.old) f) t.old result t.new
 use mathlib.Core.Path.{sym, ◌∙◌}
 use borrow.Author.Tests.{not-true, not-false}
 use Rattle.rules.specs.Laws.Ran.{ran_refused, ran_as}

@@ -1,4 +1,4 @@
--- src/lib.rt, serve_word: CallAnswers board t word r t'
+-- src/lib.rt, serve_word: CallAnswers board t.old word result t.new
 use mathlib.Core.Path.{sym, ◌∙◌}
 use Rattle.sound.proofs.Laws.List.{sound_means}
 use Rattle.sound.proofs.Laws.Whole.{sound_right}

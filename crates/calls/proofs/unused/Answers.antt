@@ -1,4 +1,4 @@
--- src/lib.rt, unused: b ≡ unused (record { p = p; s = s; u = u; r = r; l = l; w = w }) f
+-- src/lib.rt, unused: result ≡ unused (record { p = p; s = s; u = u; r = r; l = l; w = w }) f
 use mathlib.Core.Path.{refl}
 use borrow.Author.Tests.{not-true, not-false}
 use Rattle.rules.specs.Rules.{unused}

@@ -1,4 +1,4 @@
--- src/lib.rt, check_eight: SlotsChecked t p.0 (8 * j) (slots_test t (view t).k p.0 j) r
+-- src/lib.rt, check_eight: SlotsChecked t.now p.0 (8 * j) (slots_test t.now (view t.now).k p.0 j) result
 use mathlib.Core.Path.{sym, ◌∙◌}
 use borrow.Author.Tests.{not-false}
 use Rattle.tables.specs.View.{view}

@@ -1,4 +1,4 @@
--- src/lib.rt, check_slot: SlotsChecked t p.0 (i - 1) (s5_slot t (view t).k p.0 (i - 1)) r
+-- src/lib.rt, check_slot: SlotsChecked t.now p.0 (i - 1) (s5_slot t.now (view t.now).k p.0 (i - 1)) result
 use mathlib.Core.Path.{sym, ◌∙◌, ap}
 use borrow.Author.Tests.{not-false}
 use Rattle.comparing.specs.Laws.Once.{slot_ranged, checked_refused, checked_passed}

@@ -1,3 +1,4 @@
+-- src/lib.rt, check_slots: SlotsChecked t.now p.0 0 (s5 t.now (view t.now).k p.0) result
 use mathlib.Core.Path.{sym, ◌∙◌}
 use Prim.Native.Nat.{◌*◌}
 use borrow.Author.Tests.{not-false}

@@ -1,4 +1,4 @@
--- src/lib.rt, compare_each: ComparedTo sheet t 16 (all 16 (shape_at t)) r same'
+-- src/lib.rt, compare_each: ComparedTo sheet.now t.now 16 (all 16 (shape_at t.now)) result same.new
 use mathlib.Core.Path.{ap, sym, ◌∙◌}
 use mathlib.Core.Bool.{not}
 use Prim.Native.Nat.{◌-◌}

@@ -1,4 +1,4 @@
--- src/lib.rt, compare_partition: ComparedTo sheet t (p.0 + 1) (shape_at t p.0) r same'
+-- src/lib.rt, compare_partition: ComparedTo sheet.now t.now (p.0 + 1) (shape_at t.now p.0) result same.new
 use mathlib.Core.Path.{sym, ◌∙◌, ap}
 use borrow.Author.Tests.{not-true, not-false}
 use Rattle.tables.specs.Laws.Top.{top_absent}

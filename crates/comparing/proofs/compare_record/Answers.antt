@@ -1,4 +1,4 @@
--- src/lib.rt, compare_record: ComparedTo sheet t (p.0 + 1) (s3 t p.0 && s4 t (view t).k p.0 && s5 t (view t).k p.0) r same'
+-- src/lib.rt, compare_record: ComparedTo sheet.now t.now (p.0 + 1) (s3 t.now p.0 && s4 t.now (view t.now).k p.0 && s5 t.now (view t.now).k p.0) result same.new
 use mathlib.Core.Path.{refl, sym, ◌∙◌}
 use borrow.Author.Tests.{not-true, not-false}
 use Rattle.sound.specs.Clauses.{s5}

@@ -1,4 +1,4 @@
--- src/lib.rt, is_formed: ComparedTo sheet t 16 (formed t) r same'
+-- src/lib.rt, is_formed: ComparedTo sheet.now t.now 16 (formed t.now) result same.new
 use mathlib.Core.Path.{refl, ap}
 use Rattle.sound.specs.Laws.Tests.{and_says, never}
 use Rattle.shape.specs.AtOnce.{formed}

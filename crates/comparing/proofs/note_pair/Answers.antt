@@ -1,4 +1,4 @@
--- src/lib.rt, note_pair: now same.exit ≡ (pair_is sheet p.0 masks lines && now same.entry)
+-- src/lib.rt, note_pair: same.new ≡ (pair_is sheet.now p.0 masks lines && same.old)
 use mathlib.Core.Path.{refl, sym, ◌∙◌}
 use Rattle.comparing.proofs.note_pair.Goals as goal
 

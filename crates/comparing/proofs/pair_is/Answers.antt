@@ -1,4 +1,4 @@
--- src/lib.rt, pair_is: r ≡ pair_is sheet p.0 masks lines
+-- src/lib.rt, pair_is: result ≡ pair_is sheet.now p.0 masks lines
 use Rattle.sheetrules.specs.Laws.Bytes.{pair_differs, pair_second}
 use native.Mathlib.Omega.{arith}
 use borrow.Author.Rules.{rules}

@@ -1,4 +1,4 @@
--- src/lib.rt, covers: r ≡ covers_for ranked (view t) p.0
+-- src/lib.rt, covers: result ≡ covers_for ranked (view t.now) p.0
 use Rattle.decide.specs.Laws.Tiles.{in_order, child_of}
 use borrow.Author.Rules.{rules}
 use Rattle.covering.proofs.covers.Goals as goal

@@ -1,4 +1,4 @@
--- src/lib.rt, tile_for: TiledFor ranked t order p.0 n i q.0 j.0 x
+-- src/lib.rt, tile_for: TiledFor ranked t.now order.now p.0 n i q.0 j.0 result
 use Rattle.tables.specs.Laws.View.{slot_bounds}
 use Rattle.covering.specs.Laws.Cover.{ranks_tiled, lines_tiled}
 use Rattle.covering.proofs.tile_for.Goals as goal

@@ -1,4 +1,4 @@
--- src/lib.rt, tiles_grants: r ≡ covers_for ranked (view t) p.0
+-- src/lib.rt, tiles_grants: result ≡ covers_for ranked (view t.now) p.0
 use Prim.Native.Nat.{◌-◌}
 use native.Mathlib.Omega.{arith}
 use Rattle.covering.specs.Laws.Cover.{WalkedFor, cover_start, grant_filled, cover_end, cover_skip, cover_on, cover_stuck}

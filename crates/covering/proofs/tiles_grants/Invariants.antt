@@ -1,3 +1,4 @@
+-- src/lib.rt, tiles_grants: result ≡ covers_for ranked (view t.now) p.0
 use mathlib.Core.Logic.{⊎_elim}
 use Prim.Native.Nat.{◌-◌}
 use native.Mathlib.Omega.{arith}

@@ -1,4 +1,4 @@
--- src/lib.rt, tiles_memory: r ≡ covers_for ranked (view t) p.0
+-- src/lib.rt, tiles_memory: result ≡ covers_for ranked (view t.now) p.0
 use Rattle.covering.specs.Cover.{covers_for}
 use borrow.Author.Rules.{rules}
 use Rattle.covering.proofs.tiles_memory.Goals as goal

@@ -1,4 +1,4 @@
--- src/lib.rt, is_formed: r ≡ formed t
+-- src/lib.rt, is_formed: result ≡ formed t.now
 use mathlib.Core.Path.{sym, ◌∙◌, ap}
 use Rattle.sound.specs.Laws.Tests.{and_says, never}
 use Rattle.shape.specs.AtOnce.{formed}

@@ -1,4 +1,4 @@
--- src/lib.rt, is_ordered: Decided board t r order' counts'
+-- src/lib.rt, is_ordered: Decided board t.now result order.new counts.new
 use mathlib.Core.Bool.{false≢true}
 use Rattle.decide.proofs.is_ordered.Goals as goal
 

@@ -1,4 +1,4 @@
--- src/lib.rt, is_sound: r ≡ sound board t
+-- src/lib.rt, is_sound: result ≡ sound board t.now
 use mathlib.Core.Path.{refl}
 use Rattle.decide.proofs.is_sound.Goals as goal
 

@@ -1,4 +1,4 @@
--- src/lib.rt, order_told: Decided board t r order' counts'
+-- src/lib.rt, order_told: Decided board t.now result order.new counts.new
 use borrow.Author.Tests.{not-false}
 use Rattle.decide.specs.Laws.Decide.{failed, passed, parts_formed, formed_first, formed_shaped, not_sound}
 use Rattle.decide.specs.Laws.Decided.{not_marked, decided}

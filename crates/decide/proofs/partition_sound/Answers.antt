@@ -1,4 +1,4 @@
--- src/lib.rt, partition_sound: r ≡ left_where board (view t) p.0
+-- src/lib.rt, partition_sound: result ≡ left_where board (view t.now) p.0
 use mathlib.Core.Path.{sym, ◌∙◌, ap}
 use borrow.Author.Tests.{not-true}
 use Rattle.decide.specs.Laws.Decide.{passed}

@@ -1,4 +1,4 @@
--- src/lib.rt, partitions_sound: r ≡ all 16 (local_where board (view t) mark)
+-- src/lib.rt, partitions_sound: result ≡ all 16 (local_where board (view t.now) mark.now)
 use mathlib.Core.Path.{refl, ap}
 use native.Mathlib.Omega.{arith}
 use borrow.Author.Tests.{not-false}

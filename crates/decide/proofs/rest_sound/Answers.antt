@@ -1,4 +1,4 @@
--- src/lib.rt, rest_sound: r ≡ all 16 (left_where board (view t))
+-- src/lib.rt, rest_sound: result ≡ all 16 (left_where board (view t.now))
 use Prim.Native.Nat.{◌-◌}
 use mathlib.Core.Path.{sym, ap, ◌∙◌}
 use mathlib.Core.Bool.{not}

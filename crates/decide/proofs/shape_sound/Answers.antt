@@ -1,4 +1,4 @@
--- src/lib.rt, shape_sound: r ≡ shape_at t p.0
+-- src/lib.rt, shape_sound: result ≡ shape_at t.now p.0
 use mathlib.Core.Path.{sym, ◌∙◌, ap}
 use borrow.Author.Tests.{not-true}
 use Rattle.sound.specs.Laws.Tests.{and_says, never}

@@ -1,3 +1,4 @@
+-- src/lib.rt, shapes_sound: result ≡ all 16 (shape_at t.now)
 use Prim.Native.Nat.{◌-◌}
 use mathlib.Core.Path.{sym, ap, ◌∙◌}
 use mathlib.Core.Bool.{not}

@@ -1,4 +1,4 @@
--- src/lib.rt, block_right: r ≡ block_right base end from to
+-- src/lib.rt, block_right: result ≡ block_right base end from to
 use mathlib.Core.Path.{refl}
 use borrow.Author.Tests.{lt-ltb, le-ltb, lt-leb, le-leb}
 use Rattle.engine.specs.Engine.{block_right}

@@ -1,4 +1,4 @@
--- src/lib.rt, child_right: r ≡ child_right child
+-- src/lib.rt, child_right: result ≡ child_right child
 use mathlib.Core.Path.{refl}
 use borrow.Author.Tests.{lt-leb, le-leb}
 use Rattle.engine.specs.Engine.{child_right}

@@ -1,10 +1,7 @@
--- src/lib.rt, clear: now masks.exit ≡ between a b (mask_struck w) masks
+-- src/lib.rt, clear: masks.new ≡ between a b (mask_struck w) masks.old
 use mathlib.Core.Path.{refl}
-use Prim.Native.Nat.{◌-◌}
 use native.Mathlib.Omega.{arith}
-use Rattle.engine.specs.Engine.{mask_struck}
-use Rattle.engine.specs.Laws.Marking.{MaskMarking, mark_start, mark_put, mark_end}
-use borrow.Author.Rules.{rules}
+use Rattle.engine.specs.Laws.Marking.{mark_start, mark_put, mark_end}
 use Rattle.engine.proofs.clear.Goals as goal
 
 pub loop-i-init : goal.loop-i-init

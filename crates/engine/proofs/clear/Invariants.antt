@@ -1,9 +1,7 @@
-use mathlib.Core.Path.{refl}
+-- src/lib.rt, clear: masks.new ≡ between a b (mask_struck w) masks.old
 use Prim.Native.Nat.{◌-◌}
-use native.Mathlib.Omega.{arith}
 use Rattle.engine.specs.Engine.{mask_struck}
-use Rattle.engine.specs.Laws.Marking.{MaskMarking, mark_start, mark_put, mark_end}
-use borrow.Author.Rules.{rules}
+use Rattle.engine.specs.Laws.Marking.{MaskMarking}
 use Rattle.engine.proofs.clear.Given as goal
 
 abbrev pub invariant-loop-i : goal.invariant-loop-i

@@ -1,10 +1,7 @@
--- src/lib.rt, enter: now masks.exit ≡ between a b (joined w) masks
+-- src/lib.rt, enter: masks.new ≡ between a b (joined w) masks.old
 use mathlib.Core.Path.{refl}
-use Prim.Native.Nat.{◌-◌}
 use native.Mathlib.Omega.{arith}
-use Rattle.engine.specs.Engine.{joined}
-use Rattle.engine.specs.Laws.Marking.{MaskMarking, mark_start, mark_put, mark_end}
-use borrow.Author.Rules.{rules}
+use Rattle.engine.specs.Laws.Marking.{mark_start, mark_put, mark_end}
 use Rattle.engine.proofs.enter.Goals as goal
 
 pub loop-i-init : goal.loop-i-init

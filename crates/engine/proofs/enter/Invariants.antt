@@ -1,9 +1,7 @@
-use mathlib.Core.Path.{refl}
+-- src/lib.rt, enter: masks.new ≡ between a b (joined w) masks.old
 use Prim.Native.Nat.{◌-◌}
-use native.Mathlib.Omega.{arith}
 use Rattle.engine.specs.Engine.{joined}
-use Rattle.engine.specs.Laws.Marking.{MaskMarking, mark_start, mark_put, mark_end}
-use borrow.Author.Rules.{rules}
+use Rattle.engine.specs.Laws.Marking.{MaskMarking}
 use Rattle.engine.proofs.enter.Given as goal
 
 abbrev pub invariant-loop-i : goal.invariant-loop-i

@@ -1,9 +1,7 @@
--- src/lib.rt, give: GiveLent base end child from to masks r masks'
+-- src/lib.rt, give: GiveLent base end child from to masks.old result masks.new
 use mathlib.Core.Path.{sym, ◌∙◌}
 use native.Mathlib.Omega.{arith}
-use borrow.Author.Tests.{not-true, not-false}
 use Rattle.engine.specs.Laws.Exits.{lines_say, engine_refused, give_masks_done}
-use borrow.Author.Rules.{rules}
 use Rattle.engine.proofs.give.Goals as goal
 
 pub returns-then-not-lines_right : goal.returns-then-not-lines_right

@@ -1,9 +1,7 @@
--- src/lib.rt, lines_right: r ≡ lines_right n base end child from to
+-- src/lib.rt, lines_right: result ≡ lines_right n base end child from to
 use mathlib.Core.Path.{sym, ◌∙◌}
-use borrow.Author.Tests.{not-true, not-false}
 use Rattle.engine.specs.Engine.{lines_right}
 use Rattle.engine.specs.Laws.Exits.{and_no, and_on}
-use borrow.Author.Rules.{rules}
 use Rattle.engine.proofs.lines_right.Goals as goal
 
 pub returns-then-not-memory_right : goal.returns-then-not-memory_right

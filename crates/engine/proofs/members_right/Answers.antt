@@ -1,4 +1,4 @@
--- src/lib.rt, members_right: r ≡ members_right members
+-- src/lib.rt, members_right: result ≡ members_right members
 use Prim.Native.Nat.{◌%◌}
 use mathlib.Core.Path.{refl}
 use borrow.Author.Tests.{eq-eqb, ne_eqb}

@@ -1,9 +1,8 @@
--- src/lib.rt, memory_right: r ≡ memory_right n base end
+-- src/lib.rt, memory_right: result ≡ memory_right n base end
 use mathlib.Core.Path.{refl}
 use borrow.Author.Tests.{lt-ltb, le-ltb, lt-leb, le-leb}
 use Rattle.engine.specs.Engine.{memory_right}
 use Rattle.engine.specs.Laws.Exits.{and_no, and_on}
-use borrow.Author.Rules.{rules}
 use Rattle.engine.proofs.memory_right.Goals as goal
 
 pub returns-then-base-end : goal.returns-then-base-end

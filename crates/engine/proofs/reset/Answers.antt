@@ -1,9 +1,7 @@
--- src/lib.rt, reset: now masks.exit ≡ between a b (λ m. 1) masks
+-- src/lib.rt, reset: masks.new ≡ between a b (λ m. 1) masks.old
 use mathlib.Core.Path.{refl}
-use Prim.Native.Nat.{◌-◌}
 use native.Mathlib.Omega.{arith}
-use Rattle.engine.specs.Laws.Marking.{MaskMarking, mark_start, mark_put, mark_end}
-use borrow.Author.Rules.{rules}
+use Rattle.engine.specs.Laws.Marking.{mark_start, mark_put, mark_end}
 use Rattle.engine.proofs.reset.Goals as goal
 
 pub loop-i-init : goal.loop-i-init

@@ -1,8 +1,6 @@
-use mathlib.Core.Path.{refl}
+-- src/lib.rt, reset: masks.new ≡ between a b (λ m. 1) masks.old
 use Prim.Native.Nat.{◌-◌}
-use native.Mathlib.Omega.{arith}
-use Rattle.engine.specs.Laws.Marking.{MaskMarking, mark_start, mark_put, mark_end}
-use borrow.Author.Rules.{rules}
+use Rattle.engine.specs.Laws.Marking.{MaskMarking}
 use Rattle.engine.proofs.reset.Given as goal
 
 abbrev pub invariant-loop-i : goal.invariant-loop-i

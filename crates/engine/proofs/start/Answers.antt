@@ -1,9 +1,7 @@
--- src/lib.rt, start: StartLent base end masks r masks'
+-- src/lib.rt, start: StartLent base end masks.old result masks.new
 use mathlib.Core.Path.{sym, ◌∙◌}
 use native.Mathlib.Omega.{arith}
-use borrow.Author.Tests.{not-true, not-false}
 use Rattle.engine.specs.Laws.Exits.{memory_says, engine_refused, engine_done}
-use borrow.Author.Rules.{rules}
 use Rattle.engine.proofs.start.Goals as goal
 
 pub returns-then-not-memory_right : goal.returns-then-not-memory_right

@@ -1,10 +1,8 @@
--- src/lib.rt, strike: StrikeLent base end members masks r masks'
+-- src/lib.rt, strike: StrikeLent base end members masks.old result masks.new
 use mathlib.Core.Path.{sym, ◌∙◌}
 use native.Mathlib.Omega.{arith}
-use borrow.Author.Tests.{not-true, not-false}
 use Rattle.engine.specs.Laws.Masks.{names_low}
 use Rattle.engine.specs.Laws.Exits.{strike_says, engine_refused, engine_done}
-use borrow.Author.Rules.{rules}
 use Rattle.engine.proofs.strike.Goals as goal
 
 pub returns-then-not-strike_right : goal.returns-then-not-strike_right

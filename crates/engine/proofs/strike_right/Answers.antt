@@ -1,9 +1,7 @@
--- src/lib.rt, strike_right: r ≡ strike_right n base end members
+-- src/lib.rt, strike_right: result ≡ strike_right n base end members
 use mathlib.Core.Path.{sym, ◌∙◌}
-use borrow.Author.Tests.{not-true, not-false}
 use Rattle.engine.specs.Engine.{strike_right}
 use Rattle.engine.specs.Laws.Exits.{and_no, and_on}
-use borrow.Author.Rules.{rules}
 use Rattle.engine.proofs.strike_right.Goals as goal
 
 pub returns-then-not-memory_right : goal.returns-then-not-memory_right

@@ -1,4 +1,4 @@
--- src/lib.rt, boot_bytes: Lent 0 (boot_on (handed table) base end) table r table'
+-- src/lib.rt, boot_bytes: Lent 0 (boot_on (handed table.old) base end) table.old result table.new
 use mathlib.Core.Path.{sym, ◌∙◌}
 use lib.ListN.{length-replicate}
 use Prim.Native.Nat.{ℕ}

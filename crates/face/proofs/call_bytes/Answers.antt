@@ -1,4 +1,4 @@
--- src/lib.rt, call_bytes: CallLent board table word second r table' second'
+-- src/lib.rt, call_bytes: CallLent board table.old word second.old result table.new second.new
 use mathlib.Core.Path.{◌≡◌, refl, ap, sym, ◌∙◌}
 use lib.ListN.{length}
 use borrow.Author.Tests.{not-false}

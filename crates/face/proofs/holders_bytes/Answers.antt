@@ -1,4 +1,4 @@
--- src/lib.rt, holders_bytes: ListLent board table line list second r list' second'
+-- src/lib.rt, holders_bytes: ListLent board table.now line list.old second.old result list.new second.new
 use mathlib.Core.Path.{refl, sym, ◌∙◌}
 use Rattle.tables.specs.Laws.Top.{top_at}
 use Rattle.face.specs.Laws.Face.{holders_first, holders_number, list_none, list_lent, list_kept}

@@ -1,4 +1,4 @@
--- src/lib.rt, boot_sheet_bytes: BootSheetLent table sheet base end r table' sheet'
+-- src/lib.rt, boot_sheet_bytes: BootSheetLent table.old sheet.old base end result table.new sheet.new
 use mathlib.Core.Path.{sym, ◌∙◌}
 use lib.ListN.{length-replicate}
 use Prim.Native.Nat.{ℕ}

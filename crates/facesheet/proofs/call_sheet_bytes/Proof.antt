@@ -1,4 +1,4 @@
--- src/lib.rt, call_sheet_bytes: CallSheetLent board table sheet word second r table' sheet' second'
+-- src/lib.rt, call_sheet_bytes: CallSheetLent board table.old sheet.old word second.old result table.new sheet.new second.new
 use mathlib.Core.Path.{refl, sym, ◌∙◌}
 use borrow.Author.Tests.{not-true, not-false}
 use Rattle.tables.specs.Laws.Top.{top_at}

@@ -1,4 +1,4 @@
--- src/lib.rt, is_sound_beside: SoundBeside board t sheet r same'
+-- src/lib.rt, is_sound_beside: SoundBeside board t.now sheet.now result same.new
 use mathlib.Core.Path.{sym, ◌∙◌}
 use mathlib.Core.Bool.{false≢true}
 use borrow.Author.Tests.{not-false}

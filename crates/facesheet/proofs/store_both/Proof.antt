@@ -1,4 +1,4 @@
--- src/lib.rt, store_both: (now table.exit ≡ cond stands table (bytesOf t)) × (now sheet.exit ≡ cond stands sheet (sheet_kept x (view t) sheet))
+-- src/lib.rt, store_both: (table.new ≡ cond stands table.old (bytes_of t.now)) × (sheet.new ≡ cond stands sheet.old (sheet_kept x (view t.now) sheet.old))
 use mathlib.Core.Path.{refl}
 use borrow.Author.Rules.{rules}
 use Rattle.facesheet.proofs.store_both.Statement.{statement}

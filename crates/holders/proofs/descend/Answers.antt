@@ -1,4 +1,4 @@
--- src/lib.rt, descend: (r.deepest.0 ≡ deepest (view t).k l.0 0 15) × (r.deepest.0 < 16) × (r.count ≡ looks_of (view t).k l.0)
+-- src/lib.rt, descend: (result.deepest.0 ≡ deepest (view t.now).k l.0 0 15) × (result.deepest.0 < 16) × (result.count ≡ looks_of (view t.now).k l.0)
 -- `holders::descend` meets its contract: at each turn the descent from p comes to the same partition and the same sum as from the root.
 use mathlib.Core.Path.{refl, sym, ◌∙◌}
 use native.Mathlib.Omega.{arith}

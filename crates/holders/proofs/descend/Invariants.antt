@@ -1,3 +1,4 @@
+-- src/lib.rt, descend: (result.deepest.0 ≡ deepest (view t.now).k l.0 0 15) × (result.deepest.0 < 16) × (result.count ≡ looks_of (view t.now).k l.0)
 use mathlib.Core.Path.{refl, sym, ◌∙◌}
 use native.Mathlib.Omega.{arith}
 use borrow.Author.Rules.{rules}

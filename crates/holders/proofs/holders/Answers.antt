@@ -1,4 +1,4 @@
--- src/lib.rt, holders: HoldersListed board t line list r list'
+-- src/lib.rt, holders: HoldersListed board t.now line list.old result list.new
 use Rattle.tables.specs.Laws.Top.{top_16}
 use Rattle.sound.proofs.Laws.Holders.{wrong_length, listed_unsound, listed_copy}
 use borrow.Author.Rules.{rules}

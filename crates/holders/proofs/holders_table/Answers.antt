@@ -1,4 +1,4 @@
--- src/lib.rt, holders_table: HoldersListed board t line list r list'
+-- src/lib.rt, holders_table: HoldersListed board t.now line list.old result list.new
 use mathlib.Core.Path.{sym, ◌∙◌, ap}
 use borrow.Author.Tests.{not-true}
 use Rattle.decide.specs.Laws.Decide.{passed}

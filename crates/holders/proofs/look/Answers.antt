@@ -1,4 +1,4 @@
--- src/lib.rt, look: (r.heir.0 ≡ heir (view t).k l.0 p.0) × (r.heir.0 < 16) × (r.count ≡ (look_for (view t).k l.0 p.0).count)
+-- src/lib.rt, look: (result.heir.0 ≡ heir (view t.now).k l.0 p.0) × (result.heir.0 < 16) × (result.count ≡ (look_for (view t.now).k l.0 p.0).count)
 use Rattle.tables.specs.Laws.Search.{lowest_some}
 use Rattle.tables.specs.Laws.Answers.{looked_slot, looked_count}
 use Rattle.sound.proofs.Laws.Holders.{heir_none, heir_given, heir_empty}

@@ -1,7 +1,7 @@
 -- Packing keeps the order: the list of the entries in slot order is the same.
 use Rattle.std.specs.Prelude.{◌≡◌, refl, Bool, List, ◌++◌}
 use Rattle.std.proofs.Common.{ap, ap₂, sym, ◌∙◌, append-nil, arith}
-use Prim.Native.Nat.{ℕ, zero, suc, ◌+◌, ◌≤◌, ◌<◌}
+use Prim.Native.Nat.{ℕ, zero, suc, ◌≤◌, ◌<◌}
 use Rattle.std.proofs.Math.Decide.{ℕ_discrete}
 use Rattle.loops.specs.Loops.{carried}
 use Rattle.tables.specs.State.{Opt, none, Entry}

@@ -1,11 +1,7 @@
--- src/lib.rt, keep: now words.exit ≡ kept numbers n words
-use Prim.Native.Nat.{◌+◌, ◌-◌, ◌≤◌}
-use lib.ListN.{get_or}
-use Rattle.loops.specs.Loops.{Filling}
+-- src/lib.rt, keep: words.new ≡ kept numbers.now n words.old
 use Rattle.loops.specs.Laws.Rewrite.{fill_start, fill_put}
 use Rattle.keeping.specs.Laws.Keeping.{keep_end}
 use native.Mathlib.Omega.{arith}
-use borrow.Author.Rules.{rules}
 use Rattle.keeping.proofs.keep.Goals as goal
 
 pub loop-i-init : goal.loop-i-init

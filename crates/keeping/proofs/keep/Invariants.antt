@@ -1,10 +1,7 @@
+-- src/lib.rt, keep: words.new ≡ kept numbers.now n words.old
 use Prim.Native.Nat.{◌+◌, ◌-◌, ◌≤◌}
 use lib.ListN.{get_or}
 use Rattle.loops.specs.Loops.{Filling}
-use Rattle.loops.specs.Laws.Rewrite.{fill_start, fill_put}
-use Rattle.keeping.specs.Laws.Keeping.{keep_end}
-use native.Mathlib.Omega.{arith}
-use borrow.Author.Rules.{rules}
 use Rattle.keeping.proofs.keep.Given as goal
 
 abbrev pub invariant-loop-i : goal.invariant-loop-i

@@ -1,5 +1,4 @@
--- src/lib.rt, number: r ≡ getD words i 0
-use borrow.Author.Rules.{rules}
+-- src/lib.rt, number: result ≡ get_or words.now i 0
 use Rattle.keeping.proofs.number.Goals as goal
 
 pub overflow_cast-result : goal.overflow_cast-result

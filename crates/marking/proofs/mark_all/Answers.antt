@@ -1,4 +1,4 @@
--- src/lib.rt, mark_all: MarkSays (view t).k 80 r mark'
+-- src/lib.rt, mark_all: MarkSays (view t.now).k 80 result mark.new
 use Prim.Native.Nat.{◌*◌, ◌-◌, ◌≤◌}
 use borrow.Author.Tests.{not-false}
 use Rattle.tables.specs.View.{view}

@@ -1,4 +1,4 @@
--- src/lib.rt, mark_areas: MarkSays (view t).k (5 * (p.0 + 1)) r mark'
+-- src/lib.rt, mark_areas: MarkSays (view t.now).k (5 * (p.0 + 1)) result mark.new
 use mathlib.Core.Path.{sym, ◌∙◌, ap}
 use Prim.Native.Nat.{◌+◌, ◌*◌, ◌-◌, ◌≤◌}
 use borrow.Author.Tests.{not-true, not-false}

@@ -1,4 +1,4 @@
--- src/lib.rt, mark_either: MarksEither (view t).k (one .0) other.0 (area_between lo.0 hi.0) mark r mark'
+-- src/lib.rt, mark_either: MarksEither (view t.now).k one.0 other.0 (area_between lo.0 hi.0) mark.old result mark.new
 use mathlib.Core.Path.{refl}
 use native.Mathlib.Omega.{arith}
 use borrow.Author.Rules.{rules}

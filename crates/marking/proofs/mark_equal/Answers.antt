@@ -1,4 +1,4 @@
--- src/lib.rt, mark_equal: Marks (view t).k q.0 (area_between lo.0 hi.0) mark r mark'
+-- src/lib.rt, mark_equal: Marks (view t.now).k q.0 (area_between lo.0 hi.0) mark.old result mark.new
 use mathlib.Core.Path.{refl}
 use native.Mathlib.Omega.{arith}
 use Rattle.marking.specs.Laws.Marking.{search_none, search_some, mark_tells}

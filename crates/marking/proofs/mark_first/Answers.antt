@@ -1,4 +1,4 @@
--- src/lib.rt, mark_first: MarkSays (view t).k (5 * p.0 + 2) r mark'
+-- src/lib.rt, mark_first: MarkSays (view t.now).k (5 * p.0 + 2) result mark.new
 use mathlib.Core.Path.{sym, ◌∙◌}
 use mathlib.Core.Bool.{false≢true}
 use native.Mathlib.Omega.{arith}

@@ -1,4 +1,4 @@
--- src/lib.rt, mark_later: MarkSays (view t).k (5 * p.0 + (j + 1)) r mark'
+-- src/lib.rt, mark_later: MarkSays (view t.now).k (5 * p.0 + (j + 1)) result mark.new
 use native.Mathlib.Omega.{arith}
 use borrow.Author.Rules.{rules}
 use borrow.Author.Tests.{not-true, not-false}

@@ -1,10 +1,7 @@
--- src/lib.rt, clear: Wrote (λ n. 0) b i end b'
+-- src/lib.rt, clear: Wrote (λ n. 0) b.old i end b.new
 use mathlib.Core.Path.{refl, sym, ◌∙◌}
-use Prim.Native.Nat.{◌-◌, ◌≤◌}
-use Rattle.memory.specs.ByteRecords.{Wrote}
 use Rattle.memory.specs.Laws.ByteRecords.{wrote_none, wrote_byte, wrote_at}
 use native.Mathlib.Omega.{arith}
-use borrow.Author.Rules.{rules}
 use Rattle.memory.proofs.clear.Goals as goal
 
 pub loop-n-init : goal.loop-n-init

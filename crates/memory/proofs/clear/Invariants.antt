@@ -1,9 +1,6 @@
-use mathlib.Core.Path.{refl, sym, ◌∙◌}
+-- src/lib.rt, clear: Wrote (λ n. 0) b.old i end b.new
 use Prim.Native.Nat.{◌-◌, ◌≤◌}
 use Rattle.memory.specs.ByteRecords.{Wrote}
-use Rattle.memory.specs.Laws.ByteRecords.{wrote_none, wrote_byte, wrote_at}
-use native.Mathlib.Omega.{arith}
-use borrow.Author.Rules.{rules}
 use Rattle.memory.proofs.clear.Given as goal
 
 abbrev pub invariant-loop-n : goal.invariant-loop-n

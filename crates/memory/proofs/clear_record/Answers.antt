@@ -1,8 +1,7 @@
--- src/lib.rt, clear_record: Wrote (λ n. 0) b (8 + 320 * p.0) (328 + 320 * p.0) b'
+-- src/lib.rt, clear_record: Wrote (λ n. 0) b.old (8 + 320 * p.0) (328 + 320 * p.0) b.new
 use mathlib.Core.Path.{refl, sym, ◌∙◌}
 use Rattle.memory.specs.Laws.ByteRecords.{zero_cleared, wrote_at}
 use native.Mathlib.Omega.{arith}
-use borrow.Author.Rules.{rules}
 use Rattle.memory.proofs.clear_record.Goals as goal
 
 pub returns-then-word-eq0 : goal.returns-then-word-eq0

@@ -1,8 +1,7 @@
--- src/lib.rt, load: (now t.exit ≡ wordsOf b) × Top (wordsOf b) r
+-- src/lib.rt, load: (t.new ≡ words_of b.now) × Top (words_of b.now) result
 use lib.ListN.{length-drop}
 use Rattle.memory.specs.Laws.ByteRecords.{load_start, load_word, load_rest, records_part, end_top}
 use native.Mathlib.Omega.{arith}
-use borrow.Author.Rules.{rules}
 use Rattle.memory.proofs.load.Goals as goal
 
 pub zero_end-top-requires : goal.zero_end-top-requires

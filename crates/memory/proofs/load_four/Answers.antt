@@ -1,9 +1,6 @@
--- src/lib.rt, load_four: LoadedOn r k (k + 4) t t'
-use Prim.Native.Nat.{◌+◌, ◌-◌, ◌≤◌}
-use Rattle.memory.specs.ByteRecords.{LoadedOn}
+-- src/lib.rt, load_four: LoadedOn r.now k (k + 4) t.old t.new
 use Rattle.memory.specs.Laws.ByteRecords.{loads_none, loads_at, loads_word}
 use native.Mathlib.Omega.{arith}
-use borrow.Author.Rules.{rules}
 use Rattle.memory.proofs.load_four.Goals as goal
 
 pub loop-o-init : goal.loop-o-init

@@ -1,8 +1,6 @@
+-- src/lib.rt, load_four: LoadedOn r.now k (k + 4) t.old t.new
 use Prim.Native.Nat.{◌+◌, ◌-◌, ◌≤◌}
 use Rattle.memory.specs.ByteRecords.{LoadedOn}
-use Rattle.memory.specs.Laws.ByteRecords.{loads_none, loads_at, loads_word}
-use native.Mathlib.Omega.{arith}
-use borrow.Author.Rules.{rules}
 use Rattle.memory.proofs.load_four.Given as goal
 
 abbrev pub invariant-loop-o : goal.invariant-loop-o

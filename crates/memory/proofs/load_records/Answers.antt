@@ -1,10 +1,6 @@
--- src/lib.rt, load_records: LoadedOn r 0 (40 * top) t t'
-use mathlib.Core.Path.{◌≡◌}
-use Prim.Native.Nat.{◌*◌, ◌-◌, ◌%◌, ◌≤◌}
-use Rattle.memory.specs.ByteRecords.{LoadedOn}
+-- src/lib.rt, load_records: LoadedOn r.now 0 (40 * top) t.old t.new
 use Rattle.memory.specs.Laws.ByteRecords.{loads_none, loads_at, loads_on}
 use native.Mathlib.Omega.{arith}
-use borrow.Author.Rules.{rules}
 use Rattle.memory.proofs.load_records.Goals as goal
 
 pub loop-k-init : goal.loop-k-init

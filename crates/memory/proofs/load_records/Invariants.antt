@@ -1,9 +1,7 @@
+-- src/lib.rt, load_records: LoadedOn r.now 0 (40 * top) t.old t.new
 use mathlib.Core.Path.{◌≡◌}
 use Prim.Native.Nat.{◌*◌, ◌-◌, ◌%◌, ◌≤◌}
 use Rattle.memory.specs.ByteRecords.{LoadedOn}
-use Rattle.memory.specs.Laws.ByteRecords.{loads_none, loads_at, loads_on}
-use native.Mathlib.Omega.{arith}
-use borrow.Author.Rules.{rules}
 use Rattle.memory.proofs.load_records.Given as goal
 
 abbrev pub invariant-loop-k : goal.invariant-loop-k

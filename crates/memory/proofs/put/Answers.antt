@@ -1,8 +1,7 @@
--- src/lib.rt, put: now b.exit ≡ put_word b i w
+-- src/lib.rt, put: b.new ≡ put_word b.old i w
 use mathlib.Core.Path.{◌∙◌}
 use Rattle.memory.specs.Laws.Quads.{put_halves}
 use native.Mathlib.Omega.{arith}
-use borrow.Author.Rules.{rules}
 use Rattle.memory.proofs.put.Goals as goal
 
 pub returns : goal.returns

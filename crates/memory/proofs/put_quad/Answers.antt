@@ -1,7 +1,6 @@
--- src/lib.rt, put_quad: now b.exit ≡ put_quad b i x
+-- src/lib.rt, put_quad: b.new ≡ put_quad b.old i x
 use lib.ListN.{length-set}
 use native.Mathlib.Omega.{arith}
-use borrow.Author.Rules.{rules}
 use Rattle.memory.proofs.put_quad.Goals as goal
 
 pub bounds-b-i-2 : goal.bounds-b-i-2

@@ -1,6 +1,5 @@
--- src/lib.rt, quad: Quad b i r
+-- src/lib.rt, quad: Quad b.now i result
 use Rattle.memory.specs.Laws.Quads.{quad_pairs}
-use borrow.Author.Rules.{rules}
 use Rattle.memory.proofs.quad.Goals as goal
 
 pub returns : goal.returns

@@ -1,12 +1,8 @@
--- src/lib.rt, store: now b.exit ≡ bytesOf t
-use mathlib.Core.Path.{◌≡◌, refl, sym, ◌∙◌}
-use Prim.Native.Nat.{◌+◌, ◌*◌, ◌/◌, ◌^◌, ◌≤◌}
+-- src/lib.rt, store: b.new ≡ bytes_of t.now
+use mathlib.Core.Path.{refl, sym, ◌∙◌}
 use Rattle.loops.specs.Laws.Left.{bit_not, bits_half, bits_few}
-use Rattle.memory.specs.Bytes.{byte_of}
-use Rattle.memory.specs.ByteRecords.{Wrote}
 use Rattle.memory.specs.Laws.ByteRecords.{wrote_none, wrote_word, wrote_on, wrote_at, wrote_all, tells_after, there_already, stored_after, wrote_rest}
 use native.Mathlib.Omega.{arith}
-use borrow.Author.Rules.{rules}
 use Rattle.memory.proofs.store.Goals as goal
 use Rattle.memory.proofs.store.Goals.{then-rest-eq1, else-rest-eq1}
 

@@ -1,11 +1,8 @@
--- src/lib.rt, store_four: Wrote (byte_of t) b (8 * k) (8 * k + 32) b'
+-- src/lib.rt, store_four: Wrote (byte_of t.now) b.old (8 * k) (8 * k + 32) b.new
 use mathlib.Core.Path.{refl, sym, ◌∙◌}
-use Prim.Native.Nat.{◌+◌, ◌*◌, ◌-◌, ◌≤◌}
-use Rattle.memory.specs.Bytes.{byte_of}
-use Rattle.memory.specs.ByteRecords.{Wrote}
+use Prim.Native.Nat.{◌+◌}
 use Rattle.memory.specs.Laws.ByteRecords.{wrote_none, wrote_word, wrote_on, wrote_at}
 use native.Mathlib.Omega.{arith}
-use borrow.Author.Rules.{rules}
 use Rattle.memory.proofs.store_four.Goals as goal
 
 pub loop-o-init : goal.loop-o-init

@@ -1,10 +1,7 @@
-use mathlib.Core.Path.{refl, sym, ◌∙◌}
+-- src/lib.rt, store_four: Wrote (byte_of t.now) b.old (8 * k) (8 * k + 32) b.new
 use Prim.Native.Nat.{◌+◌, ◌*◌, ◌-◌, ◌≤◌}
 use Rattle.memory.specs.Bytes.{byte_of}
 use Rattle.memory.specs.ByteRecords.{Wrote}
-use Rattle.memory.specs.Laws.ByteRecords.{wrote_none, wrote_word, wrote_on, wrote_at}
-use native.Mathlib.Omega.{arith}
-use borrow.Author.Rules.{rules}
 use Rattle.memory.proofs.store_four.Given as goal
 
 abbrev pub invariant-loop-o : goal.invariant-loop-o

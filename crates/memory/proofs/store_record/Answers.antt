@@ -1,13 +1,9 @@
--- src/lib.rt, store_record: Wrote (byte_of t) b (8 + 320 * p.0) (328 + 320 * p.0) b'
-use mathlib.Core.Path.{◌≡◌, refl, sym, ◌∙◌}
-use Prim.Native.Nat.{◌*◌, ◌-◌, ◌%◌, ◌≤◌}
+-- src/lib.rt, store_record: Wrote (byte_of t.now) b.old (8 + 320 * p.0) (328 + 320 * p.0) b.new
+use mathlib.Core.Path.{refl, sym, ◌∙◌}
 use native.Mathlib.Nat.{add-zero}
 use Rattle.tables.specs.View.{area_word_at}
-use Rattle.memory.specs.Bytes.{byte_of}
-use Rattle.memory.specs.ByteRecords.{Wrote}
 use Rattle.memory.specs.Laws.ByteRecords.{wrote_none, wrote_on, wrote_at, clear_stored}
 use native.Mathlib.Omega.{arith}
-use borrow.Author.Rules.{rules}
 use Rattle.memory.proofs.store_record.Goals as goal
 
 pub returns-then-t-k-eq0 : goal.returns-then-t-k-eq0

@@ -1,12 +1,8 @@
-use mathlib.Core.Path.{◌≡◌, refl, sym, ◌∙◌}
+-- src/lib.rt, store_record: Wrote (byte_of t.now) b.old (8 + 320 * p.0) (328 + 320 * p.0) b.new
+use mathlib.Core.Path.{◌≡◌}
 use Prim.Native.Nat.{◌*◌, ◌-◌, ◌%◌, ◌≤◌}
-use native.Mathlib.Nat.{add-zero}
-use Rattle.tables.specs.View.{area_word_at}
 use Rattle.memory.specs.Bytes.{byte_of}
 use Rattle.memory.specs.ByteRecords.{Wrote}
-use Rattle.memory.specs.Laws.ByteRecords.{wrote_none, wrote_on, wrote_at, clear_stored}
-use native.Mathlib.Omega.{arith}
-use borrow.Author.Rules.{rules}
 use Rattle.memory.proofs.store_record.Given as goal
 
 abbrev pub invariant-loop-k : goal.invariant-loop-k

@@ -1,6 +1,5 @@
--- src/lib.rt, store_root: now b.exit ≡ bytesOf t
+-- src/lib.rt, store_root: b.new ≡ bytes_of t.now
 use Rattle.memory.specs.Laws.ByteRecords.{root_stored}
-use borrow.Author.Rules.{rules}
 use Rattle.memory.proofs.store_root.Goals as goal
 
 pub returns : goal.returns

@@ -1,6 +1,5 @@
--- src/lib.rt, word: r ≡ word_from b i
+-- src/lib.rt, word: result ≡ word_from b.now i
 use Rattle.memory.specs.Laws.Quads.{word_halves}
-use borrow.Author.Rules.{rules}
 use Rattle.memory.proofs.word.Goals as goal
 
 pub returns : goal.returns

@@ -1,11 +1,7 @@
--- src/lib.rt, zero_end: ZeroEnd b (1 + 40 * result)
-use mathlib.Core.Path.{◌≡◌, sym, ◌∙◌}
-use Prim.Native.Nat.{◌+◌, ◌*◌}
-use borrow.Author.Tests.{not-false}
-use Rattle.memory.specs.ByteRecords.{ZeroEnd}
+-- src/lib.rt, zero_end: ZeroEnd b.now (1 + 40 * result)
+use mathlib.Core.Path.{sym, ◌∙◌}
 use Rattle.memory.specs.Laws.ByteRecords.{end_start, end_record}
 use native.Mathlib.Omega.{arith}
-use borrow.Author.Rules.{rules}
 use Rattle.memory.proofs.zero_end.Goals as goal
 
 pub loop-p-init : goal.loop-p-init

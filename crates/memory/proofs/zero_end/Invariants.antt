@@ -1,10 +1,7 @@
-use mathlib.Core.Path.{◌≡◌, sym, ◌∙◌}
+-- src/lib.rt, zero_end: ZeroEnd b.now (1 + 40 * result)
+use mathlib.Core.Path.{◌≡◌}
 use Prim.Native.Nat.{◌+◌, ◌*◌}
-use borrow.Author.Tests.{not-false}
 use Rattle.memory.specs.ByteRecords.{ZeroEnd}
-use Rattle.memory.specs.Laws.ByteRecords.{end_start, end_record}
-use native.Mathlib.Omega.{arith}
-use borrow.Author.Rules.{rules}
 use Rattle.memory.proofs.zero_end.Given as goal
 
 abbrev pub invariant-loop-p : goal.invariant-loop-p

@@ -1,8 +1,6 @@
--- src/lib.rt, zero_forty: r ≡ zero_forty b i
-use Prim.Native.Nat.{◌+◌, ◌-◌}
-use Rattle.memory.specs.Laws.Quads.{LookedAt, look_start, look_on, look_end}
+-- src/lib.rt, zero_forty: result ≡ zero_forty b.now i
+use Rattle.memory.specs.Laws.Quads.{look_start, look_on, look_end}
 use native.Mathlib.Omega.{arith}
-use borrow.Author.Rules.{rules}
 use Rattle.memory.proofs.zero_forty.Goals as goal
 
 pub loop-j-init : goal.loop-j-init

@@ -1,7 +1,6 @@
+-- src/lib.rt, zero_forty: result ≡ zero_forty b.now i
 use Prim.Native.Nat.{◌+◌, ◌-◌}
-use Rattle.memory.specs.Laws.Quads.{LookedAt, look_start, look_on, look_end}
-use native.Mathlib.Omega.{arith}
-use borrow.Author.Rules.{rules}
+use Rattle.memory.specs.Laws.Quads.{LookedAt}
 use Rattle.memory.proofs.zero_forty.Given as goal
 
 abbrev pub invariant-loop-j : goal.invariant-loop-j

@@ -1,9 +1,7 @@
--- src/lib.rt, zero_four: r ≡ zero_four b i
-use Prim.Native.Nat.{◌+◌, ◌*◌, ◌-◌}
-use Rattle.loops.specs.Laws.Oring.{Oring, or_start, or_on, or_end}
-use Rattle.memory.specs.Quads.{quad_at, zero_four}
+-- src/lib.rt, zero_four: result ≡ zero_four b.now i
+use Rattle.loops.specs.Laws.Oring.{or_start, or_on, or_end}
+use Rattle.memory.specs.Quads.{zero_four}
 use native.Mathlib.Omega.{arith}
-use borrow.Author.Rules.{rules}
 use Rattle.memory.proofs.zero_four.Goals as goal
 
 pub loop-q-init : goal.loop-q-init

@@ -1,8 +1,7 @@
+-- src/lib.rt, zero_four: result ≡ zero_four b.now i
 use Prim.Native.Nat.{◌+◌, ◌*◌, ◌-◌}
-use Rattle.loops.specs.Laws.Oring.{Oring, or_start, or_on, or_end}
-use Rattle.memory.specs.Quads.{quad_at, zero_four}
-use native.Mathlib.Omega.{arith}
-use borrow.Author.Rules.{rules}
+use Rattle.loops.specs.Laws.Oring.{Oring}
+use Rattle.memory.specs.Quads.{quad_at}
 use Rattle.memory.proofs.zero_four.Given as goal
 
 abbrev pub invariant-loop-q : goal.invariant-loop-q

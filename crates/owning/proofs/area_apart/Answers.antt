@@ -1,4 +1,4 @@
--- src/lib.rt, area_apart: r ≡ s8_apart (view t).k p.0 j
+-- src/lib.rt, area_apart: result ≡ s8_apart (view t.now).k p.0 j
 use mathlib.Core.Path.{refl}
 use borrow.Author.Tests.{not-true, not-false}
 use Rattle.tables.specs.View.{structure_area}

@@ -1,4 +1,4 @@
--- src/lib.rt, later_off: r ≡ (not (ltb m n) || apart ((view t).k.area (n / 5) (n % 5)) lo.0 hi.0)
+-- src/lib.rt, later_off: result ≡ (not (ltb m n) || apart ((view t.now).k.area (n / 5) (n % 5)) lo.0 hi.0)
 use mathlib.Core.Path.{refl, ap}
 use mathlib.Core.Bool.{not}
 use borrow.Author.Tests.{not-true, not-false, lt-ltb, le-ltb}

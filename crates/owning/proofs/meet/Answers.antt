@@ -1,4 +1,4 @@
--- src/lib.rt, meet: r ≡ meets a.0 b.0 c.0 d.0
+-- src/lib.rt, meet: result ≡ meets a.0 b.0 c.0 d.0
 use mathlib.Core.Path.{refl}
 use borrow.Author.Tests.{lt-ltb, le-ltb}
 use Rattle.tables.specs.Settle.{meets}

@@ -1,4 +1,4 @@
--- src/lib.rt, none_later: r ≡ all 80 (λ n. not (ltb m n) || apart ((view t).k.area (n / 5) (n % 5)) lo.0 hi.0)
+-- src/lib.rt, none_later: result ≡ all 80 (λ n. not (ltb m n) || apart ((view t.now).k.area (n / 5) (n % 5)) lo.0 hi.0)
 use mathlib.Core.Path.{ap, sym, ◌∙◌}
 use mathlib.Core.Bool.{not, ◌||◌}
 use Prim.Native.Nat.{◌-◌, ◌/◌, ◌%◌}

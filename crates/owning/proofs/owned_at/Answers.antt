@@ -1,4 +1,4 @@
--- src/lib.rt, owned_at: r ≡ s8 (view t).k p.0
+-- src/lib.rt, owned_at: result ≡ s8 (view t.now).k p.0
 use mathlib.Core.Path.{refl, ap, sym, ◌∙◌}
 use mathlib.Core.Bool.{not}
 use Prim.Native.Nat.{◌-◌}

@@ -1,3 +1,4 @@
+-- src/lib.rt, owned_at: result ≡ s8 (view t.now).k p.0
 use mathlib.Core.Path.{refl, ap, sym, ◌∙◌}
 use mathlib.Core.Bool.{not}
 use Prim.Native.Nat.{◌-◌}

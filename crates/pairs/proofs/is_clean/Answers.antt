@@ -1,7 +1,6 @@
--- src/lib.rt, is_clean: r ≡ zeroed pair w
+-- src/lib.rt, is_clean: result ≡ zeroed pair w
 use Rattle.words.specs.Laws.Kind.{zeroed_sum}
 use Rattle.pairs.specs.Word.{pair}
-use borrow.Author.Rules.{rules}
 use Rattle.pairs.proofs.is_clean.Goals as goal
 
 pub returns : goal.returns

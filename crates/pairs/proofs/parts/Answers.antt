@@ -1,8 +1,7 @@
--- src/lib.rt, parts: r ≡ parted word
+-- src/lib.rt, parts: result ≡ parted word
 use mathlib.Core.Path.{ap, sym, ◌∙◌}
 use Rattle.pairs.specs.Pair.{parted}
 use Rattle.pairs.specs.declared.PairWritten.TheVariants.{Pair}
-use borrow.Author.Rules.{rules}
 use Rattle.pairs.proofs.parts.Goals as goal
 
 pub returns-in-Word : goal.returns-in-Word

@@ -1,9 +1,8 @@
--- src/lib.rt, read_pair: r ≡ reads rbar rlar
+-- src/lib.rt, read_pair: result ≡ reads rbar rlar
 use mathlib.Core.Path.{sym, ◌∙◌}
 use mathlib.Core.Bool.{true≢false}
 use native.Mathlib.Omega.{arith}
 use Rattle.pairs.proofs.Laws.Answers.{reads_set, reads_unfair, reads_is}
-use borrow.Author.Rules.{rules}
 use borrow.Author.Tests.{not-true, not-false}
 use Rattle.pairs.proofs.read_pair.Goals as goal
 

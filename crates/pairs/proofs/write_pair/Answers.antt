@@ -1,8 +1,7 @@
--- src/lib.rt, write_pair: r ≡ writes (plain start end rights)
+-- src/lib.rt, write_pair: result ≡ writes (plain start end rights)
 use native.Mathlib.Omega.{arith}
 use Rattle.pairs.specs.Pair.{plain}
 use Rattle.pairs.proofs.Laws.Answers.{writes_unread, writes_empty, writes_past, writes_by}
-use borrow.Author.Rules.{rules}
 use borrow.Author.Tests.{not-true, not-false}
 use Rattle.pairs.proofs.write_pair.Goals as goal
 

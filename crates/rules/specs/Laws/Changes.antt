@@ -7,7 +7,7 @@ use Rattle.std.proofs.Math.Decide.{ℕ_discrete}
 use Rattle.std.specs.Int.Bits.{bit_or}
 use Rattle.std.proofs.lemmas.Nat.{or_lt}
 use Rattle.std.proofs.Math.Pow.{pow-lt}
-use Rattle.loops.specs.Loops.{climb, bit_of, bit, names}
+use Rattle.loops.specs.Loops.{climb, bit_of, names}
 use Rattle.loops.specs.Laws.Climb.{climb_root, climb_suc}
 use Rattle.loops.specs.Laws.Map.{map_lt, map_bit}
 use Rattle.loops.specs.Laws.Mask.{names_or, names_one}

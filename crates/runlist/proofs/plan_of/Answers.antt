@@ -1,4 +1,4 @@
--- src/lib.rt, plan_of: (r ≡ planOf board t size) × (now t.exit ≡ marks_in board t)
+-- src/lib.rt, plan_of: (result ≡ plan_of board t.old size) × (t.new ≡ marks_in board t.old)
 use mathlib.Core.Path.{refl, ◌∙◌, ap}
 use native.Mathlib.Omega.{arith}
 use borrow.Author.Rules.{rules}

@@ -1,4 +1,4 @@
--- src/lib.rt, run_at: r ≡ run_at marks i
+-- src/lib.rt, run_at: result ≡ run_at marks.now i
 use borrow.Author.Rules.{rules}
 use mathlib.Core.Path.{ap, ◌∙◌}
 use Prim.Native.Nat.{ℕ}

@@ -1,14 +1,10 @@
--- src/lib.rt, absent_partition: r ≡ which_of (lowest 16 (absent_child (view t).k))
+-- src/lib.rt, absent_partition: result ≡ which_of (lowest 16 (absent_child (view t.now).k))
 use mathlib.Core.Path.{refl, ap}
-use Prim.Native.Nat.{◌-◌, ◌<◌}
-use Rattle.loops.specs.Laws.Scan.{Seeking, seek_start, seek_hit, seek_on, seek_end}
-use Rattle.tables.specs.State.{none, some}
-use Rattle.tables.specs.View.{view}
+use Rattle.loops.specs.Laws.Scan.{seek_start, seek_hit, seek_on, seek_end}
 use Rattle.tables.specs.Search.{lowest, absent_child}
 use Rattle.tables.specs.Laws.Search.{absent_child_law}
 use Rattle.tables.specs.Answers.{which_of}
 use native.Mathlib.Omega.{arith}
-use borrow.Author.Rules.{rules}
 use mathlib.Core.Bool.{not}
 use Rattle.searching.proofs.absent_partition.Goals as goal
 

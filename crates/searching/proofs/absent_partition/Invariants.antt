@@ -1,14 +1,9 @@
-use mathlib.Core.Path.{refl, ap}
+-- src/lib.rt, absent_partition: result ≡ which_of (lowest 16 (absent_child (view t.now).k))
 use Prim.Native.Nat.{◌-◌, ◌<◌}
-use Rattle.loops.specs.Laws.Scan.{Seeking, seek_start, seek_hit, seek_on, seek_end}
+use Rattle.loops.specs.Laws.Scan.{Seeking}
 use Rattle.tables.specs.State.{none, some}
 use Rattle.tables.specs.View.{view}
-use Rattle.tables.specs.Search.{lowest, absent_child}
-use Rattle.tables.specs.Laws.Search.{absent_child_law}
-use Rattle.tables.specs.Answers.{which_of}
-use native.Mathlib.Omega.{arith}
-use borrow.Author.Rules.{rules}
-use mathlib.Core.Bool.{not}
+use Rattle.tables.specs.Search.{absent_child}
 use Rattle.searching.proofs.absent_partition.Given as goal
 
 abbrev pub invariant-loop-n : goal.invariant-loop-n

@@ -1,13 +1,9 @@
-use mathlib.Core.Path.{ap}
+-- src/lib.rt, absent_structure: result ≡ structure_of (lowest 4 (no_structure (view t.now).k p.0))
 use Prim.Native.Nat.{◌-◌}
-use Rattle.loops.specs.Laws.Scan.{Seeking, seek_start, seek_hit, seek_on, seek_end}
+use Rattle.loops.specs.Laws.Scan.{Seeking}
 use Rattle.tables.specs.State.{none, some}
 use Rattle.tables.specs.View.{view}
-use Rattle.tables.specs.Search.{lowest, no_structure}
-use Rattle.tables.specs.Laws.Search.{structure_some}
-use Rattle.tables.specs.Answers.{structure_of}
-use native.Mathlib.Omega.{arith}
-use borrow.Author.Rules.{rules}
+use Rattle.tables.specs.Search.{no_structure}
 use Rattle.searching.proofs.absent_structure.Given as goal
 
 abbrev pub invariant-loop-j : goal.invariant-loop-j

@@ -1,8 +1,7 @@
--- src/lib.rt, empty_bit: (r ≡ bitOf (isNone ((view t).k.slot p.0 i.0))) × (r ≤ 1)
+-- src/lib.rt, empty_bit: (result ≡ bit_of (is_none ((view t.now).k.slot p.0 i.0))) × (result ≤ 1)
 use mathlib.Core.Path.{refl}
 use Rattle.tables.specs.Laws.Search.{entry_some}
 use native.Mathlib.Omega.{arith}
-use borrow.Author.Rules.{rules}
 use Rattle.searching.proofs.empty_bit.Goals as goal
 
 pub returns-then-f : goal.returns-then-f

@@ -1,13 +1,8 @@
-use mathlib.Core.Path.{ap, ◌∙◌}
+-- src/lib.rt, free_byte: (result ≡ map_from (free (view t.now).k p.0) (8 * j) 8) × (result < 256)
 use Prim.Native.Nat.{◌*◌}
-use native.Mathlib.Omega.{arith}
-use borrow.Author.Tests.{not-true, not-false}
-use Rattle.loops.specs.Loops.{bit_of}
-use Rattle.loops.specs.Laws.Map.{Mapping, map_lt, map_start, map_on, map_room, map_end}
+use Rattle.loops.specs.Laws.Map.{Mapping}
 use Rattle.tables.specs.View.{view}
 use Rattle.tables.specs.Search.{free}
-use Rattle.tables.specs.Laws.Search.{structure_some, absent_free, empty_free}
-use borrow.Author.Rules.{rules}
 use Rattle.searching.proofs.free_byte.Given as goal
 
 abbrev pub invariant-loop-i : goal.invariant-loop-i

@@ -1,9 +1,8 @@
--- src/lib.rt, free_map: r ≡ map_of 32 (free (view t).k p.0)
+-- src/lib.rt, free_map: result ≡ map_of 32 (free (view t.now).k p.0)
 use native.Mathlib.Omega.{arith}
 use Rattle.loops.specs.Laws.Map.{map_join}
 use Rattle.tables.specs.View.{view}
 use Rattle.tables.specs.Search.{free}
-use borrow.Author.Rules.{rules}
 use Rattle.searching.proofs.free_map.Goals as goal
 
 pub returns : goal.returns

@@ -1,10 +1,9 @@
--- src/lib.rt, free_slot: r ≡ found_of (lowest 32 (free (view t).k p.0))
+-- src/lib.rt, free_slot: result ≡ found_of (lowest 32 (free (view t.now).k p.0))
 use mathlib.Core.Path.{ap}
 use Rattle.loops.specs.Laws.Map.{zeros_none, zeros_first}
 use Rattle.tables.specs.State.{none, some}
 use Rattle.tables.specs.Search.{lowest}
 use Rattle.tables.specs.Answers.{found_of}
-use borrow.Author.Rules.{rules}
 use Rattle.searching.proofs.free_slot.Goals as goal
 
 pub returns-then-i-eq32 : goal.returns-then-i-eq32

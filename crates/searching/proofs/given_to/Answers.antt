@@ -1,8 +1,7 @@
--- src/lib.rt, given_to: (r.0 ≡ given_in ((view t).k.slot p.0 i.0)) × (r.0 < 16)
+-- src/lib.rt, given_to: (result.0 ≡ given_in ((view t.now).k.slot p.0 i.0)) × (result.0 < 16)
 use borrow.Author.Tests.{not-true, not-false}
 use Rattle.tables.specs.Laws.Seen.{given_none, given_some}
 use native.Mathlib.Omega.{arith}
-use borrow.Author.Rules.{rules}
 use Rattle.searching.proofs.given_to.Goals as goal
 
 pub returns-then-not-f : goal.returns-then-not-f

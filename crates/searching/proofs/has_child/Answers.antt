@@ -1,12 +1,8 @@
--- src/lib.rt, has_child: r ≡ has_child (view t).k p.0
+-- src/lib.rt, has_child: result ≡ has_child (view t.now).k p.0
 use mathlib.Core.Path.{sym, ◌∙◌}
-use Prim.Native.Nat.{◌-◌}
-use Rattle.loops.specs.Laws.Every.{Missing}
 use Rattle.loops.specs.Laws.Scan.{seek_start, seek_hit, seek_on, seek_end}
-use Rattle.tables.specs.View.{view}
-use Rattle.tables.specs.Search.{child, has_child}
+use Rattle.tables.specs.Search.{has_child}
 use native.Mathlib.Omega.{arith}
-use borrow.Author.Rules.{rules}
 use Rattle.searching.proofs.has_child.Goals as goal
 
 pub loop-c-init : goal.loop-c-init

@@ -1,11 +1,8 @@
-use mathlib.Core.Path.{sym, ◌∙◌}
+-- src/lib.rt, has_child: result ≡ has_child (view t.now).k p.0
 use Prim.Native.Nat.{◌-◌}
 use Rattle.loops.specs.Laws.Every.{Missing}
-use Rattle.loops.specs.Laws.Scan.{seek_start, seek_hit, seek_on, seek_end}
 use Rattle.tables.specs.View.{view}
-use Rattle.tables.specs.Search.{child, has_child}
-use native.Mathlib.Omega.{arith}
-use borrow.Author.Rules.{rules}
+use Rattle.tables.specs.Search.{child}
 use Rattle.searching.proofs.has_child.Given as goal
 
 abbrev pub invariant-loop-c : goal.invariant-loop-c

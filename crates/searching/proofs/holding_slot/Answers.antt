@@ -1,16 +1,13 @@
--- src/lib.rt, holding_slot: r ≡ looked_of (look_for (view t).k l.0 p.0)
+-- src/lib.rt, holding_slot: result ≡ looked_of (look_for (view t.now).k l.0 p.0)
 -- the answer, by the slot
 use mathlib.Core.Path.{ap, sym, ◌∙◌}
-use Prim.Native.Nat.{◌-◌}
-use Rattle.loops.specs.Laws.Scan.{Seeking, seek_start, seek_hit, seek_on, seek_end}
-use Rattle.tables.specs.State.{Opt, none, some}
-use Rattle.tables.specs.View.{view}
+use Rattle.loops.specs.Laws.Scan.{seek_start, seek_hit, seek_on, seek_end}
+use Rattle.tables.specs.State.{Opt}
 use Prim.Native.Nat.{ℕ}
-use Rattle.tables.specs.Search.{lowest, holds_at, looked_at}
+use Rattle.tables.specs.Search.{lowest, looked_at}
 use Rattle.tables.specs.Answers.{found_of, looked_of}
 use Rattle.tables.specs.declared.Looked.{Looked}
 use native.Mathlib.Omega.{arith}
-use borrow.Author.Rules.{rules}
 use Rattle.searching.proofs.holding_slot.Goals as goal
 
 -- the answer, by the slot

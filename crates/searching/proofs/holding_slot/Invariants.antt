@@ -1,14 +1,9 @@
-use mathlib.Core.Path.{ap, sym, ◌∙◌}
+-- src/lib.rt, holding_slot: result ≡ looked_of (look_for (view t.now).k l.0 p.0)
 use Prim.Native.Nat.{◌-◌}
-use Rattle.loops.specs.Laws.Scan.{Seeking, seek_start, seek_hit, seek_on, seek_end}
-use Rattle.tables.specs.State.{Opt, none, some}
+use Rattle.loops.specs.Laws.Scan.{Seeking}
+use Rattle.tables.specs.State.{none, some}
 use Rattle.tables.specs.View.{view}
-use Prim.Native.Nat.{ℕ}
-use Rattle.tables.specs.Search.{lowest, holds_at, looked_at}
-use Rattle.tables.specs.Answers.{found_of, looked_of}
-use Rattle.tables.specs.declared.Looked.{Looked}
-use native.Mathlib.Omega.{arith}
-use borrow.Author.Rules.{rules}
+use Rattle.tables.specs.Search.{holds_at}
 use Rattle.searching.proofs.holding_slot.Given as goal
 
 abbrev pub invariant-loop-s : goal.invariant-loop-s

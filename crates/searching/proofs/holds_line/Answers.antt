@@ -1,9 +1,8 @@
--- src/lib.rt, holds_line: r ≡ holds l.0 ((view t).k.slot p.0 i.0)
+-- src/lib.rt, holds_line: result ≡ holds l.0 ((view t.now).k.slot p.0 i.0)
 use mathlib.Core.Path.{refl}
 use borrow.Author.Tests.{not-true, not-false, le-leb, lt-leb}
 use Rattle.tables.specs.View.{entry_in}
 use Rattle.tables.specs.Search.{holds}
-use borrow.Author.Rules.{rules}
 use Rattle.searching.proofs.holds_line.Goals as goal
 
 pub returns-then-not-f : goal.returns-then-not-f

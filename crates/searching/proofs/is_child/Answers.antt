@@ -1,9 +1,8 @@
--- src/lib.rt, is_child: r ≡ child (view t).k p.0 c.0
+-- src/lib.rt, is_child: result ≡ child (view t.now).k p.0 c.0
 use mathlib.Core.Path.{refl}
 use borrow.Author.Tests.{not-true, not-false, eq-eqb, ne_eqb}
 use Rattle.tables.specs.Search.{present, child}
 use Rattle.tables.specs.Laws.Search.{header_some}
-use borrow.Author.Rules.{rules}
 use Rattle.searching.proofs.is_child.Goals as goal
 
 pub returns-then-not-h : goal.returns-then-not-h

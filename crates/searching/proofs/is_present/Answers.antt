@@ -1,8 +1,7 @@
--- src/lib.rt, is_present: r ≡ present (view t).k p.0
+-- src/lib.rt, is_present: result ≡ present (view t.now).k p.0
 use mathlib.Core.Path.{refl}
 use Rattle.tables.specs.Search.{present}
 use Rattle.tables.specs.Laws.Search.{header_some}
-use borrow.Author.Rules.{rules}
 use Rattle.searching.proofs.is_present.Goals as goal
 
 pub returns : goal.returns

@@ -1,4 +1,4 @@
--- src/lib.rt, boot: Ran (boot_on t base end) t r t'
+-- src/lib.rt, boot: Ran (boot_on t.old base end) t.old result t.new
 use lib.ListN.{length-replicate}
 use Prim.Native.Nat.{ℕ}
 use Rattle.rules.specs.Laws.Ran.{ran_refused, ran_as, ran_copied, ran_kept}

@@ -1,10 +1,9 @@
--- src/lib.rt, kept_region: q ≡ region_for (keep ((view t).opened p.0) (named r))
+-- src/lib.rt, kept_region: result ≡ region_for (keep ((view t.now).opened p.0) (named r))
 use mathlib.Core.Path.{refl, ◌∙◌}
 use Rattle.tables.specs.View.{named}
 use Rattle.tables.specs.Encode.{region_for}
 use Rattle.tables.specs.Settle.{keep}
 use Rattle.tables.specs.Laws.Kept.{region_kept}
-use borrow.Author.Rules.{rules}
 use Rattle.settling.proofs.kept_region.Goals as goal
 
 pub returns-then-f : goal.returns-then-f

@@ -1,7 +1,6 @@
--- src/lib.rt, kept_regions: r ≡ regions_for (λ i. keep ((view t).opened p.0) ((view t).region p.0 i))
+-- src/lib.rt, kept_regions: result ≡ regions_for (λ i. keep ((view t.now).opened p.0) ((view t.now).region p.0 i))
 use Rattle.tables.specs.View.{nth_region}
 use Rattle.tables.specs.Laws.Kept.{kept_regions}
-use borrow.Author.Rules.{rules}
 use Rattle.settling.proofs.kept_regions.Goals as goal
 
 pub kept_region-requires : goal.kept_region-requires

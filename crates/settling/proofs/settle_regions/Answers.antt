@@ -1,9 +1,8 @@
--- src/lib.rt, settle_regions: Is t' (keep_regions (view t) p.0)
+-- src/lib.rt, settle_regions: Is t.new (keep_regions (view t.old) p.0)
 use mathlib.Core.Path.{ap, ◌∙◌}
 use Rattle.words.specs.Kind.{writing}
 use Rattle.words.specs.Words.{regions}
 use Rattle.tables.specs.Laws.Kept.{regions_settled}
-use borrow.Author.Rules.{rules}
 use Rattle.settling.proofs.settle_regions.Goals as goal
 
 pub returns : goal.returns

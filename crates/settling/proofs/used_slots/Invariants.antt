@@ -1,7 +1,6 @@
+-- src/lib.rt, used_slots: UsedEnd (view t.now).k p.0 result
 use Rattle.tables.specs.View.{view}
-use Rattle.settling.specs.Laws.Settled.{AbsentStructures, absent_structures_start, absent_more, ends_here, ends_none}
-use native.Mathlib.Omega.{arith}
-use borrow.Author.Rules.{rules}
+use Rattle.settling.specs.Laws.Settled.{AbsentStructures}
 use Rattle.settling.proofs.used_slots.Given as goal
 
 abbrev pub invariant-loop-j : goal.invariant-loop-j

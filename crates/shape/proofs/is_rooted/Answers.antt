@@ -1,4 +1,4 @@
--- src/lib.rt, is_rooted: r ≡ rooted p.0 j
+-- src/lib.rt, is_rooted: result ≡ rooted p.0 j
 use mathlib.Core.Path.{refl}
 use borrow.Author.Tests.{eq-eqb, ne_eqb}
 use Rattle.sound.specs.Clauses.{rooted}

@@ -1,4 +1,4 @@
--- src/lib.rt, put_pair: now sheet.exit ≡ pair_put sheet p.0 (masks_with children (view t) p.0) (lines_word (view t) p.0)
+-- src/lib.rt, put_pair: sheet.new ≡ pair_put sheet.old p.0 (masks_with children (view t.now) p.0) (lines_word (view t.now) p.0)
 use mathlib.Core.Path.{ap, ◌∙◌}
 use lib.ListN.{length}
 use Rattle.sheetrules.specs.Laws.Bytes.{put_length, pair_put_law}

@@ -1,3 +1,4 @@
+-- src/lib.rt, put_pairs: sheet.new ≡ sheet_bytes (sheet_of (view t.now))
 use mathlib.Core.Path.{refl, sym, ◌∙◌}
 use Prim.Native.Nat.{◌*◌, ◌-◌, ◌≤◌}
 use Rattle.loops.specs.Loops.{Filling}

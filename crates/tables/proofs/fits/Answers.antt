@@ -1,8 +1,6 @@
--- src/lib.rt, fits: Words t
+-- src/lib.rt, fits: Words t.now
 use native.Mathlib.Omega.{arith}
-use borrow.Author.Rules.{rules}
-use Prim.Native.Nat.{◌-◌}
-use Rattle.tables.specs.Laws.Fitting.{Fitting, fit_start, fit_on, fit_end}
+use Rattle.tables.specs.Laws.Fitting.{fit_start, fit_on, fit_end}
 use Rattle.tables.proofs.fits.Goals as goal
 
 pub loop-n-init : goal.loop-n-init

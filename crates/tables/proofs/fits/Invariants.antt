@@ -1,7 +1,6 @@
-use native.Mathlib.Omega.{arith}
-use borrow.Author.Rules.{rules}
+-- src/lib.rt, fits: Words t.now
 use Prim.Native.Nat.{◌-◌}
-use Rattle.tables.specs.Laws.Fitting.{Fitting, fit_start, fit_on, fit_end}
+use Rattle.tables.specs.Laws.Fitting.{Fitting}
 use Rattle.tables.proofs.fits.Given as goal
 
 abbrev pub invariant-loop-n : goal.invariant-loop-n

@@ -1,7 +1,6 @@
--- src/lib.rt, store: now t.exit ≡ stored t at word
+-- src/lib.rt, store: t.new ≡ stored t.old at word
 use mathlib.Core.Path.{refl}
 use Rattle.tables.specs.Store.{stored}
-use borrow.Author.Rules.{rules}
 use Rattle.tables.proofs.store.Goals as goal
 
 pub returns-in-Word : goal.returns-in-Word

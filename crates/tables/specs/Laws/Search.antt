@@ -13,7 +13,7 @@ use Rattle.words.specs.declared.structure_word.StructureFields.{StructureFields}
 use Rattle.tables.specs.State.{none, some, K, Opt}
 use Rattle.tables.specs.Laws.State.{some_inj, not_none}
 use Rattle.tables.specs.View.{entry_in, header_area, structure_area}
-use Rattle.tables.specs.Search.{is_some, is_none, lowest, Lowest, present, absent, absent_child, free, holds}
+use Rattle.tables.specs.Search.{is_some, is_none, lowest, Lowest, present, absent, absent_child, free}
 
 pub lowest_some : (n : ℕ) (f : ℕ → Bool) (k : ℕ) → lowest n f ≡ some k → Lowest n f k
 unfolding lowest

@@ -1,7 +1,6 @@
 -- What a table has stands within 16 partitions of 32 slots, 5 areas and 8 regions.
 use Rattle.std.specs.Prelude.{◌≡◌, refl, Bool, true, false, cond, List, ltb, ℕ, ◌<◌}
 use Rattle.std.proofs.Common.{ltb-true, lt-ltb}
-use Rattle.words.specs.Words.{slot}
 use Rattle.tables.specs.State.{Opt, none, some, Entry, Area}
 use Rattle.tables.specs.Laws.State.{not_none}
 use Rattle.tables.specs.View.{entry_in, slot_at, area_at, region_at, inside, view_k, view}

@@ -17,7 +17,7 @@ use Rattle.sound.specs.Sound.{Present}
 use Rattle.sound.specs.Properties.{Child}
 use Rattle.sound.specs.Whole.{Right}
 use Rattle.rules.specs.Branch.{Under, itself as is-top, below}
-use Rattle.rules.specs.Rules.{done, area_of, create_k, remove_k, remove, unloaded, create, delete, prepare, collect, give, take, cut, merge, load, unload, read_region, find, switch, clear_out, pack, serve}
+use Rattle.rules.specs.Rules.{done, area_of, create_k, remove_k, remove, unloaded, serve}
 use Rattle.rules.specs.Laws.Each.{done_each}
 use Rattle.isolation.specs.Laws.Settled.{right_same}
 use Rattle.isolation.specs.Ladders.{OwnOrChild}

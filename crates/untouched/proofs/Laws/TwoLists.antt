@@ -15,7 +15,6 @@ use Rattle.tables.specs.Write.{with_current, put_current}
 use Rattle.tables.specs.Search.{lowest, holds, holds_at}
 use Rattle.tables.specs.declared.Outcome.TheVariants.{Done}
 use Rattle.sound.specs.Sound.{Present}
-use Rattle.sound.specs.Clauses.{sound}
 use Rattle.sound.specs.Whole.{Right}
 use Rattle.sound.proofs.Laws.List.{sound_means}
 use Rattle.rules.specs.Rules.{Result, check, need, own_or_child, region_word, read_region, find, known, perform, serve, call_on}

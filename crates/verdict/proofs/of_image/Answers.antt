@@ -1,4 +1,4 @@
--- src/lib.rt, of_image: r ≡ image_verdict board b
+-- src/lib.rt, of_image: result ≡ image_verdict board b.now
 use mathlib.Core.Path.{refl}
 use Rattle.verdict.proofs.Laws.Stages.{image_other, image_said}
 use borrow.Author.Rules.{rules}

@@ -1,4 +1,4 @@
--- src/lib.rt, of_table: r ≡ verdict board t
+-- src/lib.rt, of_table: result ≡ verdict board t.now
 use mathlib.Core.Path.{refl}
 use native.Mathlib.Omega.{arith}
 use Rattle.tables.specs.Laws.Top.{top_16}

@@ -1,4 +1,4 @@
--- src/lib.rt, said: r ≡ said_of m
+-- src/lib.rt, said: result ≡ said_of m
 use mathlib.Core.Path.{refl}
 use borrow.Author.Tests.{le-ltb, lt-ltb}
 use Rattle.verdict.specs.Verdict.{failing}

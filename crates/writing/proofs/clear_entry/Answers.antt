@@ -1,6 +1,5 @@
--- src/lib.rt, clear_entry: Is t' (put_slot (view t) p.0 i.0 none false)
+-- src/lib.rt, clear_entry: Is t.new (put_slot (view t.old) p.0 i.0 none false)
 use Rattle.writing.specs.Laws.Stored.{entry_cleared}
-use borrow.Author.Rules.{rules}
 use Rattle.writing.proofs.clear_entry.Goals as goal
 
 pub returns : goal.returns

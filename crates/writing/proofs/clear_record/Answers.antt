@@ -1,8 +1,6 @@
--- src/lib.rt, clear_record: Is t' (clear_record (view t) p.0)
-use Prim.Native.Nat.{◌-◌}
-use Rattle.writing.specs.Laws.Clearing.{Clearing, clear_start, clear_on, clear_end}
+-- src/lib.rt, clear_record: Is t.new (clear_record (view t.old) p.0)
+use Rattle.writing.specs.Laws.Clearing.{clear_start, clear_on, clear_end}
 use native.Mathlib.Omega.{arith}
-use borrow.Author.Rules.{rules}
 use Rattle.writing.proofs.clear_record.Goals as goal
 
 pub loop-o-init : goal.loop-o-init

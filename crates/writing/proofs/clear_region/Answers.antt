@@ -1,6 +1,5 @@
--- src/lib.rt, clear_region: Is t' (put_region (view t) p.0 r none)
+-- src/lib.rt, clear_region: Is t.new (put_region (view t.old) p.0 r none)
 use Rattle.writing.specs.Laws.Stored.{region_cleared}
-use borrow.Author.Rules.{rules}
 use Rattle.writing.proofs.clear_region.Goals as goal
 
 pub returns : goal.returns

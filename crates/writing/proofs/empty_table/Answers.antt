@@ -1,6 +1,5 @@
--- src/lib.rt, empty_table: Is t' (empty_table base.0 end.0)
+-- src/lib.rt, empty_table: Is t.new (empty_table base.0 end.0)
 use Rattle.writing.specs.Laws.Empty.{empty_is}
-use borrow.Author.Rules.{rules}
 use Rattle.writing.proofs.empty_table.Goals as goal
 
 pub returns : goal.returns

@@ -1,6 +1,5 @@
--- src/lib.rt, put_entry: Is t' (put_slot (view t) p.0 i.0 (some (entryOf f)) f.opened)
+-- src/lib.rt, put_entry: Is t.new (put_slot (view t.old) p.0 i.0 (some (entry_of f)) f.opened)
 use Rattle.writing.specs.Laws.Stored.{entry_stored}
-use borrow.Author.Rules.{rules}
 use Rattle.writing.proofs.put_entry.Goals as goal
 
 pub returns : goal.returns

@@ -1,6 +1,5 @@
--- src/lib.rt, put_region: Is t' (put_region (view t) p.0 r (some slot.0))
+-- src/lib.rt, put_region: Is t.new (put_region (view t.old) p.0 r (some slot.0))
 use Rattle.writing.specs.Laws.Stored.{region_stored}
-use borrow.Author.Rules.{rules}
 use Rattle.writing.proofs.put_region.Goals as goal
 
 pub returns : goal.returns

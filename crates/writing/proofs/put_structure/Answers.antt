@@ -1,6 +1,5 @@
--- src/lib.rt, put_structure: Is t' (put_structure (view t) p.0 j (some (span f.start f.end)))
+-- src/lib.rt, put_structure: Is t.new (put_structure (view t.old) p.0 j (some (span f.start f.end)))
 use Rattle.writing.specs.Laws.Stored.{structure_stored}
-use borrow.Author.Rules.{rules}
 use Rattle.writing.proofs.put_structure.Goals as goal
 
 pub returns : goal.returns

@@ -1,4 +1,4 @@
--- src/cut_service.rt, cut: Ran (cut (view t) s.0 l.0) t r t'
+-- src/cut_service.rt, cut: Ran (cut (view t.old) s.0 l.0) t.old result t.new
 use Rattle.rules.specs.Rules.{cut}
 use Rattle.rules.specs.Laws.Ran.{ran_refused}
 use Rattle.blocks.specs.Laws.Pick.{picked_no, picked_is}

@@ -1,9 +1,8 @@
--- src/cut_service.rt, cut_entry: Ran (cut (view t) s.0 l.0) t r t'
+-- src/cut_service.rt, cut_entry: Ran (cut (view t.old) s.0 l.0) t.old result t.new
 use mathlib.Core.Path.{sym, ◌∙◌}
 use Rattle.tables.specs.Laws.Search.{lowest_some}
 use Rattle.tables.specs.Laws.Answers.{found_is}
 use Rattle.blocks.specs.Laws.CutExits.{can_split, cut_low, cut_high, cut_full, cut_whole, cut_exit_done}
-use borrow.Author.Rules.{rules}
 use Rattle.blocks.proofs.cut_service.cut_entry.Goals as goal
 
 pub returns-then-f-l : goal.returns-then-f-l

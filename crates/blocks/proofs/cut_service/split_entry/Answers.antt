@@ -1,4 +1,4 @@
--- src/cut_service.rt, split_entry: Is t' (split_at (view t) c.0 s.0 n.0 l.0 f)
+-- src/cut_service.rt, split_entry: Is t.new (split_at (view t.old) c.0 s.0 n.0 l.0 f)
 use Rattle.tables.specs.State.{Table, some, ending_at, starting_at}
 use Rattle.tables.specs.View.{entry_of}
 use Rattle.tables.specs.Laws.Encode.{is_canon}

@@ -1,6 +1,5 @@
--- src/give_service.rt, give: Ran (give (view t) p.0 s.0 r whole) t x t'
+-- src/give_service.rt, give: Ran (give (view t.old) p.0 s.0 r whole) t.old result t.new
 use mathlib.Core.Path.{sym, ◌∙◌}
-use borrow.Author.Tests.{not-true, not-false}
 use Rattle.rules.specs.Rules.{give}
 use Rattle.rules.specs.Laws.Ran.{ran_refused, pass, fail}
 use Rattle.blocks.specs.Laws.Pick.{picked_no, picked_is}

@@ -1,10 +1,8 @@
--- src/give_service.rt, give_entry: Ran (give (view t) p.0 s.0 r whole) t x t'
+-- src/give_service.rt, give_entry: Ran (give (view t.old) p.0 s.0 r whole) t.old result t.new
 use mathlib.Core.Path.{sym, ◌∙◌}
-use borrow.Author.Tests.{not-true, not-false}
 use Rattle.tables.specs.Laws.Search.{lowest_some}
 use Rattle.tables.specs.Laws.Answers.{found_is}
 use Rattle.blocks.specs.Laws.GiveExits.{can_hand, give_full, give_more, give_whole, give_exit_done}
-use borrow.Author.Rules.{rules}
 use Rattle.blocks.proofs.give_service.give_entry.Goals as goal
 
 pub free_slot-found-requires : goal.free_slot-found-requires

@@ -1,11 +1,10 @@
--- src/give_service.rt, hand_over: Is t' (handed_to (view t) c.0 s.0 p.0 n.0 r whole f)
+-- src/give_service.rt, hand_over: Is t.new (handed_to (view t.old) c.0 s.0 p.0 n.0 r whole f)
 use native.Mathlib.Omega.{arith}
 use Rattle.tables.specs.State.{Table, some, range_of}
 use Rattle.tables.specs.View.{entry_of}
 use Rattle.tables.specs.Laws.Encode.{is_canon}
 use Rattle.tables.specs.Write.{put_slot}
 use Rattle.writing.specs.Laws.Stored.{is_then}
-use borrow.Author.Rules.{rules}
 use Rattle.blocks.proofs.give_service.hand_over.Goals as goal
 
 pub put_entry-requires-2 : goal.put_entry-requires-2

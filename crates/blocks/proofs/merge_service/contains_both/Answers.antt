@@ -1,9 +1,8 @@
--- src/merge_service.rt, contains_both: r ≡ contains_both c.0 (entryOf e) (entryOf f) (entry_in g)
+-- src/merge_service.rt, contains_both: result ≡ contains_both c.0 (entry_of e) (entry_of f) (entry_in g)
 use mathlib.Core.Path.{refl}
 use borrow.Author.Tests.{not-true, not-false}
 use Rattle.tables.specs.View.{entry_in}
 use Rattle.sound.specs.Clauses.{has, contains_both}
-use borrow.Author.Rules.{rules}
 use Rattle.blocks.proofs.merge_service.contains_both.Goals as goal
 
 pub returns-then-not-g : goal.returns-then-not-g

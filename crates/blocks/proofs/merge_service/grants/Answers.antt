@@ -1,4 +1,4 @@
--- src/merge_service.rt, grants: r ≡ grants c.0 (entryOf e) (entryOf g)
+-- src/merge_service.rt, grants: result ≡ grants c.0 (entry_of e) (entry_of g)
 use mathlib.Core.Path.{refl}
 use borrow.Author.Tests.{eq-eqb, ne_eqb, le-leb, lt-leb}
 use Rattle.sound.specs.Clauses.{grants}

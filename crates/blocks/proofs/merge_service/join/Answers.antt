@@ -1,4 +1,4 @@
--- src/merge_service.rt, join: Is t' (joined_at (view t) c.0 s.0 u.0 e f)
+-- src/merge_service.rt, join: Is t.new (joined_at (view t.old) c.0 s.0 u.0 e f)
 use Rattle.tables.specs.State.{Table, some, ending_at}
 use Rattle.tables.specs.View.{entry_of}
 use Rattle.tables.specs.Laws.Encode.{is_canon}

@@ -1,6 +1,5 @@
--- src/merge_service.rt, may_join: r ≡ may_join (view t).k c.0 (entryOf e) (entryOf f)
+-- src/merge_service.rt, may_join: result ≡ may_join (view t.now).k c.0 (entry_of e) (entry_of f)
 use Rattle.blocks.specs.Laws.MergeExits.{joins_root, joins_granted}
-use borrow.Author.Rules.{rules}
 use Rattle.blocks.proofs.merge_service.may_join.Goals as goal
 
 pub returns-then-c-eq0 : goal.returns-then-c-eq0

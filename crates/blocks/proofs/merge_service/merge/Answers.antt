@@ -1,8 +1,7 @@
--- src/merge_service.rt, merge: Ran (merge (view t) s.0 u.0) t r t'
+-- src/merge_service.rt, merge: Ran (merge (view t.old) s.0 u.0) t.old result t.new
 use borrow.Author.Tests.{not-true, not-false}
 use Rattle.rules.specs.Laws.Ran.{ran_refused}
 use Rattle.blocks.specs.Laws.MergeExits.{merge_none, merge_other_none}
-use borrow.Author.Rules.{rules}
 use Rattle.blocks.proofs.merge_service.merge.Goals as goal
 
 pub returns-then-not-e : goal.returns-then-not-e

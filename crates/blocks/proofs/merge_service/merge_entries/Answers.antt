@@ -1,9 +1,8 @@
--- src/merge_service.rt, merge_entries: Ran (merge (view t) s.0 u.0) t r t'
+-- src/merge_service.rt, merge_entries: Ran (merge (view t.old) s.0 u.0) t.old result t.new
 use mathlib.Core.Path.{sym, ◌∙◌}
 use borrow.Author.Tests.{not-true, not-false}
 use Rattle.rules.specs.Laws.Ran.{ran_refused}
 use Rattle.blocks.specs.Laws.MergeExits.{merge_closed, merge_other_closed, merge_given, merge_other_given, merge_apart, merge_two_grants, merge_exit_done}
-use borrow.Author.Rules.{rules}
 use Rattle.blocks.proofs.merge_service.merge_entries.Goals as goal
 
 pub returns-then-not-e : goal.returns-then-not-e

@@ -1,10 +1,8 @@
+-- src/merge_service.rt, one_grant: result ≡ any 32 (λ i. contains_both c.0 (entry_of e) (entry_of f) ((view t.now).k.slot q.0 i))
 use Prim.Native.Nat.{◌-◌}
 use Rattle.loops.specs.Laws.Every.{Missing}
-use Rattle.loops.specs.Laws.Scan.{seek_start, seek_hit, seek_on, seek_end}
 use Rattle.tables.specs.View.{view, entry_of}
 use Rattle.sound.specs.Clauses.{contains_both}
-use native.Mathlib.Omega.{arith}
-use borrow.Author.Rules.{rules}
 use Rattle.blocks.proofs.merge_service.one_grant.Given as goal
 
 abbrev pub invariant-loop-i : goal.invariant-loop-i

@@ -1,7 +1,6 @@
--- src/pick.rt, free_entry: Picks t s.0 r
+-- src/pick.rt, free_entry: Picks t.now s.0 result
 use borrow.Author.Tests.{not-true, not-false}
 use Rattle.blocks.specs.Laws.Pick.{pick_none, pick_closed, pick_given, pick_free}
-use borrow.Author.Rules.{rules}
 use Rattle.blocks.proofs.pick.free_entry.Goals as goal
 
 pub entry-f-requires : goal.entry-f-requires

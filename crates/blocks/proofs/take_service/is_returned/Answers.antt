@@ -1,7 +1,6 @@
--- src/take_service.rt, is_returned: r ≡ returned (view t) (entryOf e) i.0
+-- src/take_service.rt, is_returned: result ≡ returned (view t.now) (entry_of e) i.0
 use borrow.Author.Tests.{not-true, not-false}
 use Rattle.blocks.specs.Laws.TakeExits.{returned_none, returned_given, returned_start, returned_end, returned_open}
-use borrow.Author.Rules.{rules}
 use Rattle.blocks.proofs.take_service.is_returned.Goals as goal
 
 pub returns-then-not-f : goal.returns-then-not-f

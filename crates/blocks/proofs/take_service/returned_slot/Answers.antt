@@ -1,14 +1,9 @@
--- src/take_service.rt, returned_slot: r ≡ found_of (lowest 32 (returned (view t) (entry_of e)))
+-- src/take_service.rt, returned_slot: result ≡ found_of (lowest 32 (returned (view t.now) (entry_of e)))
 use mathlib.Core.Path.{ap, sym, ◌∙◌}
-use Prim.Native.Nat.{◌-◌}
-use Rattle.loops.specs.Laws.Scan.{Seeking, seek_start, seek_hit, seek_on, seek_end}
-use Rattle.tables.specs.State.{none, some}
-use Rattle.tables.specs.View.{view, entry_of}
+use Rattle.loops.specs.Laws.Scan.{seek_start, seek_hit, seek_on, seek_end}
 use Rattle.tables.specs.Search.{lowest}
 use Rattle.tables.specs.Answers.{found_of}
-use Rattle.rules.specs.Rules.{returned}
 use native.Mathlib.Omega.{arith}
-use borrow.Author.Rules.{rules}
 use Rattle.blocks.proofs.take_service.returned_slot.Goals as goal
 
 pub loop-i-init : goal.loop-i-init

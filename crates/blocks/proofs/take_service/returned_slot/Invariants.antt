@@ -1,13 +1,9 @@
-use mathlib.Core.Path.{ap, sym, ◌∙◌}
+-- src/take_service.rt, returned_slot: result ≡ found_of (lowest 32 (returned (view t.now) (entry_of e)))
 use Prim.Native.Nat.{◌-◌}
-use Rattle.loops.specs.Laws.Scan.{Seeking, seek_start, seek_hit, seek_on, seek_end}
+use Rattle.loops.specs.Laws.Scan.{Seeking}
 use Rattle.tables.specs.State.{none, some}
 use Rattle.tables.specs.View.{view, entry_of}
-use Rattle.tables.specs.Search.{lowest}
-use Rattle.tables.specs.Answers.{found_of}
 use Rattle.rules.specs.Rules.{returned}
-use native.Mathlib.Omega.{arith}
-use borrow.Author.Rules.{rules}
 use Rattle.blocks.proofs.take_service.returned_slot.Given as goal
 
 abbrev pub invariant-loop-i : goal.invariant-loop-i

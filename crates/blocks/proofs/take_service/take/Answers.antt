@@ -1,7 +1,6 @@
--- src/take_service.rt, take: Ran (take (view t) s.0) t r t'
+-- src/take_service.rt, take: Ran (take (view t.old) s.0) t.old result t.new
 use borrow.Author.Tests.{not-true, not-false}
 use Rattle.blocks.specs.Laws.TakeExits.{take_none, take_not_given}
-use borrow.Author.Rules.{rules}
 use Rattle.blocks.proofs.take_service.take.Goals as goal
 
 pub entry-e-requires : goal.entry-e-requires

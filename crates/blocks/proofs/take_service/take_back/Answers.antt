@@ -1,10 +1,9 @@
--- src/take_service.rt, take_back: Is t' (taken_back (view t) c.0 s.0 i.0 e)
+-- src/take_service.rt, take_back: Is t.new (taken_back (view t.old) c.0 s.0 i.0 e)
 use mathlib.Core.Bool.{false}
 use Rattle.tables.specs.State.{Table, none}
 use Rattle.tables.specs.Laws.Encode.{is_canon}
 use Rattle.tables.specs.Write.{put_slot}
 use Rattle.writing.specs.Laws.Stored.{is_then}
-use borrow.Author.Rules.{rules}
 use Rattle.blocks.proofs.take_service.take_back.Goals as goal
 
 pub clear_entry-requires : goal.clear_entry-requires

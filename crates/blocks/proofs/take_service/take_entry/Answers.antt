@@ -1,11 +1,10 @@
--- src/take_service.rt, take_entry: Ran (take (view t) s.0) t r t'
+-- src/take_service.rt, take_entry: Ran (take (view t.old) s.0) t.old result t.new
 use mathlib.Core.Path.{sym, ◌∙◌}
 use Rattle.tables.specs.Laws.Search.{lowest_some}
 use Rattle.tables.specs.Laws.Answers.{found_is}
 use Rattle.tables.specs.Laws.Encode.{is_canon}
 use Rattle.blocks.specs.Laws.TakeExits.{can_take, take_kept, take_exit_done}
 use native.Mathlib.Omega.{arith}
-use borrow.Author.Rules.{rules}
 use Rattle.blocks.proofs.take_service.take_entry.Goals as goal
 
 pub returned_slot-found-requires : goal.returned_slot-found-requires

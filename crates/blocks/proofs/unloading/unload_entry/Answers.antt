@@ -1,9 +1,8 @@
--- src/unloading.rt, unload_entry: Is t' (unloaded_at (view t) c.0 s.0)
+-- src/unloading.rt, unload_entry: Is t.new (unloaded_at (view t.old) c.0 s.0)
 use Rattle.tables.specs.State.{Table}
 use Rattle.tables.specs.Laws.Encode.{is_canon}
 use Rattle.tables.specs.Kept.{keep_regions}
 use Rattle.writing.specs.Laws.Stored.{is_then}
-use borrow.Author.Rules.{rules}
 use Rattle.blocks.proofs.unloading.unload_entry.Goals as goal
 
 pub settle_regions-requires : goal.settle_regions-requires

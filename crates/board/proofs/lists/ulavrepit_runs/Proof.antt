@@ -1,4 +1,4 @@
--- src/lists.rt, ulavrepit_runs: RunsLent V7 table list r list'
+-- src/lists.rt, ulavrepit_runs: RunsLent V7 table.now list.old result list.new
 -- `board::lists::ulavrepit_runs` meets its contract: a walk of its MIR, by hand, for a list of structs that is lent has no walk of its own.
 -- The borrow of the list is opened once, at the start, and closed once, after the loop. Between the two the memory is the function's own: the list with the
 -- first i runs stored. The marks lie in a local, among words. It is lent to `plan_bytes`, which leaves them there, and in each turn to `run_at`, which reads two of them. A turn takes

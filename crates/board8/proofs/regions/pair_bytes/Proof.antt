@@ -1,4 +1,4 @@
--- src/regions.rt, pair_bytes: r ≡ pair_on table p s
+-- src/regions.rt, pair_bytes: result ≡ pair_on table.now p s
 use mathlib.Core.Path.{sym, ◌∙◌}
 use Rattle.tables.specs.Laws.Top.{top_at}
 use Rattle.board8.specs.Laws.Regions.{other_length, unsound_words, sound_words}

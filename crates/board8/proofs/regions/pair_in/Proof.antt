@@ -1,4 +1,4 @@
--- src/regions.rt, pair_in: r ≡ entry_pair ((view t).k.slot p s)
+-- src/regions.rt, pair_in: result ≡ entry_pair ((view t.now).k.slot p s)
 use mathlib.Core.Path.{◌∙◌}
 use native.Mathlib.Omega.{arith}
 use Rattle.board8.specs.Laws.Regions.{no_slot, no_entry_pair, is_entry_pair}

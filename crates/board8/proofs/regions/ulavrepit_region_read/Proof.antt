@@ -1,4 +1,4 @@
--- src/regions.rt, ulavrepit_region_read: ReadLent rbar rlar entry r entry'
+-- src/regions.rt, ulavrepit_region_read: ReadLent rbar rlar entry.old result entry.new
 use Rattle.board8.specs.Laws.Regions.{read_lent, read_lent_not}
 use borrow.Author.Rules.{rules}
 use Rattle.board8.proofs.regions.ulavrepit_region_read.Statement.{statement}

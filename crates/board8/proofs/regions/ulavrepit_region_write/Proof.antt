@@ -1,4 +1,4 @@
--- src/regions.rt, ulavrepit_region_write: WriteLent table partition slot rbar rlar r rbar' rlar'
+-- src/regions.rt, ulavrepit_region_write: WriteLent table.now partition slot rbar.old rlar.old result rbar.new rlar.new
 use Rattle.board8.specs.Laws.Regions.{write_lent, write_lent_not}
 use borrow.Author.Rules.{rules}
 use Rattle.board8.proofs.regions.ulavrepit_region_write.Statement.{statement}

@@ -1,4 +1,4 @@
--- src/given.rt, given_each: r ≡ s7_given (view t).k p.0 && s7_whole (view t) p.0
+-- src/given.rt, given_each: result ≡ s7_given (view t.now).k p.0 && s7_whole (view t.now) p.0
 use mathlib.Core.Path.{ap, sym, ◌∙◌}
 use mathlib.Core.Bool.{not}
 use Prim.Native.Nat.{◌-◌}

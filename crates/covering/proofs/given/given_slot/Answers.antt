@@ -1,4 +1,4 @@
--- src/given.rt, given_slot: r ≡ given_slot (view t) p.0 i.0
+-- src/given.rt, given_slot: result ≡ given_slot (view t.now) p.0 i.0
 use mathlib.Core.Path.{refl}
 use borrow.Author.Tests.{not-true, not-false, eq-eqb, ne_eqb}
 use Rattle.tables.specs.View.{entry_in}

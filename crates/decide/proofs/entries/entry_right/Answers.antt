@@ -1,4 +1,4 @@
--- src/entries.rt, entry_right: r ≡ entry_right (view t) mark p.0 i.0
+-- src/entries.rt, entry_right: result ≡ entry_right (view t.now) mark.now p.0 i.0
 use mathlib.Core.Path.{refl, ap, sym}
 use mathlib.Core.Bool.{Bool, not, beq}
 use borrow.Author.Tests.{not-true, not-false, eq-eqb, ne_eqb}

@@ -1,3 +1,4 @@
+-- src/entries.rt, full_each: result ≡ all 32 (full_slot (view t.now).k p.0)
 use mathlib.Core.Path.{ap, sym, ◌∙◌}
 use mathlib.Core.Bool.{not}
 use Prim.Native.Nat.{◌-◌}

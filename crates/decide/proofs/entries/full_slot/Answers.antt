@@ -1,4 +1,4 @@
--- src/entries.rt, full_slot: r ≡ full_slot (view t).k p.0 i.0
+-- src/entries.rt, full_slot: result ≡ full_slot (view t.now).k p.0 i.0
 use mathlib.Core.Path.{refl}
 use borrow.Author.Tests.{not-true, not-false}
 use Rattle.tables.specs.View.{entry_in}

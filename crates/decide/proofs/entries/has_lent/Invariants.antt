@@ -1,3 +1,4 @@
+-- src/entries.rt, has_lent: result ≡ any 32 (λ i. has (lends p.0 (entry_of f)) ((view t.now).k.slot q.0 i))
 use Prim.Native.Nat.{◌-◌}
 use Rattle.loops.specs.Laws.Every.{Missing}
 use Rattle.loops.specs.Laws.Scan.{seek_start, seek_hit, seek_on}

@@ -1,4 +1,4 @@
--- src/entries.rt, lends: r ≡ has (lends p.0 (entryOf f)) (entry_in g)
+-- src/entries.rt, lends: result ≡ has (lends p.0 (entry_of f)) (entry_in g)
 use mathlib.Core.Path.{refl}
 use borrow.Author.Tests.{not-true, not-false, eq-eqb, ne_eqb}
 use Rattle.tables.specs.View.{entry_in}

@@ -1,4 +1,4 @@
--- src/entries.rt, undivided: r ≡ undivided (view t).k p.0 f.opened (entryOf f)
+-- src/entries.rt, undivided: result ≡ undivided (view t.now).k p.0 f.opened (entry_of f)
 use mathlib.Core.Path.{refl}
 use borrow.Author.Tests.{not-true, not-false, eq-eqb, ne_eqb}
 use Rattle.sound.specs.Clauses.{undivided}

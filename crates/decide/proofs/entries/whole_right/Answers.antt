@@ -1,4 +1,4 @@
--- src/entries.rt, whole_right: r ≡ (not f.whole || undivided (view t).k p.0 f.opened (entryOf f))
+-- src/entries.rt, whole_right: result ≡ (not f.whole || undivided (view t.now).k p.0 f.opened (entry_of f))
 use Rattle.decide.specs.Laws.Entries.{whole_on, whole_off}
 use borrow.Author.Rules.{rules}
 use Rattle.decide.proofs.entries.whole_right.Goals as goal

@@ -1,4 +1,4 @@
--- src/tiles.rt, covers_whole: r ≡ exactly (view t).k p.0 && s11 (view t).k p.0 && grants_open (view t) p.0
+-- src/tiles.rt, covers_whole: result ≡ exactly (view t.now).k p.0 && s11 (view t.now).k p.0 && grants_open (view t.now) p.0
 use Rattle.decide.specs.Laws.Lines.{root_lacks, root_end}
 use mathlib.Core.Path.{ap}
 use mathlib.Core.Bool.{not}

@@ -1,4 +1,4 @@
--- src/tiles.rt, follows: r ≡ follows first a b
+-- src/tiles.rt, follows: result ≡ follows first a b
 use Rattle.decide.specs.Tiles.{follows}
 use borrow.Author.Rules.{rules}
 use Rattle.decide.proofs.tiles.follows.Goals as goal

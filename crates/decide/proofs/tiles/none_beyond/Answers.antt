@@ -1,4 +1,4 @@
--- src/tiles.rt, none_beyond: r ≡ within a b
+-- src/tiles.rt, none_beyond: result ≡ within a b
 use Rattle.decide.specs.Laws.Tiles.{number_within}
 use borrow.Author.Rules.{rules}
 use Rattle.decide.proofs.tiles.none_beyond.Goals as goal

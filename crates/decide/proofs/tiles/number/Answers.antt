@@ -1,4 +1,4 @@
--- src/tiles.rt, number: r ≡ rights_number a
+-- src/tiles.rt, number: result ≡ rights_number a
 use Rattle.decide.specs.Tiles.{rights_number}
 use mathlib.Core.Path.{refl}
 use borrow.Author.Rules.{rules}

@@ -1,4 +1,4 @@
--- src/tiles.rt, same_rights: r ≡ same_rights a b
+-- src/tiles.rt, same_rights: result ≡ same_rights a b
 use mathlib.Core.Path.{refl}
 use Rattle.sound.specs.Clauses.{same_rights}
 use Rattle.decide.proofs.tiles.same_rights.Goals as goal

@@ -1,3 +1,4 @@
+-- src/tiles.rt, tile: TiledAs (row_of t.now order.now p.0) (opened_bit t.now order.now p.0) n i lo.0 hi.0 r opened result
 use mathlib.Core.Path.{◌≡◌, refl, sym}
 use mathlib.Core.Bool.{true}
 use mathlib.Core.Logic.{◌↔◌}

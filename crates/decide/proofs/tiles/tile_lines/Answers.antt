@@ -1,4 +1,4 @@
--- src/tiles.rt, tile_lines: Tiled (plain_row t order p.0) n i lo.0 hi.0 all_rights x
+-- src/tiles.rt, tile_lines: Tiled (plain_row t.now order.now p.0) n i lo.0 hi.0 all_rights result
 use Prim.Native.Nat.{◌-◌, ◌≤◌}
 use native.Mathlib.Omega.{arith}
 use Rattle.tables.specs.State.{all_rights}

@@ -1,4 +1,4 @@
--- src/tiles.rt, tile_slot: TiledSlot t order p.0 n i q.0 j.0 x
+-- src/tiles.rt, tile_slot: TiledSlot t.now order.now p.0 n i q.0 j.0 result
 use Rattle.tables.specs.Laws.View.{slot_bounds}
 use Rattle.decide.specs.Laws.Tiles.{slot_tiled}
 use Rattle.decide.proofs.tiles.tile_slot.Goals as goal

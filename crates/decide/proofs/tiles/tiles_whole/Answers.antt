@@ -1,4 +1,4 @@
--- src/tiles.rt, tiles_whole: r ≡ exactly (view t).k p.0
+-- src/tiles.rt, tiles_whole: result ≡ exactly (view t.now).k p.0
 use Rattle.decide.specs.Laws.Lines.{root_walk}
 use borrow.Author.Rules.{rules}
 use Rattle.decide.proofs.tiles.tiles_whole.Goals as goal

@@ -1,4 +1,4 @@
--- src/walk.rt, walk: WalkSays t order counts mark 16 0 r next'
+-- src/walk.rt, walk: WalkSays t.now order.now counts.now mark.now 16 0 result next.new
 use Prim.Native.Nat.{◌-◌}
 use native.Mathlib.Omega.{arith}
 use borrow.Author.Tests.{not-false}

@@ -1,4 +1,4 @@
--- src/walk.rt, walk_entries: WalkSays t order counts mark (q.0 + 1) 0 r next'
+-- src/walk.rt, walk_entries: WalkSays t.now order.now counts.now mark.now (q.0 + 1) 0 result next.new
 use Prim.Native.Nat.{◌-◌, ◌≤◌}
 use native.Mathlib.Omega.{arith}
 use borrow.Author.Tests.{not-false}

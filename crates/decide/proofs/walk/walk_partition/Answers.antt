@@ -1,4 +1,4 @@
--- src/walk.rt, walk_partition: WalkSays t order counts mark (q.0 + 1) 0 r next'
+-- src/walk.rt, walk_partition: WalkSays t.now order.now counts.now mark.now (q.0 + 1) 0 result next.new
 use mathlib.Core.Path.{sym, ◌∙◌, ap}
 use borrow.Author.Tests.{not-true}
 use Rattle.decide.specs.Laws.Decide.{passed}

@@ -1,4 +1,4 @@
--- src/check.rt, check_bytes: r ≡ resultOf 0 (checked (image_verdict board table))
+-- src/check.rt, check_bytes: result ≡ result_of 0 (checked (image_verdict board table.now))
 use mathlib.Core.Path.{sym, subst}
 use Rattle.verdict.specs.Verdict.{ClauseNamed}
 use Rattle.verdict.proofs.Theorem.{image_few}

@@ -1,4 +1,4 @@
--- src/check.rt, verdict_word: r ≡ result_of 0 (checked v)
+-- src/check.rt, verdict_word: result ≡ result_of 0 (checked v)
 use mathlib.Core.Path.{ap, sym, ◌∙◌}
 use Rattle.verdict.specs.Verdict.{checked}
 use Rattle.verdict.specs.declared.Verdict.{Verdict}

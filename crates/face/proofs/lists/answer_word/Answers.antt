@@ -1,4 +1,4 @@
--- src/lists.rt, answer_word: r ≡ result_of 0 o
+-- src/lists.rt, answer_word: result ≡ result_of 0 o
 use mathlib.Core.Path.{ap, sym, subst, ◌∙◌}
 use Rattle.face.specs.Face.{result_of}
 use Rattle.face.specs.Lists.{Small}

@@ -1,4 +1,4 @@
--- src/lists.rt, pieces_bytes: PiecesLent board table partition slot list r list'
+-- src/lists.rt, pieces_bytes: PiecesLent board table.now partition slot list.old result list.new
 use mathlib.Core.Path.{refl, sym, subst}
 use native.Mathlib.Omega.{arith}
 use borrow.Author.Rules.{rules}

@@ -1,4 +1,4 @@
--- src/lists.rt, plan_bytes: (r ≡ ready_of board table size) × (now words.exit ≡ leftOf board table)
+-- src/lists.rt, plan_bytes: (result ≡ ready_of board table.now size) × (words.new ≡ left_of board table.now)
 use mathlib.Core.Path.{ap, sym, subst, ◌∙◌}
 use mathlib.Core.List.{List}
 use Prim.Native.Nat.{ℕ}

@@ -1,4 +1,4 @@
--- src/pieces.rt, list_entry: SlotListed board ((view t).k.slot p.0 s.0) list r list'
+-- src/pieces.rt, list_entry: SlotListed board ((view t.now).k.slot p.0 s.0) list.old result list.new
 use native.Mathlib.Omega.{arith}
 use borrow.Author.Tests.{not-true, not-false}
 use Rattle.holders.specs.Laws.Listing.{slot_none, can_list, slot_short, slot_listed}

@@ -1,4 +1,4 @@
--- src/pieces.rt, pieces: PiecesListed board t partition slot list r list'
+-- src/pieces.rt, pieces: PiecesListed board t.now partition slot list.old result list.new
 use Rattle.tables.specs.Laws.Top.{top_16}
 use Rattle.sound.proofs.Laws.Holders.{wrong_length}
 use Rattle.holders.specs.Laws.Listing.{pieces_unsound, pieces_copy}

@@ -1,4 +1,4 @@
--- src/pieces.rt, pieces_table: PiecesListed board t partition slot list r list'
+-- src/pieces.rt, pieces_table: PiecesListed board t.now partition slot list.old result list.new
 use mathlib.Core.Path.{sym, ◌∙◌, ap}
 use borrow.Author.Tests.{not-true}
 use native.Mathlib.Omega.{arith}

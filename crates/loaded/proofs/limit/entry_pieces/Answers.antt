@@ -1,8 +1,7 @@
--- src/limit.rt, entry_pieces: (r ≡ entry_pieces board ((view t).k.slot p.0 i.0)) × (r ≤ 52)
+-- src/limit.rt, entry_pieces: (result ≡ entry_pieces board ((view t.now).k.slot p.0 i.0)) × (result ≤ 52)
 use native.Mathlib.Omega.{arith}
 use borrow.Author.Tests.{not-true, not-false}
 use Rattle.loaded.specs.Laws.Limit.{entry_empty, entry_counted}
-use borrow.Author.Rules.{rules}
 use Rattle.loaded.proofs.limit.entry_pieces.Goals as goal
 
 pub returns-then-not-f : goal.returns-then-not-f

@@ -1,11 +1,8 @@
+-- src/limit.rt, loaded_pieces: result ≡ pieces_of board (view t.now) p.0 f
 use Prim.Native.Nat.{◌-◌}
-use native.Mathlib.Omega.{arith}
-use Rattle.loops.specs.Laws.Count.{Summing, sum_start, sum_on, sum_end}
+use Rattle.loops.specs.Laws.Count.{Summing}
 use Rattle.tables.specs.View.{nth_region, named, view}
 use Rattle.sound.specs.Limit.{region_pieces}
-use Rattle.loaded.specs.Limit.{pieces_of}
-use Rattle.loaded.specs.Laws.Limit.{counted_small}
-use borrow.Author.Rules.{rules}
 use Rattle.loaded.proofs.limit.loaded_pieces.Given as goal
 
 abbrev pub invariant-loop-r : goal.invariant-loop-r

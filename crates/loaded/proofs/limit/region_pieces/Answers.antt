@@ -1,8 +1,7 @@
--- src/limit.rt, region_pieces: (r ≡ region_pieces board ((view t).k.slot p.0) (named x)) × (r ≤ 52)
+-- src/limit.rt, region_pieces: (result ≡ region_pieces board ((view t.now).k.slot p.0) (named x)) × (result ≤ 52)
 use native.Mathlib.Omega.{arith}
 use borrow.Author.Tests.{not-true, not-false}
 use Rattle.loaded.specs.Laws.Limit.{region_empty, region_counted}
-use borrow.Author.Rules.{rules}
 use Rattle.loaded.proofs.limit.region_pieces.Goals as goal
 
 pub returns-then-not-x : goal.returns-then-not-x

@@ -1,8 +1,7 @@
--- src/opening.rt, is_open: r ≡ is_open (view t) p.0 i.0
+-- src/opening.rt, is_open: result ≡ is_open (view t.now) p.0 i.0
 use mathlib.Core.Path.{refl}
 use Rattle.tables.specs.Laws.Search.{entry_some}
 use Rattle.loaded.specs.Opening.{is_open}
-use borrow.Author.Rules.{rules}
 use Rattle.loaded.proofs.opening.is_open.Goals as goal
 
 pub returns-then-f : goal.returns-then-f

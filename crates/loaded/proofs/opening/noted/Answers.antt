@@ -1,4 +1,4 @@
--- src/opening.rt, noted: r ≡ slot_noted mask x
+-- src/opening.rt, noted: result ≡ slot_noted mask x
 use borrow.Author.Tests.{not-true, not-false}
 use Rattle.loaded.specs.Laws.Regions.{noted_none, noted_loaded}
 use Rattle.loaded.proofs.opening.noted.Goals as goal

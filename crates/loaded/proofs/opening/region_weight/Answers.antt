@@ -1,9 +1,8 @@
--- src/opening.rt, region_weight: (r ≡ weight board (view t) p.0 mask x) × (r ≤ 52)
+-- src/opening.rt, region_weight: (result ≡ weight board (view t.now) p.0 mask x) × (result ≤ 52)
 use mathlib.Core.Path.{sym, ◌∙◌}
 use native.Mathlib.Omega.{arith}
 use borrow.Author.Tests.{not-true, not-false}
 use Rattle.loaded.specs.Laws.Regions.{weight_none, weight_closed, weight_again, weight_pieces}
-use borrow.Author.Rules.{rules}
 use Rattle.loaded.proofs.opening.region_weight.Goals as goal
 
 pub returns-then-not-x : goal.returns-then-not-x

@@ -1,9 +1,8 @@
--- src/opening.rt, regions_right: r ≡ s10 board (view t) p.0
+-- src/opening.rt, regions_right: result ≡ s10 board (view t.now) p.0
 use native.Mathlib.Omega.{arith}
 use Rattle.words.specs.Laws.Fields.{regions_small}
-use Rattle.regionwords.specs.Laws.Later.{bytes_left, bytes_fall}
-use Rattle.loaded.specs.Laws.Regions.{WeighingLeft, left_start, left_few, left_on, left_end}
-use borrow.Author.Rules.{rules}
+use Rattle.regionwords.specs.Laws.Later.{bytes_fall}
+use Rattle.loaded.specs.Laws.Regions.{left_start, left_few, left_on, left_end}
 use Rattle.loaded.proofs.opening.regions_right.Goals as goal
 
 pub loop-left-init : goal.loop-left-init

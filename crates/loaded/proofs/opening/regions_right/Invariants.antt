@@ -1,8 +1,6 @@
-use native.Mathlib.Omega.{arith}
-use Rattle.words.specs.Laws.Fields.{regions_small}
-use Rattle.regionwords.specs.Laws.Later.{bytes_left, bytes_fall}
-use Rattle.loaded.specs.Laws.Regions.{WeighingLeft, left_start, left_few, left_on, left_end}
-use borrow.Author.Rules.{rules}
+-- src/opening.rt, regions_right: result ≡ s10 board (view t.now) p.0
+use Rattle.regionwords.specs.Laws.Later.{bytes_left}
+use Rattle.loaded.specs.Laws.Regions.{WeighingLeft}
 use Rattle.loaded.proofs.opening.regions_right.Given as goal
 
 abbrev pub invariant-loop-left : goal.invariant-loop-left

@@ -1,4 +1,4 @@
--- src/backing.rt, backs: r ≡ backs (area_between lo.0 hi.0) (entry_in f)
+-- src/backing.rt, backs: result ≡ backs (area_between lo.0 hi.0) (entry_in f)
 use mathlib.Core.Path.{refl}
 use borrow.Author.Tests.{not-true, not-false, eq-eqb, ne_eqb}
 use Rattle.tables.specs.View.{entry_in}

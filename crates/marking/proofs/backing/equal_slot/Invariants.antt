@@ -1,3 +1,4 @@
+-- src/backing.rt, equal_slot: result ≡ equal_slot (view t.now).k q.0 (area_between lo.0 hi.0)
 use Prim.Native.Nat.{◌-◌}
 use Rattle.loops.specs.Laws.Scan.{Seeking, seek_start, seek_hit, seek_on}
 use Rattle.tables.specs.View.{view}

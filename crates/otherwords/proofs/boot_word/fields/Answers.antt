@@ -1,7 +1,6 @@
--- src/boot_word.rt, fields: r ≡ fields_in boot w
+-- src/boot_word.rt, fields: result ≡ fields_in boot w
 use mathlib.Core.Path.{refl}
 use Rattle.words.specs.Words.{boot}
-use borrow.Author.Rules.{rules}
 use Rattle.otherwords.proofs.boot_word.fields.Goals as goal
 
 pub returns : goal.returns

@@ -1,6 +1,5 @@
--- src/boot_word.rt, read: r ≡ reading boot w
+-- src/boot_word.rt, read: result ≡ reading boot w
 use mathlib.Core.Path.{sym, ap, ◌∙◌}
-use borrow.Author.Rules.{rules}
 use Rattle.words.specs.Laws.Kind.{read_done, read_refused}
 use Rattle.words.specs.Words.{boot}
 use Rattle.otherwords.proofs.boot_word.read.Goals as goal

@@ -1,11 +1,10 @@
--- src/boot_word.rt, write: r ≡ writing boot f
+-- src/boot_word.rt, write: result ≡ writing boot f
 use mathlib.Core.Path.{sym, ap, ◌∙◌}
 use Rattle.words.specs.Laws.Kind.{write_done, write_refused}
 use Rattle.words.specs.Laws.Kinds.{boot_range}
 use Rattle.words.specs.Words.{boot}
 use Rattle.words.specs.declared.Written.TheVariants.{Word}
 use native.Mathlib.Omega.{arith}
-use borrow.Author.Rules.{rules}
 use Rattle.otherwords.proofs.boot_word.write.Goals as goal
 
 pub returns-then-base-ge134217728 : goal.returns-then-base-ge134217728

@@ -1,4 +1,4 @@
--- src/boot_word.rt, zero_bits: r ≡ zero_sum boot.parts w
+-- src/boot_word.rt, zero_bits: result ≡ zero_sum boot.parts w
 use native.Mathlib.Nat.{add-zero, div-one}
 use Rattle.words.specs.Words.{boot}
 use Rattle.otherwords.proofs.boot_word.zero_bits.Goals as goal

@@ -1,6 +1,5 @@
--- src/call_word.rt, read: r ≡ reading call w
+-- src/call_word.rt, read: result ≡ reading call w
 use mathlib.Core.Path.{sym, ap, ◌∙◌}
-use borrow.Author.Rules.{rules}
 use Rattle.words.specs.Laws.Kind.{read_done, read_refused}
 use Rattle.words.specs.Words.{call}
 use Rattle.otherwords.proofs.call_word.read.Goals as goal

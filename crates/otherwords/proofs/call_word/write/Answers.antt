@@ -1,11 +1,10 @@
--- src/call_word.rt, write: r ≡ writing call f
+-- src/call_word.rt, write: result ≡ writing call f
 use mathlib.Core.Path.{sym, ap, ◌∙◌}
 use Rattle.words.specs.Laws.Kind.{write_done, write_refused}
 use Rattle.words.specs.Laws.Kinds.{call_range}
 use Rattle.words.specs.Words.{call}
 use Rattle.words.specs.declared.Written.TheVariants.{Word}
 use native.Mathlib.Omega.{arith}
-use borrow.Author.Rules.{rules}
 use Rattle.otherwords.proofs.call_word.write.Goals as goal
 
 pub returns-then-service-ge16 : goal.returns-then-service-ge16

@@ -1,4 +1,4 @@
--- src/call_word.rt, zero_bits: r ≡ zero_sum call.parts w
+-- src/call_word.rt, zero_bits: result ≡ zero_sum call.parts w
 use native.Mathlib.Nat.{add-zero, div-one}
 use Rattle.words.specs.Words.{call}
 use Rattle.otherwords.proofs.call_word.zero_bits.Goals as goal

@@ -1,7 +1,6 @@
--- src/lines_word.rt, fields: r ≡ fields_in lines w
+-- src/lines_word.rt, fields: result ≡ fields_in lines w
 use mathlib.Core.Path.{refl}
 use Rattle.words.specs.Words.{lines}
-use borrow.Author.Rules.{rules}
 use Rattle.otherwords.proofs.lines_word.fields.Goals as goal
 
 pub returns : goal.returns

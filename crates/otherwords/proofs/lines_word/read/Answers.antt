@@ -1,6 +1,5 @@
--- src/lines_word.rt, read: r ≡ reading lines w
+-- src/lines_word.rt, read: result ≡ reading lines w
 use mathlib.Core.Path.{sym, ap, ◌∙◌}
-use borrow.Author.Rules.{rules}
 use Rattle.words.specs.Laws.Kind.{read_done, read_refused}
 use Rattle.words.specs.Words.{lines}
 use Rattle.otherwords.proofs.lines_word.read.Goals as goal

@@ -1,11 +1,10 @@
--- src/lines_word.rt, write: r ≡ writing lines f
+-- src/lines_word.rt, write: result ≡ writing lines f
 use mathlib.Core.Path.{sym, ap, ◌∙◌}
 use Rattle.words.specs.Laws.Kind.{write_done, write_refused}
 use Rattle.words.specs.Laws.Kinds.{lines_range}
 use Rattle.words.specs.Words.{lines}
 use Rattle.words.specs.declared.Written.TheVariants.{Word}
 use native.Mathlib.Omega.{arith}
-use borrow.Author.Rules.{rules}
 use Rattle.otherwords.proofs.lines_word.write.Goals as goal
 
 pub returns-then-held-ge134217728 : goal.returns-then-held-ge134217728

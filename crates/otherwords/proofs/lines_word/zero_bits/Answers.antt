@@ -1,4 +1,4 @@
--- src/lines_word.rt, zero_bits: r ≡ zero_sum lines.parts w
+-- src/lines_word.rt, zero_bits: result ≡ zero_sum lines.parts w
 use native.Mathlib.Nat.{add-zero, div-one}
 use Rattle.words.specs.Words.{lines}
 use Rattle.otherwords.proofs.lines_word.zero_bits.Goals as goal

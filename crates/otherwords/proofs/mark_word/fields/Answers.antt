@@ -1,4 +1,4 @@
--- src/mark_word.rt, fields: r ≡ fields_in mark m
+-- src/mark_word.rt, fields: result ≡ fields_in mark m
 use native.Mathlib.Nat.{div-one}
 use Rattle.words.specs.Words.{mark}
 use Rattle.otherwords.proofs.mark_word.fields.Goals as goal

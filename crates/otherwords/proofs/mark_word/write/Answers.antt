@@ -1,11 +1,10 @@
--- src/mark_word.rt, write: r ≡ writing mark f
+-- src/mark_word.rt, write: result ≡ writing mark f
 use mathlib.Core.Path.{sym, ap, ◌∙◌}
 use Rattle.words.specs.Laws.Kind.{write_done, write_refused}
 use Rattle.words.specs.Laws.Kinds.{mark_range}
 use Rattle.words.specs.Words.{mark}
 use Rattle.words.specs.declared.Written.TheVariants.{Word}
 use native.Mathlib.Omega.{arith}
-use borrow.Author.Rules.{rules}
 use Rattle.otherwords.proofs.mark_word.write.Goals as goal
 
 pub returns-then-line-ge134217728 : goal.returns-then-line-ge134217728

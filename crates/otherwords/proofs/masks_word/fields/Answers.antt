@@ -1,7 +1,6 @@
--- src/masks_word.rt, fields: r ≡ fields_in masks w
+-- src/masks_word.rt, fields: result ≡ fields_in masks w
 use mathlib.Core.Path.{refl}
 use Rattle.words.specs.Words.{masks}
-use borrow.Author.Rules.{rules}
 use Rattle.otherwords.proofs.masks_word.fields.Goals as goal
 
 pub returns : goal.returns

@@ -1,6 +1,5 @@
--- src/masks_word.rt, read: r ≡ reading masks w
+-- src/masks_word.rt, read: result ≡ reading masks w
 use mathlib.Core.Path.{sym, ap, ◌∙◌}
-use borrow.Author.Rules.{rules}
 use Rattle.words.specs.Laws.Kind.{read_done, read_refused}
 use Rattle.words.specs.Words.{masks}
 use Rattle.otherwords.proofs.masks_word.read.Goals as goal

@@ -1,11 +1,10 @@
--- src/masks_word.rt, write: r ≡ writing masks f
+-- src/masks_word.rt, write: result ≡ writing masks f
 use mathlib.Core.Path.{sym, ap, ◌∙◌}
 use Rattle.words.specs.Laws.Kind.{write_done, write_refused}
 use Rattle.words.specs.Laws.Kinds.{masks_range}
 use Rattle.words.specs.Words.{masks}
 use Rattle.words.specs.declared.Written.TheVariants.{Word}
 use native.Mathlib.Omega.{arith}
-use borrow.Author.Rules.{rules}
 use Rattle.otherwords.proofs.masks_word.write.Goals as goal
 
 pub returns-then-children-ge65536 : goal.returns-then-children-ge65536

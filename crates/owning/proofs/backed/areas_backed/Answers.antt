@@ -1,4 +1,4 @@
--- src/backed.rt, areas_backed: r ≡ all 5 (s8_backed (view t).k p.0)
+-- src/backed.rt, areas_backed: result ≡ all 5 (s8_backed (view t.now).k p.0)
 use mathlib.Core.Path.{ap, sym, ◌∙◌}
 use mathlib.Core.Bool.{not}
 use Prim.Native.Nat.{◌-◌, ◌<◌}

@@ -1,4 +1,4 @@
--- src/backed.rt, header_backed: r ≡ s8_backed (view t).k p.0 0
+-- src/backed.rt, header_backed: result ≡ s8_backed (view t.now).k p.0 0
 use mathlib.Core.Path.{sym, ◌∙◌}
 use borrow.Author.Tests.{not-true, not-false}
 use Rattle.owning.specs.Laws.Backed.{backed_rooted, backed_header_absent, backed_header_parent}

@@ -1,4 +1,4 @@
--- src/backed.rt, structure_backed: r ≡ s8_backed (view t).k p.0 j
+-- src/backed.rt, structure_backed: result ≡ s8_backed (view t.now).k p.0 j
 use mathlib.Core.Path.{sym, ◌∙◌}
 use borrow.Author.Tests.{not-true, not-false}
 use Rattle.owning.specs.Laws.Backed.{backed_rooted, backed_structure_absent, backed_structure_own, backed_structure_parent}

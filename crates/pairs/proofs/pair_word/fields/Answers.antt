@@ -1,7 +1,6 @@
--- src/pair_word.rt, fields: r ≡ fields_in pair w
+-- src/pair_word.rt, fields: result ≡ fields_in pair w
 use native.Mathlib.Nat.{div-one}
 use Rattle.pairs.specs.Word.{pair}
-use borrow.Author.Rules.{rules}
 use Rattle.pairs.proofs.pair_word.fields.Goals as goal
 
 pub returns : goal.returns

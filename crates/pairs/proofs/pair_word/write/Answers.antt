@@ -1,11 +1,10 @@
--- src/pair_word.rt, write: r ≡ writing pair f
+-- src/pair_word.rt, write: result ≡ writing pair f
 use mathlib.Core.Path.{sym, ap, ◌∙◌}
 use Rattle.words.specs.Laws.Kind.{write_done, write_refused}
 use Rattle.pairs.specs.Laws.Word.{pair_range}
 use Rattle.pairs.specs.Word.{pair}
 use Rattle.words.specs.declared.Written.TheVariants.{Word}
 use native.Mathlib.Omega.{arith}
-use borrow.Author.Rules.{rules}
 use Rattle.pairs.proofs.pair_word.write.Goals as goal
 
 pub returns-then-base-ge134217728 : goal.returns-then-base-ge134217728

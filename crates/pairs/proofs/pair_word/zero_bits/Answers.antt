@@ -1,7 +1,6 @@
--- src/pair_word.rt, zero_bits: r ≡ zero_sum pair.parts w
+-- src/pair_word.rt, zero_bits: result ≡ zero_sum pair.parts w
 use native.Mathlib.Nat.{add-zero}
 use Rattle.pairs.specs.Word.{pair}
-use borrow.Author.Rules.{rules}
 use Rattle.pairs.proofs.pair_word.zero_bits.Goals as goal
 
 pub returns : goal.returns

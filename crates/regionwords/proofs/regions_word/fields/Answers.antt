@@ -1,7 +1,6 @@
--- src/regions_word.rt, fields: r ≡ fields_in regions w
+-- src/regions_word.rt, fields: result ≡ fields_in regions w
 use native.Mathlib.Nat.{div-one}
 use Rattle.words.specs.Words.{regions}
-use borrow.Author.Rules.{rules}
 use Rattle.regionwords.proofs.regions_word.fields.Goals as goal
 
 pub returns : goal.returns

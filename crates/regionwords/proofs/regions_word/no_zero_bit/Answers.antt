@@ -1,7 +1,6 @@
--- src/regions_word.rt, no_zero_bit: r ≡ zeroed regions w
+-- src/regions_word.rt, no_zero_bit: result ≡ zeroed regions w
 use mathlib.Core.Bool.{and-true}
 use Rattle.words.specs.Words.{regions}
-use borrow.Author.Rules.{rules}
 use Rattle.regionwords.proofs.regions_word.no_zero_bit.Goals as goal
 
 pub returns : goal.returns

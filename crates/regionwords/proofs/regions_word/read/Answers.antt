@@ -1,6 +1,5 @@
--- src/regions_word.rt, read: r ≡ reading regions w
+-- src/regions_word.rt, read: result ≡ reading regions w
 use mathlib.Core.Path.{sym, ap, ◌∙◌}
-use borrow.Author.Rules.{rules}
 use Rattle.words.specs.Laws.Kind.{read_done, read_refused}
 use Rattle.words.specs.Words.{regions}
 use Rattle.regionwords.proofs.regions_word.read.Goals as goal

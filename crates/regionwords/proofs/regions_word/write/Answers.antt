@@ -1,4 +1,4 @@
--- src/regions_word.rt, write: r ≡ writing regions f
+-- src/regions_word.rt, write: result ≡ writing regions f
 use mathlib.Core.Path.{sym, ap, ◌∙◌}
 use Rattle.words.specs.Laws.Kind.{write_done, write_refused}
 use Rattle.words.specs.Laws.Kinds.{regions_range}
@@ -6,7 +6,6 @@ use Rattle.regionwords.specs.Laws.Slots.{eight_slots}
 use Rattle.words.specs.Words.{regions}
 use Rattle.words.specs.declared.Written.TheVariants.{Word}
 use native.Mathlib.Omega.{arith}
-use borrow.Author.Rules.{rules}
 use Rattle.regionwords.proofs.regions_word.write.Goals as goal
 
 pub returns-then-wide-ne0 : goal.returns-then-wide-ne0

@@ -1,7 +1,6 @@
--- src/regions_word.rt, zero_bits: r ≡ zero_sum regions.parts w
+-- src/regions_word.rt, zero_bits: result ≡ zero_sum regions.parts w
 use native.Mathlib.Nat.{add-zero}
 use Rattle.words.specs.Words.{regions}
-use borrow.Author.Rules.{rules}
 use Rattle.regionwords.proofs.regions_word.zero_bits.Goals as goal
 
 pub returns : goal.returns

@@ -1,4 +1,4 @@
--- src/marks.rt, mark_of: r ≡ mark_for line.0 holder.0
+-- src/marks.rt, mark_of: result ≡ mark_for line.0 holder.0
 use mathlib.Core.Path.{◌∙◌}
 use borrow.Author.Rules.{rules}
 use Rattle.runs.specs.Laws.Ways.{kept_mark}

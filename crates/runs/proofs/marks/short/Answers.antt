@@ -1,4 +1,4 @@
--- src/marks.rt, short: r ≡ word_written word
+-- src/marks.rt, short: result ≡ word_written word
 use mathlib.Core.Path.{subst}
 use borrow.Author.Rules.{rules}
 use Rattle.runs.specs.Ways.{Short}

@@ -1,3 +1,4 @@
+-- src/pieces.rt, climb: Climbed way.now depth l.0 result
 use mathlib.Core.Path.{ap}
 use native.Mathlib.Omega.{arith}
 use borrow.Author.Rules.{rules}

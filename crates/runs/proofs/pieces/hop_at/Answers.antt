@@ -1,4 +1,4 @@
--- src/pieces.rt, hop_at: Hopped (view t).k l.0 p.0 r × Passed (view t).k order l.0 places'
+-- src/pieces.rt, hop_at: Hopped (view t.now).k l.0 p.0 result × Passed (view t.now).k order.now l.0 places.new
 use native.Mathlib.Omega.{arith}
 use borrow.Author.Rules.{rules}
 use Prim.Native.Nat.{◌-◌}

@@ -1,4 +1,4 @@
--- src/pieces.rt, piece_at: Pieced (view t).k order l.0 r places' way'
+-- src/pieces.rt, piece_at: Pieced (view t.now).k order.now l.0 result places.new way.new
 -- `runs::pieces::piece_at` meets its contract: at each turn the descent from p comes to the same piece as from the root.
 use native.Mathlib.Omega.{arith}
 use borrow.Author.Rules.{rules}

@@ -1,3 +1,4 @@
+-- src/pieces.rt, piece_at: Pieced (view t.now).k order.now l.0 result places.new way.new
 use native.Mathlib.Omega.{arith}
 use borrow.Author.Rules.{rules}
 use Prim.Native.Nat.{◌-◌}

@@ -1,4 +1,4 @@
--- src/walk.rt, leave_marks: (r ≡ length (runs_of (view t).k)) × (now t.exit ≡ marks_over 641 (view t).k t)
+-- src/walk.rt, leave_marks: (result ≡ length (runs_of (view t.old).k)) × (t.new ≡ marks_over 641 (view t.old).k t.old)
 use mathlib.Core.Path.{refl, ap, ◌∙◌}
 use lib.ListN.{length, replicate}
 use native.Mathlib.Omega.{arith}

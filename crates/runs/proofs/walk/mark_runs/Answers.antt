@@ -1,4 +1,4 @@
--- src/walk.rt, mark_runs: (r ≡ length (runs_of (view t).k)) × (now marks.exit ≡ marks_over 513 (view t).k marks)
+-- src/walk.rt, mark_runs: (result ≡ length (runs_of (view t.now).k)) × (marks.new ≡ marks_over 513 (view t.now).k marks.old)
 -- `runs::walk::mark_runs` meets its contract: at each turn the marks are those of the runs behind, and the way is that of the line.
 use mathlib.Core.Path.{sym}
 use native.Mathlib.Omega.{arith}

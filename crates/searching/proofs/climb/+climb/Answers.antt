@@ -1,4 +1,4 @@
--- src/climb.rt, climb: WentUp (view t).k.parent p.0 steps way r way'
+-- src/climb.rt, climb: WentUp (view t.now).k.parent p.0 steps way.old result way.new
 use native.Mathlib.Omega.{arith}
 use borrow.Author.Rules.{rules}
 use Rattle.tables.specs.Laws.WayUp.{room_fits, room_step, up_root, up_lost, up_step}

@@ -1,6 +1,4 @@
-use Rattle.std.proofs.Common.{◌≤◌, ◌<◌, length, ◌≡◌, ℕ, ◌+◌, ◌-◌, ◌*◌}
-use Rattle.tables.specs.View.{view}
-use Rattle.tables.specs.WayUp.{HasRoom, WentUp, WayWritten}
+-- src/climb.rt, climb: WentUp (view t.now).k.parent p.0 steps way.old result way.new
 use Rattle.searching.proofs.climb.+climb.Given as goal
 
 -- proposed from what the function passes where it calls itself

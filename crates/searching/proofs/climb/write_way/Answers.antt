@@ -1,7 +1,7 @@
--- src/climb.rt, write_way: WayWritten way list r list'
+-- src/climb.rt, write_way: WayWritten way list.old result list.new
 use native.Mathlib.Omega.{arith}
 use borrow.Author.Rules.{rules}
-use Rattle.tables.specs.Laws.WayUp.{WayWriting, write_start, same_room, set_room, write_more, write_end}
+use Rattle.tables.specs.Laws.WayUp.{write_start, same_room, set_room, write_more, write_end}
 use Rattle.searching.proofs.climb.write_way.Goals as goal
 
 pub loop-left-init : goal.loop-left-init

@@ -1,6 +1,5 @@
-use native.Mathlib.Omega.{arith}
-use borrow.Author.Rules.{rules}
-use Rattle.tables.specs.Laws.WayUp.{WayWriting, write_start, same_room, set_room, write_more, write_end}
+-- src/climb.rt, write_way: WayWritten way list.old result list.new
+use Rattle.tables.specs.Laws.WayUp.{WayWriting}
 use Rattle.searching.proofs.climb.write_way.Given as goal
 
 abbrev pub invariant-loop-left : goal.invariant-loop-left

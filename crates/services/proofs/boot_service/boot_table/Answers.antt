@@ -1,4 +1,4 @@
--- src/boot_service.rt, boot_table: Ran (boot_on t base end) t r t'
+-- src/boot_service.rt, boot_table: Ran (boot_on t.old base end) t.old result t.new
 use Rattle.rules.specs.Laws.Ran.{ran_refused, ran_done}
 use Rattle.services.specs.Laws.Boot.{boot_empty, boot_high, boot_done}
 use native.Mathlib.Omega.{arith}

@@ -1,4 +1,4 @@
--- src/boot_service.rt, put_root: now t.exit ≡ encode (settle (boot_k base.0 end.0) (λ p r. none))
+-- src/boot_service.rt, put_root: t.new ≡ encode (settle (boot_k base.0 end.0) (λ p r. none))
 use mathlib.Core.Path.{refl}
 use Rattle.tables.specs.Laws.Encode.{is_canon}
 use Rattle.services.specs.Laws.Boot.{root_words}

@@ -1,4 +1,4 @@
--- src/clear_service.rt, clear_children: Cleared t p.0 (r + 1) t', clear_partition: Cleared t p.0 r t'
+-- src/clear_service.rt, clear_children: Cleared t.old p.0 (result + 1) t.new; clear_partition: Cleared t.old p.0 result t.new
 use mathlib.Core.Path.{sym, ◌∙◌}
 use native.Mathlib.Omega.{arith}
 use borrow.Author.Rules.{rules}

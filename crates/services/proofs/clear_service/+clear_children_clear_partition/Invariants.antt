@@ -1,3 +1,4 @@
+-- src/clear_service.rt, clear_children: Cleared t.old p.0 (result + 1) t.new; clear_partition: Cleared t.old p.0 result t.new
 use Prim.Native.Nat.{◌+◌, ◌-◌, ◌*◌}
 use Rattle.tables.specs.View.{view}
 use Rattle.services.specs.Laws.ClearExits.{left, Emptying}

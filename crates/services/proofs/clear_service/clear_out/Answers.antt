@@ -1,4 +1,4 @@
--- src/clear_service.rt, clear_out: Ran (clear_out (view t) p.0) t r t'
+-- src/clear_service.rt, clear_out: Ran (clear_out (view t.old) p.0) t.old result t.new
 use mathlib.Core.Path.{sym, ◌∙◌}
 use borrow.Author.Tests.{not-true, not-false}
 use Rattle.tables.specs.Laws.Encode.{is_canon}

@@ -1,4 +1,4 @@
--- src/collect_service.rt, collect: Ran (collect (view t) p.0 j) t r t'
+-- src/collect_service.rt, collect: Ran (collect (view t.old) p.0 j) t.old result t.new
 use mathlib.Core.Path.{refl, sym, ◌∙◌}
 use borrow.Author.Tests.{not-true, not-false}
 use Rattle.tables.specs.Laws.Encode.{is_canon}

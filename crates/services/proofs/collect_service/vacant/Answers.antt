@@ -1,4 +1,4 @@
--- src/collect_service.rt, vacant: r ≡ vacant (view t).k p.0 j
+-- src/collect_service.rt, vacant: result ≡ vacant (view t.now).k p.0 j
 use Rattle.loops.specs.Laws.Every.{Passing}
 use Rattle.loops.specs.Laws.Scan.{seek_start, seek_hit, seek_on, seek_end}
 use Rattle.tables.specs.View.{view}

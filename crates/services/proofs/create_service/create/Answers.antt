@@ -1,4 +1,4 @@
--- src/create_service.rt, create: Ran (create (view t) s.0) t r t'
+-- src/create_service.rt, create: Ran (create (view t.old) s.0) t.old result t.new
 use mathlib.Core.Path.{refl, ap, sym, ◌∙◌}
 use mathlib.Core.Bool.{not}
 use borrow.Author.Tests.{lt-leb, le-leb}

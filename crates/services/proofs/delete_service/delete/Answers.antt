@@ -1,4 +1,4 @@
--- src/delete_service.rt, delete: Ran (delete (view t) p.0) t r t'
+-- src/delete_service.rt, delete: Ran (delete (view t.old) p.0) t.old result t.new
 use mathlib.Core.Path.{sym, ◌∙◌}
 use borrow.Author.Tests.{not-true, not-false}
 use Rattle.tables.specs.Laws.Encode.{is_canon}

@@ -1,3 +1,4 @@
+-- src/delete_service.rt, ungive: Is t.new (ungiven (view t.old) c.0 p.0)
 use Prim.Native.Nat.{◌-◌}
 use Rattle.tables.specs.View.{view}
 use Rattle.tables.specs.Laws.Encode.{is_canon}

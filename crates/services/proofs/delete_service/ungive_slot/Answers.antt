@@ -1,4 +1,4 @@
--- src/delete_service.rt, ungive_slot: Is t' (ungive_at (view t) c.0 p.0 i.0)
+-- src/delete_service.rt, ungive_slot: Is t.new (ungive_at (view t.old) c.0 p.0 i.0)
 use borrow.Author.Tests.{not-true, not-false}
 use Rattle.services.specs.Laws.DeleteExits.{ungive_empty, ungive_others, ungive_done}
 use native.Mathlib.Omega.{arith}

@@ -1,4 +1,4 @@
--- src/find_service.rt, find: Ran (find (view t) p.0 l.0) t r t
+-- src/find_service.rt, find: Ran (find (view t.now) p.0 l.0) t.now result t.now
 use mathlib.Core.Path.{sym, ◌∙◌}
 use borrow.Author.Tests.{not-true, not-false}
 use Rattle.tables.specs.Laws.Search.{lowest_some}

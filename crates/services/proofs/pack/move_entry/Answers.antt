@@ -1,4 +1,4 @@
--- src/pack.rt, move_entry: Is t' (movedTo (view t) p.0 i.0 j.0 f)
+-- src/pack.rt, move_entry: Is t.new (moved_to (view t.old) p.0 i.0 j.0 f)
 use mathlib.Core.Bool.{false}
 use Rattle.tables.specs.State.{Table, none}
 use Rattle.tables.specs.Laws.Encode.{is_canon}

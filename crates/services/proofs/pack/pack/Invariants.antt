@@ -1,3 +1,4 @@
+-- src/pack.rt, pack: Ran (pack (view t.old) p.0) t.old result t.new
 use mathlib.Core.Path.{sym, ◌∙◌}
 use Prim.Native.Nat.{◌-◌}
 use native.Mathlib.Omega.{arith}

@@ -1,4 +1,4 @@
--- src/pack.rt, pack_slot: Turned (view t) p.0 i.0 moved t' r
+-- src/pack.rt, pack_slot: Turned (view t.old) p.0 i.0 moved t.new result
 use mathlib.Core.Path.{sym, ◌∙◌}
 use borrow.Author.Tests.{not-true, not-false}
 use Rattle.tables.specs.Laws.Search.{lowest_some}

@@ -1,4 +1,4 @@
--- src/pack.rt, rename_region: Is t' (rename_at (view t) p.0 i.0 j.0 r)
+-- src/pack.rt, rename_region: Is t.new (rename_at (view t.old) p.0 i.0 j.0 r)
 use borrow.Author.Tests.{not-true, not-false}
 use Rattle.services.specs.Laws.PackExits.{rename_unloaded, rename_other, rename_hit}
 use borrow.Author.Rules.{rules}

@@ -1,4 +1,4 @@
--- src/pack.rt, rename_regions: Is t' (renamed (view t) p.0 i.0 j.0)
+-- src/pack.rt, rename_regions: Is t.new (renamed (view t.old) p.0 i.0 j.0)
 use Prim.Native.Nat.{◌-◌}
 use Rattle.tables.specs.View.{view}
 use Rattle.tables.specs.Laws.Encode.{is_canon}

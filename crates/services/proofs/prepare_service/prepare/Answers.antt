@@ -1,4 +1,4 @@
--- src/prepare_service.rt, prepare: Ran (prepare (view t) p.0 s.0) t r t'
+-- src/prepare_service.rt, prepare: Ran (prepare (view t.old) p.0 s.0) t.old result t.new
 use mathlib.Core.Path.{refl, ap, sym, ◌∙◌}
 use mathlib.Core.Bool.{not}
 use borrow.Author.Tests.{not-true, not-false, lt-leb, le-leb}

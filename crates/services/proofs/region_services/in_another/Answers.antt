@@ -1,4 +1,4 @@
--- src/region_services.rt, in_another: b ≡ in_another (view t) p.0 s.0 r q
+-- src/region_services.rt, in_another: result ≡ in_another (view t.now) p.0 s.0 r q
 use borrow.Author.Tests.{not-true, not-false}
 use Rattle.services.specs.Laws.RegionExits.{region_none, region_some, another_same, another_none, another_some}
 use borrow.Author.Rules.{rules}

@@ -1,4 +1,4 @@
--- src/region_services.rt, load: Ran (load board (view t) p.0 s.0 r) t o t'
+-- src/region_services.rt, load: Ran (load board (view t.old) p.0 s.0 r) t.old result t.new
 use mathlib.Core.Path.{sym, ◌∙◌}
 use borrow.Author.Tests.{not-true, not-false}
 use Rattle.tables.specs.Laws.Seen.{entry_none, entry_there}

@@ -1,4 +1,4 @@
--- src/region_services.rt, loaded_elsewhere: b ≡ elsewhere (view t) p.0 s.0 r
+-- src/region_services.rt, loaded_elsewhere: result ≡ elsewhere (view t.now) p.0 s.0 r
 use mathlib.Core.Path.{sym, ◌∙◌}
 use Prim.Native.Nat.{◌-◌}
 use Rattle.loops.specs.Laws.Every.{Missing}

@@ -1,4 +1,4 @@
--- src/region_services.rt, read_region: Ran (read_region (view t) p.0 r) t o t
+-- src/region_services.rt, read_region: Ran (read_region (view t.now) p.0 r) t.now result t.now
 use mathlib.Core.Path.{sym, ◌∙◌}
 use borrow.Author.Tests.{not-true, not-false}
 use Rattle.tables.specs.Laws.Encode.{canon_is}

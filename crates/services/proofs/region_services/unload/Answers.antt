@@ -1,4 +1,4 @@
--- src/region_services.rt, unload: Ran (unload (view t) p.0 r) t o t'
+-- src/region_services.rt, unload: Ran (unload (view t.old) p.0 r) t.old result t.new
 use mathlib.Core.Path.{refl, sym, ◌∙◌}
 use borrow.Author.Tests.{not-true, not-false}
 use Rattle.sound.specs.Laws.Settled.{unload_settled, settled_words}

@@ -1,4 +1,4 @@
--- src/switch_service.rt, switch: Ran (switch (view t) p.0) t r t'
+-- src/switch_service.rt, switch: Ran (switch (view t.old) p.0) t.old result t.new
 use mathlib.Core.Path.{refl, sym, ◌∙◌}
 use borrow.Author.Tests.{not-true, not-false}
 use Rattle.sound.specs.Laws.Settled.{current_settled, settled_words}

@@ -1,4 +1,4 @@
--- src/who.rt, own_or_child: r ≡ own_or_child (view t).k p.0
+-- src/who.rt, own_or_child: result ≡ own_or_child (view t.now).k p.0
 use Rattle.services.specs.Laws.Who.{own_caller, own_other}
 use borrow.Author.Rules.{rules}
 use Rattle.services.proofs.who.own_or_child.Goals as goal

@@ -1,4 +1,4 @@
--- src/who.rt, parent_or_child: r ≡ parent_or_child (view t).k p.0
+-- src/who.rt, parent_or_child: result ≡ parent_or_child (view t.now).k p.0
 use Rattle.services.specs.Laws.Who.{is_parent, of_root, not_parent}
 use borrow.Author.Rules.{rules}
 use Rattle.services.proofs.who.parent_or_child.Goals as goal

@@ -1,8 +1,7 @@
--- src/came.rt, close_slot: SlotDone (Came lo.0 hi.0) p.0 i.0 t t'
+-- src/came.rt, close_slot: SlotDone (Came lo.0 hi.0) p.0 i.0 t.old t.new
 use borrow.Author.Tests.{not-true, not-false}
 use Rattle.settling.specs.Laws.Areas.{off_behind, off_before, on_both}
 use Rattle.settling.specs.Laws.Settled.{stays_closed, stays_open, close_canon, closes}
-use borrow.Author.Rules.{rules}
 use Rattle.settling.proofs.came.close_slot.Goals as goal
 
 pub returns-then-not-f : goal.returns-then-not-f

@@ -1,8 +1,7 @@
+-- src/came.rt, close_slots: RecordDone (Came lo.0 hi.0) p.0 t.old t.new
 use Prim.Native.Nat.{◌-◌}
 use Rattle.settling.specs.Settled.{Came}
-use Rattle.settling.specs.Laws.Settled.{SettledRowTo, settled_row_start, settled_row_more, settled_row_end}
-use native.Mathlib.Omega.{arith}
-use borrow.Author.Rules.{rules}
+use Rattle.settling.specs.Laws.Settled.{SettledRowTo}
 use Rattle.settling.proofs.came.close_slots.Given as goal
 
 abbrev pub invariant-loop-i : goal.invariant-loop-i

@@ -1,6 +1,5 @@
--- src/came.rt, settle_named: now t.exit ≡ encode (settled (view t))
-use Rattle.settling.specs.Settled.{Came}
-use Rattle.settling.specs.Laws.Settled.{MaskedTo, masked_start, masked_small, masked_done, masked_pass, masked_end}
+-- src/came.rt, settle_named: t.new ≡ encode (settled (view t.old))
+use Rattle.settling.specs.Laws.Settled.{masked_start, masked_small, masked_done, masked_pass, masked_end}
 use native.Mathlib.Omega.{arith}
 use Rattle.settling.proofs.came.settle_named.Goals as goal
 use Rattle.settling.proofs.came.settle_named.Goals.{then-rest-eq1, else-rest-eq1}

@@ -1,7 +1,6 @@
-use mathlib.Core.Logic.{⊎_elim}
+-- src/came.rt, settle_named: t.new ≡ encode (settled (view t.old))
 use Rattle.settling.specs.Settled.{Came}
-use Rattle.settling.specs.Laws.Settled.{MaskedTo, masked_start, masked_small, masked_done, masked_pass, masked_end}
-use native.Mathlib.Omega.{arith}
+use Rattle.settling.specs.Laws.Settled.{MaskedTo}
 use Rattle.settling.proofs.came.settle_named.Given as goal
 
 abbrev pub invariant-loop-rest : goal.invariant-loop-rest

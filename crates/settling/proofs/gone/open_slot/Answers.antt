@@ -1,7 +1,6 @@
--- src/gone.rt, open_slot: SlotDone Gone p.0 i.0 t t'
+-- src/gone.rt, open_slot: SlotDone Gone p.0 i.0 t.old t.new
 use borrow.Author.Tests.{not-true, not-false}
 use Rattle.settling.specs.Laws.Settled.{stays_empty, open_stays, opens}
-use borrow.Author.Rules.{rules}
 use Rattle.settling.proofs.gone.open_slot.Goals as goal
 
 pub returns-then-not-f : goal.returns-then-not-f

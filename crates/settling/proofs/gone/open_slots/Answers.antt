@@ -1,9 +1,6 @@
--- src/gone.rt, open_slots: RecordDone Gone p.0 t t'
-use Prim.Native.Nat.{◌-◌}
-use Rattle.settling.specs.Settled.{Gone}
-use Rattle.settling.specs.Laws.Settled.{SettledRowTo, settled_row_start, settled_row_more, settled_row_end, near_areas}
+-- src/gone.rt, open_slots: RecordDone Gone p.0 t.old t.new
+use Rattle.settling.specs.Laws.Settled.{settled_row_start, settled_row_more, settled_row_end, near_areas}
 use native.Mathlib.Omega.{arith}
-use borrow.Author.Rules.{rules}
 use Rattle.settling.proofs.gone.open_slots.Goals as goal
 
 pub used_slots-m-requires : goal.used_slots-m-requires

@@ -1,8 +1,7 @@
+-- src/gone.rt, open_slots: RecordDone Gone p.0 t.old t.new
 use Prim.Native.Nat.{◌-◌}
 use Rattle.settling.specs.Settled.{Gone}
-use Rattle.settling.specs.Laws.Settled.{SettledRowTo, settled_row_start, settled_row_more, settled_row_end, near_areas}
-use native.Mathlib.Omega.{arith}
-use borrow.Author.Rules.{rules}
+use Rattle.settling.specs.Laws.Settled.{SettledRowTo}
 use Rattle.settling.proofs.gone.open_slots.Given as goal
 
 abbrev pub invariant-loop-i : goal.invariant-loop-i

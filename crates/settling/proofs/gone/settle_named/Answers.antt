@@ -1,8 +1,7 @@
--- src/gone.rt, settle_named: now t.exit ≡ encode (settled (view t))
+-- src/gone.rt, settle_named: t.new ≡ encode (settled (view t.old))
 use mathlib.Core.Path.{refl}
 use Rattle.tables.specs.Laws.Top.{top_16}
-use Rattle.settling.specs.Settled.{Gone}
-use Rattle.settling.specs.Laws.Settled.{MaskedTo, masked_start, masked_small, masked_done, masked_pass, masked_end, near_areas}
+use Rattle.settling.specs.Laws.Settled.{masked_start, masked_small, masked_done, masked_pass, masked_end, near_areas}
 use native.Mathlib.Omega.{arith}
 use Rattle.settling.proofs.gone.settle_named.Goals as goal
 use Rattle.settling.proofs.gone.settle_named.Goals.{then-rest-eq1, else-rest-eq1}

@@ -1,10 +1,8 @@
--- src/records.rt, all_blank: r ≡ all 8 (λ i. blank_region (nth_region (fields_in regions w) i))
+-- src/records.rt, all_blank: result ≡ all 8 (λ i. blank_region (nth_region (fields_in regions w) i))
 use mathlib.Core.Path.{sym, ◌∙◌}
 use native.Mathlib.Omega.{arith}
-use borrow.Author.Tests.{not-true, not-false}
-use Rattle.regionwords.specs.Laws.Later.{bytes_left, bytes_fall}
-use Rattle.shape.specs.Laws.Records.{BlankTo, blank_start, blank_fails, blank_on, blank_end}
-use borrow.Author.Rules.{rules}
+use Rattle.regionwords.specs.Laws.Later.{bytes_fall}
+use Rattle.shape.specs.Laws.Records.{blank_start, blank_fails, blank_on, blank_end}
 use Rattle.shape.proofs.records.all_blank.Goals as goal
 
 pub loop-left-init : goal.loop-left-init

@@ -1,9 +1,6 @@
-use mathlib.Core.Path.{sym, ◌∙◌}
-use native.Mathlib.Omega.{arith}
-use borrow.Author.Tests.{not-true, not-false}
-use Rattle.regionwords.specs.Laws.Later.{bytes_left, bytes_fall}
-use Rattle.shape.specs.Laws.Records.{BlankTo, blank_start, blank_fails, blank_on, blank_end}
-use borrow.Author.Rules.{rules}
+-- src/records.rt, all_blank: result ≡ all 8 (λ i. blank_region (nth_region (fields_in regions w) i))
+use Rattle.regionwords.specs.Laws.Later.{bytes_left}
+use Rattle.shape.specs.Laws.Records.{BlankTo}
 use Rattle.shape.proofs.records.all_blank.Given as goal
 
 abbrev pub invariant-loop-left : goal.invariant-loop-left

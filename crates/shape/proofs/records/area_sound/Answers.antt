@@ -1,8 +1,7 @@
--- src/records.rt, area_sound: r ≡ area_test p.0 j (record { lo = a.0; hi = b.0 })
+-- src/records.rt, area_sound: result ≡ area_test p.0 j (record { lo = a.0; hi = b.0 })
 use mathlib.Core.Path.{refl, sym, ◌∙◌}
 use Rattle.sound.specs.Clauses.{long}
 use Rattle.shape.specs.Records.{area_test}
-use borrow.Author.Rules.{rules}
 use Rattle.shape.proofs.records.area_sound.Goals as goal
 
 pub returns-then-is_rooted : goal.returns-then-is_rooted

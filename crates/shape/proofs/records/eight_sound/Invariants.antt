@@ -1,14 +1,8 @@
-use mathlib.Core.Path.{ap, sym, ◌∙◌}
-use mathlib.Core.Bool.{not}
+-- src/records.rt, eight_sound: result ≡ slots_test t.now (view t.now).k p.0 j
 use Prim.Native.Nat.{◌+◌, ◌-◌, ◌*◌}
 use Rattle.loops.specs.Laws.Every.{Passing}
-use Rattle.loops.specs.Laws.Scan.{seek_start, seek_hit, seek_on, seek_end}
 use Rattle.tables.specs.View.{view}
 use Rattle.sound.specs.Clauses.{s5_slot}
-use Rattle.shape.specs.Records.{slots_test}
-use Rattle.shape.specs.Laws.Records.{eight_in}
-use native.Mathlib.Omega.{arith}
-use borrow.Author.Rules.{rules}
 use Rattle.shape.proofs.records.eight_sound.Given as goal
 
 abbrev pub invariant-loop-o : goal.invariant-loop-o

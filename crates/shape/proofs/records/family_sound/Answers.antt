@@ -1,7 +1,6 @@
--- src/records.rt, family_sound: r ≡ s2 t (view t).k p.0
+-- src/records.rt, family_sound: result ≡ s2 t.now (view t.now).k p.0
 use mathlib.Core.Path.{refl}
 use mathlib.Core.Bool.{and-false}
-use borrow.Author.Rules.{rules}
 use borrow.Author.Tests.{not-true, not-false, eq-eqb, ne_eqb}
 use Rattle.tables.specs.View.{header_area}
 use Rattle.tables.specs.Search.{present}

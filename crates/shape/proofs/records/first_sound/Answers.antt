@@ -1,7 +1,6 @@
--- src/records.rt, first_sound: r ≡ s1 (view t).k && s3_first t
+-- src/records.rt, first_sound: result ≡ s1 (view t.now).k && s3_first t.now
 use mathlib.Core.Path.{refl}
-use borrow.Author.Rules.{rules}
-use borrow.Author.Tests.{not-true, not-false, le-ltb, lt-ltb}
+use borrow.Author.Tests.{le-ltb, lt-ltb}
 use Rattle.sound.specs.Clauses.{s1, s3_first}
 use Rattle.shape.proofs.records.first_sound.Goals as goal
 

@@ -1,6 +1,5 @@
--- src/records.rt, header_sound: r ≡ header_test t (view t).k p.0
+-- src/records.rt, header_sound: result ≡ header_test t.now (view t.now).k p.0
 use mathlib.Core.Path.{refl}
-use borrow.Author.Rules.{rules}
 use borrow.Author.Tests.{not-true, not-false}
 use Rattle.tables.specs.View.{header_area}
 use Rattle.sound.specs.Clauses.{when, s4_area}

@@ -1,4 +1,4 @@
--- src/records.rt, is_blank: r ≡ blank_region x
+-- src/records.rt, is_blank: result ≡ blank_region x
 use mathlib.Core.Path.{refl}
 use Rattle.sound.specs.Clauses.{blank_region}
 use Rattle.shape.proofs.records.is_blank.Goals as goal

@@ -1,4 +1,4 @@
--- src/records.rt, is_nowhere: r ≡ is_nowhere (record { lo = a.0; hi = b.0 })
+-- src/records.rt, is_nowhere: result ≡ is_nowhere (record { lo = a.0; hi = b.0 })
 use mathlib.Core.Path.{refl}
 use borrow.Author.Tests.{eq-eqb, ne_eqb}
 use Rattle.sound.specs.Clauses.{is_nowhere}

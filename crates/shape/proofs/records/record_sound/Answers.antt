@@ -1,7 +1,5 @@
--- src/records.rt, record_sound: r ≡ s3 t p.0 && s4 t (view t).k p.0 && s5 t (view t).k p.0
+-- src/records.rt, record_sound: result ≡ s3 t.now p.0 && s4 t.now (view t.now).k p.0 && s5 t.now (view t.now).k p.0
 use mathlib.Core.Path.{refl}
-use borrow.Author.Rules.{rules}
-use borrow.Author.Tests.{not-true, not-false}
 use Rattle.shape.specs.Laws.Records.{record_test, record_is}
 use Rattle.shape.proofs.records.record_sound.Goals as goal
 

@@ -1,7 +1,5 @@
--- src/records.rt, regions_sound: r ≡ s3_regions t p.0
+-- src/records.rt, regions_sound: result ≡ s3_regions t.now p.0
 use mathlib.Core.Path.{refl}
-use borrow.Author.Rules.{rules}
-use borrow.Author.Tests.{not-true, not-false}
 use Rattle.sound.specs.Clauses.{s3_regions}
 use Rattle.shape.proofs.records.regions_sound.Goals as goal
 

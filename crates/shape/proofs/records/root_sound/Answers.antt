@@ -1,6 +1,5 @@
--- src/records.rt, root_sound: r ≡ s2_root (view t).k p.0
+-- src/records.rt, root_sound: result ≡ s2_root (view t.now).k p.0
 use mathlib.Core.Path.{refl}
-use borrow.Author.Rules.{rules}
 use borrow.Author.Tests.{not-true, not-false}
 use Rattle.tables.specs.View.{header_area}
 use Rattle.sound.specs.Clauses.{has, s2_root}

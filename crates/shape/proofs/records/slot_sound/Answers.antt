@@ -1,6 +1,5 @@
--- src/records.rt, slot_sound: r ≡ s5_slot t (view t).k p.0 i.0
+-- src/records.rt, slot_sound: result ≡ s5_slot t.now (view t.now).k p.0 i.0
 use mathlib.Core.Path.{refl, sym, ◌∙◌}
-use borrow.Author.Rules.{rules}
 use borrow.Author.Tests.{not-true, not-false, eqb-true}
 use Rattle.tables.specs.View.{entry_in}
 use Rattle.sound.specs.Clauses.{when, s5_slot}

@@ -1,14 +1,9 @@
--- src/records.rt, slots_sound: r ≡ all 32 (s5_slot t (view t).k p.0)
+-- src/records.rt, slots_sound: result ≡ all 32 (s5_slot t.now (view t.now).k p.0)
 use mathlib.Core.Path.{ap, sym, ◌∙◌}
 use mathlib.Core.Bool.{not}
-use Prim.Native.Nat.{◌-◌}
-use Rattle.loops.specs.Laws.Every.{Passing}
 use Rattle.loops.specs.Laws.Scan.{seek_start, seek_hit, seek_on, seek_end}
-use Rattle.tables.specs.View.{view}
-use Rattle.shape.specs.Records.{slots_test}
 use Rattle.shape.specs.Laws.Records.{slots_each}
 use native.Mathlib.Omega.{arith}
-use borrow.Author.Rules.{rules}
 use Rattle.shape.proofs.records.slots_sound.Goals as goal
 
 pub loop-j-init : goal.loop-j-init

@@ -1,9 +1,8 @@
--- src/records.rt, structure_slots: r ≡ slots_test t (view t).k p.0 j
+-- src/records.rt, structure_slots: result ≡ slots_test t.now (view t.now).k p.0 j
 use mathlib.Core.Path.{ap, ◌∙◌}
 use Rattle.tables.specs.Search.{is_some}
 use Rattle.tables.specs.Laws.Search.{structure_some}
 use Rattle.shape.specs.Laws.Records.{slots_absent}
-use borrow.Author.Rules.{rules}
 use Rattle.shape.proofs.records.structure_slots.Goals as goal
 
 pub eight_sound-requires : goal.eight_sound-requires

@@ -1,8 +1,6 @@
--- src/records.rt, structure_sound: r ≡ structure_test t (view t).k p.0 j
+-- src/records.rt, structure_sound: result ≡ structure_test t.now (view t.now).k p.0 j
 use mathlib.Core.Path.{refl, ap}
 use mathlib.Core.Bool.{not, and-true}
-use borrow.Author.Rules.{rules}
-use borrow.Author.Tests.{not-true, not-false}
 use Rattle.tables.specs.View.{structure_area}
 use Rattle.sound.specs.Clauses.{when, s4_area, s4_absent}
 use Rattle.shape.specs.Records.{area_test, structure_test}

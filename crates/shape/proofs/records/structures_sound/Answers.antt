@@ -1,13 +1,8 @@
--- src/records.rt, structures_sound: r ≡ all 4 (structure_test t (view t).k p.0)
+-- src/records.rt, structures_sound: result ≡ all 4 (structure_test t.now (view t.now).k p.0)
 use mathlib.Core.Path.{ap, sym, ◌∙◌}
 use mathlib.Core.Bool.{not}
-use Prim.Native.Nat.{◌-◌}
-use Rattle.loops.specs.Laws.Every.{Passing}
 use Rattle.loops.specs.Laws.Scan.{seek_start, seek_hit, seek_on, seek_end}
-use Rattle.tables.specs.View.{view}
-use Rattle.shape.specs.Records.{structure_test}
 use native.Mathlib.Omega.{arith}
-use borrow.Author.Rules.{rules}
 use Rattle.shape.proofs.records.structures_sound.Goals as goal
 
 pub loop-j-init : goal.loop-j-init

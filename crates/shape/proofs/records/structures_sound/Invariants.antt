@@ -1,12 +1,8 @@
-use mathlib.Core.Path.{ap, sym, ◌∙◌}
-use mathlib.Core.Bool.{not}
+-- src/records.rt, structures_sound: result ≡ all 4 (structure_test t.now (view t.now).k p.0)
 use Prim.Native.Nat.{◌-◌}
 use Rattle.loops.specs.Laws.Every.{Passing}
-use Rattle.loops.specs.Laws.Scan.{seek_start, seek_hit, seek_on, seek_end}
 use Rattle.tables.specs.View.{view}
 use Rattle.shape.specs.Records.{structure_test}
-use native.Mathlib.Omega.{arith}
-use borrow.Author.Rules.{rules}
 use Rattle.shape.proofs.records.structures_sound.Given as goal
 
 abbrev pub invariant-loop-j : goal.invariant-loop-j

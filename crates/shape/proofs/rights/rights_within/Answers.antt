@@ -1,8 +1,6 @@
--- src/rights.rt, rights_within: r ≡ within a b
+-- src/rights.rt, rights_within: result ≡ within a b
 use mathlib.Core.Path.{refl}
-use borrow.Author.Tests.{not-true, not-false}
 use Rattle.sound.specs.Clauses.{within}
-use borrow.Author.Rules.{rules}
 use Rattle.shape.proofs.rights.rights_within.Goals as goal
 
 pub returns-then-not-right_within : goal.returns-then-not-right_within

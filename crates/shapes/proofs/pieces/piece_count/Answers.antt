@@ -1,6 +1,5 @@
--- src/pieces.rt, piece_count: (r ≡ length (pieces_for board start end)) × (r ≤ 52)
+-- src/pieces.rt, piece_count: (result ≡ length (pieces_for board start end)) × (result ≤ 52)
 use Rattle.shapes.proofs.Laws.Counting.{pieces_counted}
-use borrow.Author.Rules.{rules}
 use Rattle.shapes.proofs.pieces.piece_count.Goals as goal
 
 pub returns-in-V7 : goal.returns-in-V7

@@ -1,8 +1,7 @@
--- src/pieces.rt, shaped_count: r ≡ length (pieces start end)
+-- src/pieces.rt, shaped_count: result ≡ length (pieces start end)
 use native.Mathlib.Omega.{arith}
 use Rattle.shapes.proofs.Laws.Zeros.{zeros_out, zeros_few}
-use Rattle.shapes.proofs.Laws.Counting.{CountingPieces, pieces_count_start, pieces_count_on, pieces_count_end}
-use borrow.Author.Rules.{rules}
+use Rattle.shapes.proofs.Laws.Counting.{pieces_count_start, pieces_count_on, pieces_count_end}
 use Rattle.shapes.proofs.pieces.shaped_count.Goals as goal
 
 pub loop-a-init : goal.loop-a-init

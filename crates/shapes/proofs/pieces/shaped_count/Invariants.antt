@@ -1,7 +1,5 @@
-use native.Mathlib.Omega.{arith}
-use Rattle.shapes.proofs.Laws.Zeros.{zeros_out, zeros_few}
-use Rattle.shapes.proofs.Laws.Counting.{CountingPieces, pieces_count_start, pieces_count_on, pieces_count_end}
-use borrow.Author.Rules.{rules}
+-- src/pieces.rt, shaped_count: result ≡ length (pieces start end)
+use Rattle.shapes.proofs.Laws.Counting.{CountingPieces}
 use Rattle.shapes.proofs.pieces.shaped_count.Given as goal
 
 abbrev pub invariant-loop-a : goal.invariant-loop-a

@@ -1,8 +1,6 @@
--- src/pieces.rt, widest: r ≡ widest start end
-use Prim.Native.Nat.{◌-◌}
+-- src/pieces.rt, widest: result ≡ widest start end
 use native.Mathlib.Omega.{arith}
-use Rattle.shapes.proofs.Laws.Widest.{Growing, grow_start, grow_some, grow_on, grow_odd, grow_full}
-use borrow.Author.Rules.{rules}
+use Rattle.shapes.proofs.Laws.Widest.{grow_start, grow_some, grow_on, grow_odd, grow_full}
 use Rattle.shapes.proofs.pieces.widest.Goals as goal
 
 pub loop-rest-init : goal.loop-rest-init

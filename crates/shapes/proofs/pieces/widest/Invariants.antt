@@ -1,7 +1,6 @@
+-- src/pieces.rt, widest: result ≡ widest start end
 use Prim.Native.Nat.{◌-◌}
-use native.Mathlib.Omega.{arith}
-use Rattle.shapes.proofs.Laws.Widest.{Growing, grow_start, grow_some, grow_on, grow_odd, grow_full}
-use borrow.Author.Rules.{rules}
+use Rattle.shapes.proofs.Laws.Widest.{Growing}
 use Rattle.shapes.proofs.pieces.widest.Given as goal
 
 abbrev pub invariant-loop-rest : goal.invariant-loop-rest

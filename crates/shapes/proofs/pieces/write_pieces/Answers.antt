@@ -1,6 +1,5 @@
--- src/pieces.rt, write_pieces: ShapesListed (pieces_for board start end) list r list'
+-- src/pieces.rt, write_pieces: ShapesListed (pieces_for board start end) list.old result list.new
 use Rattle.shapes.proofs.Laws.Listing.{can_list_on, listed_on}
-use borrow.Author.Rules.{rules}
 use Rattle.shapes.proofs.pieces.write_pieces.Goals as goal
 
 pub write_shaped-requires : goal.write_shaped-requires

@@ -1,6 +1,5 @@
--- src/pieces.rt, write_plain: ShapesListed (pieces_for V8 start end) list r list'
+-- src/pieces.rt, write_plain: ShapesListed (pieces_for V8 start end) list.old result list.new
 use Rattle.shapes.proofs.Laws.Listing.{plain_listed}
-use borrow.Author.Rules.{rules}
 use Rattle.shapes.proofs.pieces.write_plain.Goals as goal
 
 pub returns : goal.returns

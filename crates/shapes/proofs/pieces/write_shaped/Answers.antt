@@ -1,7 +1,6 @@
--- src/pieces.rt, write_shaped: ShapesListed (pieces_for V7 start end) list r list'
-use Prim.Native.Nat.{◌-◌}
+-- src/pieces.rt, write_shaped: ShapesListed (pieces_for V7 start end) list.old result list.new
 use native.Mathlib.Omega.{arith}
-use Rattle.shapes.proofs.Laws.Listing.{Listing, list_start, list_size, list_room, list_within, list_some, list_on, list_end}
+use Rattle.shapes.proofs.Laws.Listing.{list_start, list_size, list_room, list_within, list_some, list_on, list_end}
 use borrow.Author.Rules.{rules}
 use Rattle.shapes.proofs.pieces.write_shaped.Goals as goal
 

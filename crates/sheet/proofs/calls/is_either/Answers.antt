@@ -1,4 +1,4 @@
--- src/calls.rt, is_either: r ≡ eqb n a || eqb n b
+-- src/calls.rt, is_either: result ≡ eqb n a || eqb n b
 use mathlib.Core.Path.{refl}
 use borrow.Author.Tests.{eq-eqb, ne_eqb}
 use Rattle.sheet.proofs.calls.is_either.Goals as goal

@@ -1,4 +1,4 @@
--- src/calls.rt, next_child: (r.0 ≡ next_in (lowest 16 (absent_child (view t).k))) × (r.0 < 16)
+-- src/calls.rt, next_child: (result.0 ≡ next_in (lowest 16 (absent_child (view t.now).k))) × (result.0 < 16)
 use native.Mathlib.Omega.{arith}
 use Rattle.rules.specs.Laws.Changes.{next_some, next_none}
 use Rattle.sheet.proofs.calls.next_child.Goals as goal

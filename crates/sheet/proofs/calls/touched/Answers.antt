@@ -1,4 +1,4 @@
--- src/calls.rt, touched: (r ≡ touched (view t).k word) × Named r
+-- src/calls.rt, touched: (result ≡ touched (view t.now).k word) × Named result
 use Rattle.sheet.specs.Laws.Touched.{told_slot, told_gone, told_up, told_one, told_else}
 use Rattle.sheet.proofs.calls.touched.Goals as goal
 

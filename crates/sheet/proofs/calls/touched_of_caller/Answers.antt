@@ -1,4 +1,4 @@
--- src/calls.rt, touched_of_caller: (r ≡ touched_of_caller service (view t).k i.0) × Named r
+-- src/calls.rt, touched_of_caller: (result ≡ touched_of_caller service (view t.now).k i.0) × Named result
 use Rattle.sheet.specs.Laws.Touched.{caller_creates, caller_takes, caller_cuts, caller_else}
 use Rattle.sheet.proofs.calls.touched_of_caller.Goals as goal
 

@@ -1,4 +1,4 @@
--- src/kept.rt, climb_pairs: now sheet.exit ≡ put_those (above (view t).k p.0) (view t) sheet
+-- src/kept.rt, climb_pairs: sheet.new ≡ put_those (above (view t.now).k p.0) (view t.now) sheet.old
 use mathlib.Core.Path.{sym, ◌∙◌}
 use Rattle.sheet.specs.Laws.Those.{pair_with, rise_start, now_size, rise_end, rise_on}
 use native.Mathlib.Omega.{arith}

@@ -1,4 +1,4 @@
--- src/kept.rt, keep_sheet: now sheet.exit ≡ sheet_kept x (view t) sheet
+-- src/kept.rt, keep_sheet: sheet.new ≡ sheet_kept x (view t.now) sheet.old
 use Rattle.sheet.specs.Laws.Touched.{kept_nobody, kept_one, kept_up, kept_gone}
 use Rattle.sheet.proofs.kept.keep_sheet.Goals as goal
 

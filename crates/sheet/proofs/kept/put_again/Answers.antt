@@ -1,4 +1,4 @@
--- src/kept.rt, put_again: now sheet.exit ≡ kept_pair (view t) p.0 sheet
+-- src/kept.rt, put_again: sheet.new ≡ kept_pair (view t.now) p.0 sheet.old
 use Rattle.sheet.specs.Laws.Touched.{few_again, pair_again}
 use native.Mathlib.Omega.{arith}
 use borrow.Author.Rules.{rules}

@@ -1,4 +1,4 @@
--- src/kept.rt, put_gone: now sheet.exit ≡ put_those (touches Gone (view t).k) (view t) sheet
+-- src/kept.rt, put_gone: sheet.new ≡ put_those (touches Gone (view t.now).k) (view t.now) sheet.old
 use mathlib.Core.Path.{ap, sym, ◌∙◌}
 use lib.ListN.{length}
 use Rattle.sheet.specs.Laws.Those.{those_length, gone_put}

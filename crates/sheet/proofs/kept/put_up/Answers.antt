@@ -1,4 +1,4 @@
--- src/kept.rt, put_up: now sheet.exit ≡ put_those (above (view t).k p.0) (view t) sheet
+-- src/kept.rt, put_up: sheet.new ≡ put_those (above (view t.now).k p.0) (view t.now) sheet.old
 use mathlib.Core.Path.{refl}
 use Rattle.sheet.proofs.kept.put_up.Goals as goal
 

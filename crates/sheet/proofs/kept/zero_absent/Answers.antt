@@ -1,4 +1,4 @@
--- src/kept.rt, zero_absent: now sheet.exit ≡ put_those (absent (view t).k) (view t) sheet
+-- src/kept.rt, zero_absent: sheet.new ≡ put_those (absent (view t.now).k) (view t.now) sheet.old
 use mathlib.Core.Path.{sym, ◌∙◌}
 use Rattle.sheet.specs.Laws.Those.{zero_start, zero_put, zero_skip, zero_end}
 use native.Mathlib.Omega.{arith}

@@ -1,3 +1,4 @@
+-- src/kept.rt, zero_absent: sheet.new ≡ put_those (absent (view t.now).k) (view t.now) sheet.old
 use Prim.Native.Nat.{◌*◌, ◌-◌, ◌≤◌}
 use Rattle.loops.specs.Loops.{Filling}
 use Rattle.tables.specs.View.{view}

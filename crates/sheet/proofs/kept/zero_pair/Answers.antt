@@ -1,4 +1,4 @@
--- src/kept.rt, zero_pair: now sheet.exit ≡ pair_put sheet p 0 0
+-- src/kept.rt, zero_pair: sheet.new ≡ pair_put sheet.old p 0 0
 use mathlib.Core.Path.{refl, ap, ◌∙◌}
 use lib.ListN.{length}
 use native.Mathlib.Omega.{arith}

@@ -1,11 +1,7 @@
--- src/pairs.rt, children: ChildrenTo (view t).k 16 masks'
-use mathlib.Core.Path.{◌≡◌, refl}
-use Prim.Native.Nat.{◌-◌, ◌^◌, ◌≤◌}
-use Rattle.tables.specs.View.{view}
-use Rattle.summing.specs.Sums.{ChildrenTo}
+-- src/pairs.rt, children: ChildrenTo (view t.now).k 16 masks.new
+use mathlib.Core.Path.{refl}
 use Rattle.summing.specs.Laws.Walk.{children_start, children_at, bit_room, bit_next}
 use native.Mathlib.Omega.{arith}
-use borrow.Author.Rules.{rules}
 use Rattle.summing.proofs.pairs.children.Goals as goal
 
 pub loop-c-init : goal.loop-c-init

@@ -1,10 +1,8 @@
-use mathlib.Core.Path.{◌≡◌, refl}
+-- src/pairs.rt, children: ChildrenTo (view t.now).k 16 masks.new
+use mathlib.Core.Path.{◌≡◌}
 use Prim.Native.Nat.{◌-◌, ◌^◌, ◌≤◌}
 use Rattle.tables.specs.View.{view}
 use Rattle.summing.specs.Sums.{ChildrenTo}
-use Rattle.summing.specs.Laws.Walk.{children_start, children_at, bit_room, bit_next}
-use native.Mathlib.Omega.{arith}
-use borrow.Author.Rules.{rules}
 use Rattle.summing.proofs.pairs.children.Given as goal
 
 abbrev pub invariant-loop-c : goal.invariant-loop-c

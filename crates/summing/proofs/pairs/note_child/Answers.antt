@@ -1,9 +1,8 @@
--- src/pairs.rt, note_child: ChildrenTo (view t).k (c.0 + 1) masks'
+-- src/pairs.rt, note_child: ChildrenTo (view t.now).k (c.0 + 1) masks.new
 use mathlib.Core.Path.{refl}
 use borrow.Author.Tests.{not-true, not-false}
 use Rattle.summing.specs.Laws.Walk.{absent_joins, root_joins, child_room, child_joins}
 use native.Mathlib.Omega.{arith}
-use borrow.Author.Rules.{rules}
 use Rattle.summing.proofs.pairs.note_child.Goals as goal
 
 pub header-h-requires : goal.header-h-requires

@@ -1,8 +1,7 @@
--- src/pairs.rt, structure_bit: (r ≡ bitOf (structured (view t).k p.0 j)) × (r ≤ 1)
+-- src/pairs.rt, structure_bit: (result ≡ bit_of (structured (view t.now).k p.0 j)) × (result ≤ 1)
 use mathlib.Core.Path.{refl}
 use Rattle.tables.specs.Laws.Search.{structure_some}
 use native.Mathlib.Omega.{arith}
-use borrow.Author.Rules.{rules}
 use Rattle.summing.proofs.pairs.structure_bit.Goals as goal
 
 pub returns-then-s : goal.returns-then-s

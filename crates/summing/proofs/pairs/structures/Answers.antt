@@ -1,9 +1,6 @@
--- src/pairs.rt, structures: r ≡ map_of 4 (structured (view t).k p.0)
-use Rattle.loops.specs.Laws.Map.{Mapping, map_start, map_on, map_room, map_end}
-use Rattle.tables.specs.View.{view}
-use Rattle.sheetrules.specs.Sheet.{structured}
+-- src/pairs.rt, structures: result ≡ map_of 4 (structured (view t.now).k p.0)
+use Rattle.loops.specs.Laws.Map.{map_start, map_on, map_room, map_end}
 use native.Mathlib.Omega.{arith}
-use borrow.Author.Rules.{rules}
 use Rattle.summing.proofs.pairs.structures.Goals as goal
 
 pub loop-j-init : goal.loop-j-init

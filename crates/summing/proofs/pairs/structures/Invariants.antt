@@ -1,8 +1,7 @@
-use Rattle.loops.specs.Laws.Map.{Mapping, map_start, map_on, map_room, map_end}
+-- src/pairs.rt, structures: result ≡ map_of 4 (structured (view t.now).k p.0)
+use Rattle.loops.specs.Laws.Map.{Mapping}
 use Rattle.tables.specs.View.{view}
 use Rattle.sheetrules.specs.Sheet.{structured}
-use native.Mathlib.Omega.{arith}
-use borrow.Author.Rules.{rules}
 use Rattle.summing.proofs.pairs.structures.Given as goal
 
 abbrev pub invariant-loop-j : goal.invariant-loop-j

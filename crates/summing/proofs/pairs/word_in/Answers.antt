@@ -1,7 +1,6 @@
--- src/pairs.rt, word_in: r ≡ word_in w
+-- src/pairs.rt, word_in: result ≡ word_in w
 use mathlib.Core.Path.{ap, sym}
 use Rattle.summing.specs.Sums.{word_in}
-use borrow.Author.Rules.{rules}
 use Rattle.summing.proofs.pairs.word_in.Goals as goal
 
 pub returns-in-Word : goal.returns-in-Word

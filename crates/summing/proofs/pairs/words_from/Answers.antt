@@ -1,6 +1,5 @@
--- src/pairs.rt, words_from: WordsIfRight (view t) p.0 children r
+-- src/pairs.rt, words_from: WordsIfRight (view t.now) p.0 children result
 use Rattle.summing.specs.Laws.Written.{masks_written, lines_written}
-use borrow.Author.Rules.{rules}
 use Rattle.summing.proofs.pairs.words_from.Goals as goal
 
 pub structures-requires : goal.structures-requires

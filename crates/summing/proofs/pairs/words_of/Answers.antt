@@ -1,6 +1,5 @@
--- src/pairs.rt, words_of: (r.masks ≡ masks_with children (view t) p.0) × (r.lines ≡ lines_word (view t) p.0)
+-- src/pairs.rt, words_of: (result.masks ≡ masks_with children (view t.now) p.0) × (result.lines ≡ lines_word (view t.now) p.0)
 use mathlib.Core.Path.{sym, ◌∙◌}
-use borrow.Author.Tests.{not-true, not-false}
 use Rattle.summing.specs.Laws.Written.{pair_none}
 use Rattle.summing.proofs.pairs.words_of.Goals as goal
 

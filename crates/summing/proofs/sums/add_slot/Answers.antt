@@ -1,9 +1,8 @@
--- src/sums.rt, add_slot: Adding (view t) p.0 (i - 1) r
+-- src/sums.rt, add_slot: Adding (view t.now) p.0 (i - 1) result
 use borrow.Author.Tests.{not-true, not-false}
 use Rattle.loops.specs.Laws.Map.{map_room}
 use Rattle.summing.specs.Laws.Sums.{entry_range, add_entry, skip_slot, held_room, opened_room}
 use native.Mathlib.Omega.{arith}
-use borrow.Author.Rules.{rules}
 use Rattle.summing.proofs.sums.add_slot.Goals as goal
 
 pub entry-f-requires : goal.entry-f-requires

@@ -1,13 +1,10 @@
--- src/sums.rt, add_structure: Adding (view t) p.0 (8 * j) r
+-- src/sums.rt, add_structure: Adding (view t.now) p.0 (8 * j) result
 use mathlib.Core.Path.{◌≡◌}
-use Prim.Native.Nat.{◌*◌, ◌≤◌}
+use Prim.Native.Nat.{◌*◌}
 use borrow.Author.Tests.{not-true}
-use Rattle.tables.specs.View.{view}
 use Rattle.tables.specs.Laws.Search.{structure_some}
-use Rattle.summing.specs.Sums.{Adding}
 use Rattle.summing.specs.Laws.Sums.{right_ranged, absent_room, add_absent}
 use native.Mathlib.Omega.{arith}
-use borrow.Author.Rules.{rules}
 use Rattle.summing.proofs.sums.add_structure.Goals as goal
 
 pub overflow_mul-result : goal.overflow_mul-result

@@ -1,12 +1,7 @@
-use mathlib.Core.Path.{◌≡◌}
+-- src/sums.rt, add_structure: Adding (view t.now) p.0 (8 * j) result
 use Prim.Native.Nat.{◌*◌, ◌≤◌}
-use borrow.Author.Tests.{not-true}
 use Rattle.tables.specs.View.{view}
-use Rattle.tables.specs.Laws.Search.{structure_some}
 use Rattle.summing.specs.Sums.{Adding}
-use Rattle.summing.specs.Laws.Sums.{right_ranged, absent_room, add_absent}
-use native.Mathlib.Omega.{arith}
-use borrow.Author.Rules.{rules}
 use Rattle.summing.proofs.sums.add_structure.Given as goal
 
 abbrev pub invariant-loop-i : goal.invariant-loop-i

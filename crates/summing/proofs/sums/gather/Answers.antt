@@ -1,10 +1,6 @@
--- src/sums.rt, gather: Adding (view t) p.0 0 r
-use Prim.Native.Nat.{◌*◌, ◌≤◌}
-use Rattle.tables.specs.View.{view}
-use Rattle.summing.specs.Sums.{Adding}
+-- src/sums.rt, gather: Adding (view t.now) p.0 0 result
 use Rattle.summing.specs.Laws.Sums.{adding_start, adding_at}
 use native.Mathlib.Omega.{arith}
-use borrow.Author.Rules.{rules}
 use Rattle.summing.proofs.sums.gather.Goals as goal
 
 pub loop-j-init : goal.loop-j-init

@@ -1,9 +1,7 @@
+-- src/sums.rt, gather: Adding (view t.now) p.0 0 result
 use Prim.Native.Nat.{◌*◌, ◌≤◌}
 use Rattle.tables.specs.View.{view}
 use Rattle.summing.specs.Sums.{Adding}
-use Rattle.summing.specs.Laws.Sums.{adding_start, adding_at}
-use native.Mathlib.Omega.{arith}
-use borrow.Author.Rules.{rules}
 use Rattle.summing.proofs.sums.gather.Given as goal
 
 abbrev pub invariant-loop-j : goal.invariant-loop-j

@@ -1,8 +1,7 @@
--- src/sums.rt, lines: r ≡ number_of_lines (entry_in f)
+-- src/sums.rt, lines: result ≡ number_of_lines (entry_in f)
 use mathlib.Core.Path.{refl}
 use Rattle.tables.specs.View.{entry_in}
 use Rattle.sheetrules.specs.Sheet.{number_of_lines}
-use borrow.Author.Rules.{rules}
 use Rattle.summing.proofs.sums.lines.Goals as goal
 
 pub returns : goal.returns

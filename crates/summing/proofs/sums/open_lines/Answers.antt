@@ -1,4 +1,4 @@
--- src/sums.rt, open_lines: r ≡ cond f.opened (number_of_lines (entry_in f)) 0
+-- src/sums.rt, open_lines: result ≡ cond f.opened (number_of_lines (entry_in f)) 0
 use mathlib.Core.Path.{refl, ◌∙◌}
 use borrow.Author.Tests.{not-true, not-false}
 use Rattle.summing.specs.Laws.Sums.{open_is}

@@ -1,10 +1,6 @@
--- src/copies.rt, copy_in: now a.exit ≡ now t.entry
+-- src/copies.rt, copy_in: a.new ≡ t.now
 use mathlib.Core.Path.{refl, ◌∙◌}
 use native.Mathlib.Omega.{arith}
-use borrow.Author.Rules.{rules}
-use Prim.Native.Nat.{◌-◌}
-use lib.ListN.{get_or}
-use Rattle.loops.specs.Loops.{Filling}
 use Rattle.loops.specs.Laws.Rewrite.{fill_start, fill_put, fill_tab, tab_get_d_law}
 use Rattle.tables.proofs.copies.copy_in.Goals as goal
 

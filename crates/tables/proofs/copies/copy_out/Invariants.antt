@@ -1,10 +1,7 @@
-use mathlib.Core.Path.{refl, sym, ◌∙◌}
-use native.Mathlib.Omega.{arith}
-use borrow.Author.Rules.{rules}
+-- src/copies.rt, copy_out: t.new ≡ a.now
 use Prim.Native.Nat.{◌-◌}
 use lib.ListN.{get_or}
 use Rattle.loops.specs.Loops.{Filling}
-use Rattle.loops.specs.Laws.Rewrite.{fill_start, fill_put, fill_tab, tab_get_d_law}
 use Rattle.tables.proofs.copies.copy_out.Given as goal
 
 abbrev pub invariant-loop-n : goal.invariant-loop-n

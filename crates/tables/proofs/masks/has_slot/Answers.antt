@@ -1,7 +1,6 @@
--- src/masks.rt, has_slot: r ≡ names mask i.0
+-- src/masks.rt, has_slot: result ≡ names mask i.0
 use mathlib.Core.Path.{refl}
 use Rattle.loops.specs.Loops.{names}
-use borrow.Author.Rules.{rules}
 use Rattle.tables.proofs.masks.has_slot.Goals as goal
 
 pub returns : goal.returns

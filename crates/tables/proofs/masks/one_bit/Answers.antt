@@ -1,6 +1,5 @@
--- src/masks.rt, one_bit: r ≡ 2 ^ i
+-- src/masks.rt, one_bit: result ≡ 2 ^ i
 use Rattle.loops.specs.Laws.Mask.{bit_alone}
-use borrow.Author.Rules.{rules}
 use Rattle.tables.proofs.masks.one_bit.Goals as goal
 
 pub returns : goal.returns

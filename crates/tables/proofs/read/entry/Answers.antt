@@ -1,7 +1,6 @@
--- src/read.rt, entry: Seen t p.0 i.0 r
+-- src/read.rt, entry: Seen t.now p.0 i.0 result
 use Rattle.tables.specs.Laws.Seen.{see}
 use Rattle.tables.specs.View.{slot_word_at}
-use borrow.Author.Rules.{rules}
 use Rattle.tables.proofs.read.entry.Goals as goal
 
 pub returns : goal.returns

@@ -1,7 +1,6 @@
--- src/read.rt, entry_word: r ≡ slot_word ((view t).k.slot p.0 i.0) ((view t).opened p.0 i.0)
+-- src/read.rt, entry_word: result ≡ slot_word ((view t.now).k.slot p.0 i.0) ((view t.now).opened p.0 i.0)
 use Rattle.tables.specs.Laws.Seen.{word_of_law}
 use Rattle.tables.specs.View.{slot_word_at}
-use borrow.Author.Rules.{rules}
 use Rattle.tables.proofs.read.entry_word.Goals as goal
 
 pub returns : goal.returns

@@ -1,7 +1,6 @@
--- src/read.rt, first: SeenFirst t r
+-- src/read.rt, first: SeenFirst t.now result
 use Rattle.tables.specs.Laws.Seen.{see_first}
 use Rattle.tables.specs.View.{first_word}
-use borrow.Author.Rules.{rules}
 use Rattle.tables.proofs.read.first.Goals as goal
 
 pub returns : goal.returns

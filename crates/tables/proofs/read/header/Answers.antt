@@ -1,8 +1,7 @@
--- src/read.rt, header: SeenHeader t p.0 r
+-- src/read.rt, header: SeenHeader t.now p.0 result
 use Rattle.tables.specs.Laws.Seen.{see_header}
 use native.Mathlib.Nat.{add-zero}
 use Rattle.tables.specs.View.{area_word_at}
-use borrow.Author.Rules.{rules}
 use Rattle.tables.proofs.read.header.Goals as goal
 
 pub returns : goal.returns

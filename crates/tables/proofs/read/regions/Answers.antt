@@ -1,7 +1,6 @@
--- src/read.rt, regions: SeenRegions t p.0 r
+-- src/read.rt, regions: SeenRegions t.now p.0 result
 use Rattle.tables.specs.Laws.Seen.{see_regions}
 use Rattle.tables.specs.View.{regions_word_at}
-use borrow.Author.Rules.{rules}
 use Rattle.tables.proofs.read.regions.Goals as goal
 
 pub returns : goal.returns

@@ -1,4 +1,4 @@
--- src/read.rt, structure: SeenStructure t p.0 j r
+-- src/read.rt, structure: SeenStructure t.now p.0 j result
 use Rattle.tables.specs.Laws.Seen.{see_structure}
 use mathlib.Core.Path.{◌≡◌, ap, ◌∙◌}
 use Prim.Native.Nat.{ℕ, ◌+◌, ◌*◌}
@@ -7,7 +7,6 @@ use Rattle.words.specs.Kind.{fields_in}
 use Rattle.words.specs.Words.{structure}
 use native.Mathlib.Omega.{arith}
 use Rattle.tables.specs.View.{area_word_at}
-use borrow.Author.Rules.{rules}
 use Rattle.tables.proofs.read.structure.Goals as goal
 
 pub returns : goal.returns

@@ -1,4 +1,4 @@
--- src/regions.rt, nth: x ≡ nth_region f r
+-- src/regions.rt, nth: result ≡ nth_region f r
 -- from k on, and not k
 use mathlib.Core.Path.{◌≡◌, refl}
 use Prim.Native.Nat.{ℕ, ◌+◌, ◌≤◌}

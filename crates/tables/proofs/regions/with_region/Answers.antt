@@ -1,6 +1,5 @@
--- src/regions.rt, with_region: g ≡ with_region f r x
+-- src/regions.rt, with_region: result ≡ with_region f r x
 use mathlib.Core.Path.{refl}
-use borrow.Author.Rules.{rules}
 use Rattle.tables.proofs.regions.with_region.Goals as goal
 
 pub returns : goal.returns

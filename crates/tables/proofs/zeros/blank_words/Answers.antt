@@ -1,9 +1,8 @@
--- src/zeros.rt, blank_words: r ≡ zero_blanks t p.0
+-- src/zeros.rt, blank_words: result ≡ zero_blanks t.now p.0
 use mathlib.Core.Path.{◌∙◌}
 use Rattle.loops.specs.Laws.Oring.{or_none}
 use Rattle.tables.specs.Laws.Spelling.{blank_word}
 use Rattle.tables.specs.ZeroRecord.{zero_blanks}
-use borrow.Author.Rules.{rules}
 use Rattle.tables.proofs.zeros.blank_words.Goals as goal
 
 pub returns : goal.returns

@@ -1,8 +1,7 @@
--- src/zeros.rt, first_bits: r ≡ zeroed first (first_word t)
+-- src/zeros.rt, first_bits: result ≡ zeroed first (first_word t.now)
 use Rattle.words.specs.Laws.Kind.{zeroed_sum}
 use Rattle.words.specs.Words.{first}
 use Rattle.tables.specs.View.{first_word}
-use borrow.Author.Rules.{rules}
 use Rattle.tables.proofs.zeros.first_bits.Goals as goal
 
 pub returns : goal.returns

@@ -1,9 +1,8 @@
--- src/zeros.rt, header_bits: r ≡ zeroed header (area_word_at t p.0 0)
+-- src/zeros.rt, header_bits: result ≡ zeroed header (area_word_at t.now p.0 0)
 use mathlib.Core.Path.{◌∙◌}
 use Rattle.words.specs.Laws.Kind.{zeroed_sum}
 use Rattle.words.specs.Words.{header}
 use Rattle.tables.specs.Laws.Spelling.{area_word}
-use borrow.Author.Rules.{rules}
 use Rattle.tables.proofs.zeros.header_bits.Goals as goal
 
 pub returns : goal.returns

@@ -1,7 +1,6 @@
--- src/zeros.rt, regions_bits: r ≡ zeroed regions (regions_word_at t p.0)
+-- src/zeros.rt, regions_bits: result ≡ zeroed regions (regions_word_at t.now p.0)
 use mathlib.Core.Path.{◌∙◌}
 use Rattle.tables.specs.Laws.Spelling.{regions_word_law}
-use borrow.Author.Rules.{rules}
 use Rattle.tables.proofs.zeros.regions_bits.Goals as goal
 
 pub returns : goal.returns

@@ -1,7 +1,6 @@
--- src/zeros.rt, regions_word: result ≡ eqb (regions_word_at t p.0) 0
+-- src/zeros.rt, regions_word: result ≡ eqb (regions_word_at t.now p.0) 0
 use mathlib.Core.Path.{refl, ◌∙◌}
 use Rattle.tables.specs.Laws.Spelling.{regions_word_law}
-use borrow.Author.Rules.{rules}
 use Rattle.tables.proofs.zeros.regions_word.Goals as goal
 
 pub returns : goal.returns

@@ -1,11 +1,8 @@
--- src/zeros.rt, slot_words: r ≡ all 8 (λ o. eqb (slot_word_at t p.0 (8 * j + o)) 0)
+-- src/zeros.rt, slot_words: result ≡ all 8 (λ o. eqb (slot_word_at t.now p.0 (8 * j + o)) 0)
 use mathlib.Core.Path.{refl, ◌∙◌}
-use Prim.Native.Nat.{◌+◌, ◌-◌}
-use lib.ListN.{get_or}
-use Rattle.loops.specs.Laws.Oring.{Oring, or_start, or_on, or_end}
+use Rattle.loops.specs.Laws.Oring.{or_start, or_on, or_end}
 use Rattle.tables.specs.Laws.ZeroRecord.{structure_slots}
 use native.Mathlib.Omega.{arith}
-use borrow.Author.Rules.{rules}
 use Rattle.tables.proofs.zeros.slot_words.Goals as goal
 
 pub loop-o-init : goal.loop-o-init

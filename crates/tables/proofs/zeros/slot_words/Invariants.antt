@@ -1,10 +1,7 @@
-use mathlib.Core.Path.{refl, ◌∙◌}
+-- src/zeros.rt, slot_words: result ≡ all 8 (λ o. eqb (slot_word_at t.now p.0 (8 * j + o)) 0)
 use Prim.Native.Nat.{◌+◌, ◌-◌}
 use lib.ListN.{get_or}
-use Rattle.loops.specs.Laws.Oring.{Oring, or_start, or_on, or_end}
-use Rattle.tables.specs.Laws.ZeroRecord.{structure_slots}
-use native.Mathlib.Omega.{arith}
-use borrow.Author.Rules.{rules}
+use Rattle.loops.specs.Laws.Oring.{Oring}
 use Rattle.tables.proofs.zeros.slot_words.Given as goal
 
 abbrev pub invariant-loop-o : goal.invariant-loop-o

@@ -1,9 +1,8 @@
--- src/zeros.rt, structure_bits: r ≡ zeroed structure (area_word_at t p.0 (1 + j))
+-- src/zeros.rt, structure_bits: result ≡ zeroed structure (area_word_at t.now p.0 (1 + j))
 use mathlib.Core.Path.{◌∙◌}
 use Rattle.words.specs.Laws.Kind.{zeroed_sum}
 use Rattle.words.specs.Words.{structure}
 use Rattle.tables.specs.Laws.Spelling.{area_word}
-use borrow.Author.Rules.{rules}
 use Rattle.tables.proofs.zeros.structure_bits.Goals as goal
 
 pub returns : goal.returns

@@ -1,7 +1,6 @@
--- src/zeros.rt, word: r ≡ record_word t p.0 o
+-- src/zeros.rt, word: result ≡ record_word t.now p.0 o
 use mathlib.Core.Path.{refl}
 use Rattle.tables.specs.View.{record_word}
-use borrow.Author.Rules.{rules}
 use Rattle.tables.proofs.zeros.word.Goals as goal
 
 pub returns : goal.returns

@@ -1,6 +1,5 @@
--- src/first_word.rt, read: r ≡ reading first w
+-- src/first_word.rt, read: result ≡ reading first w
 use mathlib.Core.Path.{sym, ap, ◌∙◌}
-use borrow.Author.Rules.{rules}
 use Rattle.words.specs.Laws.Kind.{read_done, read_refused}
 use Rattle.words.specs.Words.{first}
 use Rattle.tablewords.proofs.first_word.read.Goals as goal

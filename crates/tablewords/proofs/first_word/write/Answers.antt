@@ -1,11 +1,10 @@
--- src/first_word.rt, write: r ≡ writing first f
+-- src/first_word.rt, write: result ≡ writing first f
 use mathlib.Core.Path.{sym, ap, ◌∙◌}
 use Rattle.words.specs.Laws.Kind.{write_done, write_refused}
 use Rattle.words.specs.Laws.Kinds.{first_range}
 use Rattle.words.specs.Words.{first}
 use Rattle.words.specs.declared.Written.TheVariants.{Word}
 use native.Mathlib.Omega.{arith}
-use borrow.Author.Rules.{rules}
 use Rattle.tablewords.proofs.first_word.write.Goals as goal
 
 pub returns-then-base-ge134217728 : goal.returns-then-base-ge134217728

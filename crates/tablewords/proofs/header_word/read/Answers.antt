@@ -1,6 +1,5 @@
--- src/header_word.rt, read: r ≡ reading header w
+-- src/header_word.rt, read: result ≡ reading header w
 use mathlib.Core.Path.{sym, ap, ◌∙◌}
-use borrow.Author.Rules.{rules}
 use Rattle.words.specs.Laws.Kind.{read_done, read_refused}
 use Rattle.words.specs.Words.{header}
 use Rattle.tablewords.proofs.header_word.read.Goals as goal

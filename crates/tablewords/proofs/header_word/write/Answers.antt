@@ -1,11 +1,10 @@
--- src/header_word.rt, write: r ≡ writing header f
+-- src/header_word.rt, write: result ≡ writing header f
 use mathlib.Core.Path.{sym, ap, ◌∙◌}
 use Rattle.words.specs.Laws.Kind.{write_done, write_refused}
 use Rattle.words.specs.Laws.Kinds.{header_range}
 use Rattle.words.specs.Words.{header}
 use Rattle.words.specs.declared.Written.TheVariants.{Word}
 use native.Mathlib.Omega.{arith}
-use borrow.Author.Rules.{rules}
 use Rattle.tablewords.proofs.header_word.write.Goals as goal
 
 pub returns-then-parent-ge16 : goal.returns-then-parent-ge16

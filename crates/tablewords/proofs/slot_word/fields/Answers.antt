@@ -1,7 +1,6 @@
--- src/slot_word.rt, fields: r ≡ fields_in slot w
+-- src/slot_word.rt, fields: result ≡ fields_in slot w
 use native.Mathlib.Nat.{div-one}
 use Rattle.words.specs.Words.{slot}
-use borrow.Author.Rules.{rules}
 use Rattle.tablewords.proofs.slot_word.fields.Goals as goal
 
 pub returns : goal.returns

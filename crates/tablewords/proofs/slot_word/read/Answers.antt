@@ -1,6 +1,5 @@
--- src/slot_word.rt, read: r ≡ reading slot w
+-- src/slot_word.rt, read: result ≡ reading slot w
 use mathlib.Core.Path.{sym, ap, ◌∙◌}
-use borrow.Author.Rules.{rules}
 use Rattle.words.specs.Laws.Kind.{read_done, read_refused}
 use Rattle.words.specs.Words.{slot}
 use Rattle.tablewords.proofs.slot_word.read.Goals as goal

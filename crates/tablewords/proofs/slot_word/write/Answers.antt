@@ -1,11 +1,10 @@
--- src/slot_word.rt, write: r ≡ writing slot f
+-- src/slot_word.rt, write: result ≡ writing slot f
 use mathlib.Core.Path.{sym, ap, ◌∙◌}
 use Rattle.words.specs.Laws.Kind.{write_done, write_refused}
 use Rattle.words.specs.Laws.Kinds.{slot_range}
 use Rattle.words.specs.Words.{slot}
 use Rattle.words.specs.declared.Written.TheVariants.{Word}
 use native.Mathlib.Omega.{arith}
-use borrow.Author.Rules.{rules}
 use Rattle.tablewords.proofs.slot_word.write.Goals as goal
 
 pub returns-then-given-ge16 : goal.returns-then-given-ge16

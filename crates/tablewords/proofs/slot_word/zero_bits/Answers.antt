@@ -1,4 +1,4 @@
--- src/slot_word.rt, zero_bits: r ≡ zero_sum slot.parts w
+-- src/slot_word.rt, zero_bits: result ≡ zero_sum slot.parts w
 use mathlib.Core.Path.{refl}
 use Rattle.words.specs.Words.{slot}
 use Rattle.tablewords.proofs.slot_word.zero_bits.Goals as goal

@@ -1,6 +1,5 @@
--- src/structure_word.rt, read: r ≡ reading structure w
+-- src/structure_word.rt, read: result ≡ reading structure w
 use mathlib.Core.Path.{sym, ap, ◌∙◌}
-use borrow.Author.Rules.{rules}
 use Rattle.words.specs.Laws.Kind.{read_done, read_refused}
 use Rattle.words.specs.Words.{structure}
 use Rattle.tablewords.proofs.structure_word.read.Goals as goal

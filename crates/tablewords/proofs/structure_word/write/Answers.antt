@@ -1,11 +1,10 @@
--- src/structure_word.rt, write: r ≡ writing structure f
+-- src/structure_word.rt, write: result ≡ writing structure f
 use mathlib.Core.Path.{sym, ap, ◌∙◌}
 use Rattle.words.specs.Laws.Kind.{write_done, write_refused}
 use Rattle.words.specs.Laws.Kinds.{structure_range}
 use Rattle.words.specs.Words.{structure}
 use Rattle.words.specs.declared.Written.TheVariants.{Word}
 use native.Mathlib.Omega.{arith}
-use borrow.Author.Rules.{rules}
 use Rattle.tablewords.proofs.structure_word.write.Goals as goal
 
 pub returns-then-start-ge134217728 : goal.returns-then-start-ge134217728

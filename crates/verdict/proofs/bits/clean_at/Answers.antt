@@ -1,4 +1,4 @@
--- src/bits.rt, clean_at: r ≡ (not (eqb p.0 0) || s3_first t) && s3 t p.0
+-- src/bits.rt, clean_at: result ≡ (not (eqb p.0 0) || s3_first t.now) && s3 t.now p.0
 use mathlib.Core.Path.{refl}
 use borrow.Author.Tests.{not-true, not-false}
 use borrow.Author.Rules.{rules}

@@ -1,4 +1,4 @@
--- src/bits.rt, first_clean: r ≡ (not (eqb p.0 0) || s3_first t)
+-- src/bits.rt, first_clean: result ≡ (not (eqb p.0 0) || s3_first t.now)
 use mathlib.Core.Path.{refl}
 use borrow.Author.Tests.{eq-eqb, ne_eqb}
 use Rattle.sound.specs.Clauses.{s3_first}

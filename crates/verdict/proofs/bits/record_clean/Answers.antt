@@ -1,4 +1,4 @@
--- src/bits.rt, record_clean: r ≡ s3 t p.0
+-- src/bits.rt, record_clean: result ≡ s3 t.now p.0
 use mathlib.Core.Path.{refl}
 use borrow.Author.Tests.{not-true, not-false}
 use Rattle.sound.specs.Clauses.{s3}

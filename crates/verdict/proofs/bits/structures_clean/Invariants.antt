@@ -1,3 +1,4 @@
+-- src/bits.rt, structures_clean: result ≡ all 4 (λ j. zeroed structure (area_word_at t.now p.0 (1 + j)))
 use mathlib.Core.Path.{ap, sym, ◌∙◌}
 use mathlib.Core.Bool.{not}
 use Prim.Native.Nat.{◌+◌, ◌-◌}

@@ -1,4 +1,4 @@
--- src/early.rt, apart_at: r ≡ s6 (view t).k p.0
+-- src/early.rt, apart_at: result ≡ s6 (view t.now).k p.0
 use mathlib.Core.Path.{refl}
 use Rattle.ordering.specs.Laws.Arrange.{rowed_says}
 use Rattle.verdict.proofs.early.apart_at.Goals as goal

@@ -1,4 +1,4 @@
--- src/early.rt, areas_at: r ≡ s4 t (view t).k p.0
+-- src/early.rt, areas_at: result ≡ s4 t.now (view t.now).k p.0
 use Rattle.verdict.specs.Laws.Records.{s4_fails, s4_decides}
 use borrow.Author.Rules.{rules}
 use mathlib.Core.Path.{ap}

@@ -1,4 +1,4 @@
--- src/early.rt, holds: r ≡ clause_at board t n p.0
+-- src/early.rt, holds: result ≡ clause_at board t.now n p.0
 use mathlib.Core.Path.{◌≡◌}
 use native.Mathlib.Omega.{arith}
 use Rattle.sound.specs.Clauses.{s5, clause_at}

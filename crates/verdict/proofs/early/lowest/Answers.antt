@@ -1,4 +1,4 @@
--- src/early.rt, lowest: r ≡ lowest_of board t 96
+-- src/early.rt, lowest: result ≡ lowest_of board t.now 96
 use Prim.Native.Nat.{◌-◌, ◌≤◌}
 use native.Mathlib.Omega.{arith}
 use Rattle.verdict.proofs.Laws.Stages.{NoneFails, cleared_start, cleared_reached, cleared_hit, cleared_on, cleared_end}

@@ -1,4 +1,4 @@
--- src/early.rt, range_at: r ≡ (not (eqb p.0 0) || s1 (view t).k)
+-- src/early.rt, range_at: result ≡ (not (eqb p.0 0) || s1 (view t.now).k)
 use mathlib.Core.Path.{refl}
 use borrow.Author.Tests.{le-ltb, lt-ltb, eq-eqb, ne_eqb}
 use Rattle.sound.specs.Clauses.{s1}

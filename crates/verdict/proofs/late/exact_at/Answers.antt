@@ -1,4 +1,4 @@
--- src/late.rt, exact_at: r ≡ s7 (view t) p.0
+-- src/late.rt, exact_at: result ≡ s7 (view t.now) p.0
 use Rattle.decide.specs.Laws.Decide.{passed}
 use Rattle.verdict.proofs.Laws.Stages.{s7_absent, given_fails, exact_decides}
 use borrow.Author.Rules.{rules}

@@ -1,4 +1,4 @@
--- src/late.rt, holds: r ≡ clause_at board t k p.0
+-- src/late.rt, holds: result ≡ clause_at board t.now k p.0
 use mathlib.Core.Path.{◌≡◌}
 use native.Mathlib.Omega.{arith}
 use Rattle.sound.specs.Clauses.{clause_at}

@@ -1,3 +1,4 @@
+-- src/late.rt, lowest: result ≡ lowest_of board t.now 176
 use Prim.Native.Nat.{◌-◌, ◌≤◌}
 use native.Mathlib.Omega.{arith}
 use Rattle.verdict.proofs.Laws.Stages.{NoneFails, cleared_from, cleared_reached, cleared_hit, cleared_on, cleared_end}

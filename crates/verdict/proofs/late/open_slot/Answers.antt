@@ -1,4 +1,4 @@
--- src/late.rt, open_slot: r ≡ open_slot (view t) p.0 i.0
+-- src/late.rt, open_slot: result ≡ open_slot (view t.now) p.0 i.0
 use borrow.Author.Tests.{not-true, not-false}
 use Rattle.verdict.specs.Laws.Opens.{open_empty, open_there}
 use borrow.Author.Rules.{rules}

@@ -1,3 +1,4 @@
+-- src/late.rt, opens_at: result ≡ s9 (view t.now) p.0
 use mathlib.Core.Path.{ap, sym, ◌∙◌}
 use mathlib.Core.Bool.{not}
 use Prim.Native.Nat.{◌-◌}

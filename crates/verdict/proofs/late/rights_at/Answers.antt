@@ -1,4 +1,4 @@
--- src/late.rt, rights_at: r ≡ s11 (view t).k p.0
+-- src/late.rt, rights_at: result ≡ s11 (view t.now).k p.0
 use Rattle.decide.specs.Laws.Decide.{passed}
 use Rattle.verdict.proofs.Laws.Stages.{s11_absent, rights_decide}
 use borrow.Author.Rules.{rules}
