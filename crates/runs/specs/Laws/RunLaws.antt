@@ -13,7 +13,7 @@ use Rattle.std.proofs.Math.Seq.{get_or-append_seam}
 use Rattle.std.proofs.lemmas.Bool.{eqb-false}
 use Rattle.loops.specs.Laws.Climb.{climb_root, climb_suc}
 use Rattle.tables.specs.State.{K}
-use Rattle.sound.specs.Holders.{deepest, trail, holders_of}
+use Rattle.sound.specs.Holders.{trail, holders_of}
 use Rattle.runs.specs.declared.Run.{Run}
 use Rattle.runs.specs.Runs.{deepest_at, run_of, joined_runs, runs_from, runs_of, nth_run, On, Chain, Longest}
 

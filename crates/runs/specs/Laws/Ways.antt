@@ -12,7 +12,6 @@ use Rattle.words.specs.declared.Written.{Written}
 use Rattle.words.specs.declared.mark_word.MarkFields.{MarkFields}
 use Rattle.tables.specs.State.{K}
 use Rattle.sound.specs.Core.{Core}
-use Rattle.sound.specs.Holders.{heir}
 use Rattle.runs.specs.declared.pieces.Hop.{Hop}
 use Rattle.runs.specs.declared.pieces.PieceEnd.{PieceEnd}
 use Rattle.runs.specs.Pieces.{end_at, Hopped, Descent}

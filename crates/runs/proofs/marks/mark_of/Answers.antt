@@ -1,6 +1,5 @@
 -- src/marks.rt, mark_of: result ≡ mark_for line.0 holder.0
 use mathlib.Core.Path.{◌∙◌}
-use borrow.Author.Rules.{rules}
 use Rattle.runs.specs.Laws.Ways.{kept_mark}
 use Rattle.runs.proofs.marks.mark_of.Goals as goal
 

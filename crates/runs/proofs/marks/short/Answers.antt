@@ -1,6 +1,5 @@
 -- src/marks.rt, short: result ≡ word_written word
 use mathlib.Core.Path.{subst}
-use borrow.Author.Rules.{rules}
 use Rattle.runs.specs.Ways.{Short}
 use Rattle.runs.proofs.marks.short.Goals as goal
 

@@ -1,9 +1,7 @@
 -- src/pieces.rt, climb: Climbed way.now depth l.0 result
 use mathlib.Core.Path.{ap}
 use native.Mathlib.Omega.{arith}
-use borrow.Author.Rules.{rules}
 use Rattle.words.specs.declared.mark_word.MarkFields.{MarkFields}
-use Rattle.runs.specs.Ways.{Climbing}
 use Rattle.runs.specs.Laws.Ways.{climb_start, climb_up, climbed_root}
 use Rattle.runs.proofs.pieces.climb.Goals as goal
 

@@ -1,10 +1,7 @@
 -- src/pieces.rt, hop_at: Hopped (view t.now).k l.0 p.0 result × Passed (view t.now).k order.now l.0 places.new
-use native.Mathlib.Omega.{arith}
-use borrow.Author.Rules.{rules}
 use Prim.Native.Nat.{◌-◌}
 use Rattle.tables.specs.View.{view}
-use Rattle.runs.specs.Laws.Pieces.{holder_small}
-use Rattle.runs.specs.Laws.Places.{Hopping, pass_in, pass_on, pass_here, passed_set}
+use Rattle.runs.specs.Laws.Places.{Hopping}
 use Rattle.runs.proofs.pieces.hop_at.Given as goal
 
 abbrev pub invariant-loop-a : goal.invariant-loop-a

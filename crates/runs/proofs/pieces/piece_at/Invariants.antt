@@ -1,10 +1,7 @@
 -- src/pieces.rt, piece_at: Pieced (view t.now).k order.now l.0 result places.new way.new
-use native.Mathlib.Omega.{arith}
-use borrow.Author.Rules.{rules}
 use Prim.Native.Nat.{◌-◌}
 use Rattle.tables.specs.View.{view}
-use Rattle.runs.specs.Laws.Pieces.{stop_small}
-use Rattle.runs.specs.Laws.Ways.{Walking, climbs, walk_from_mark, walk_holds, walk_here, low_small, walk_down, walk_last}
+use Rattle.runs.specs.Laws.Ways.{Walking}
 use Rattle.runs.proofs.pieces.piece_at.Given as goal
 
 abbrev pub invariant-loop-d : goal.invariant-loop-d

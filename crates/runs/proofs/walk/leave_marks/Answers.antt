@@ -2,7 +2,6 @@
 use mathlib.Core.Path.{refl, ap, ◌∙◌}
 use lib.ListN.{length, replicate}
 use native.Mathlib.Omega.{arith}
-use borrow.Author.Rules.{rules}
 use Rattle.loops.specs.Laws.Rewrite.{length_tab}
 use Rattle.runs.specs.Laws.Bound.{runs_bound}
 use Rattle.runs.specs.Laws.Marks.{kept_marks}

@@ -1,6 +1,5 @@
 -- src/walk.rt, mark: Marked marks.old n last.0 start.0 deepest.0 result marks.new
 use native.Mathlib.Omega.{arith}
-use borrow.Author.Rules.{rules}
 use Rattle.runs.specs.Laws.Marks.{marked_same, marked_new}
 use Rattle.runs.proofs.walk.mark.Goals as goal
 

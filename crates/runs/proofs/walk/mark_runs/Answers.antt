@@ -2,11 +2,8 @@
 -- `runs::walk::mark_runs` meets its contract: at each turn the marks are those of the runs behind, and the way is that of the line.
 use mathlib.Core.Path.{sym}
 use native.Mathlib.Omega.{arith}
-use borrow.Author.Rules.{rules}
-use Prim.Native.Nat.{◌-◌}
-use Rattle.tables.specs.View.{view}
 use Rattle.runs.specs.Laws.Pieces.{stop_small}
-use Rattle.runs.specs.Laws.Marks.{Walk, walk_begins, standing, walk_past_piece, walk_nearer, marks_few, runs_mark_end}
+use Rattle.runs.specs.Laws.Marks.{walk_begins, standing, walk_past_piece, walk_nearer, marks_few, runs_mark_end}
 use Rattle.runs.proofs.walk.mark_runs.Goals as goal
 
 pub mark_of-top-requires : goal.mark_of-top-requires

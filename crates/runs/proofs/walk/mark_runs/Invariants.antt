@@ -1,11 +1,7 @@
 -- src/walk.rt, mark_runs: (result ≡ length (runs_of (view t.now).k)) × (marks.new ≡ marks_over 513 (view t.now).k marks.old)
-use mathlib.Core.Path.{sym}
-use native.Mathlib.Omega.{arith}
-use borrow.Author.Rules.{rules}
 use Prim.Native.Nat.{◌-◌}
 use Rattle.tables.specs.View.{view}
-use Rattle.runs.specs.Laws.Pieces.{stop_small}
-use Rattle.runs.specs.Laws.Marks.{Walk, walk_begins, standing, walk_past_piece, walk_nearer, marks_few, runs_mark_end}
+use Rattle.runs.specs.Laws.Marks.{Walk}
 use Rattle.runs.proofs.walk.mark_runs.Given as goal
 
 abbrev pub invariant-loop-at : goal.invariant-loop-at
