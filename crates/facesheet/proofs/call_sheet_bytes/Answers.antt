@@ -34,7 +34,7 @@ pub packed-requires-then-not-same : goal.packed-requires-then-not-same
 packed-requires-then-not-same c = (omega arith, omega (arith, c.first-first.ensures.current_small), omega arith)
 
 pub returns-then-not-same : goal.returns-then-not-same
-returns-then-not-same c = call_mismatch _ _ _ _ c.if-table-ne5128.false c.load-top.ensures.0 (sym c.is_sound_beside.ensures.says ∙ c.if-not-is_sound_beside.false) (sym (c.is_sound_beside.ensures.same c.if-not-is_sound_beside.false) ∙ not-true _ c.if-not-same.true) c.first-first.ensures.current c.packed-then-not-same.ensures
+returns-then-not-same c = call_mismatch _ _ _ _ c.if-table-ne5128.false c.load-top.ensures.0 (sym c.is_sound_beside.ensures.says ∙ c.if-not-is_sound_beside.false) (sym (c.is_sound_beside.ensures.same c.if-not-is_sound_beside.false) ∙ c.if-not-same.true) c.first-first.ensures.current c.packed-then-not-same.ensures
 
 pub serve_word-answer-requires : goal.serve_word-answer-requires
 serve_word-answer-requires c = sym c.is_sound_beside.ensures.says ∙ c.if-not-is_sound_beside.false
@@ -46,7 +46,7 @@ store_both-requires c =
     let small = c.slice_known-1.given in
     let answer = c.serve_word-answer.ensures in
     let done = c.in-Done.is in
-    (size, matches_length _ _ (sym (c.is_sound_beside.ensures.same c.if-not-is_sound_beside.false) ∙ not-false _ c.if-not-same.false), call_tells _ size load answer (λ i. (small i).fits) done, call_told _ size load answer (λ i. (small i).fits) done, call_stored _ size load answer (λ i. (small i).fits) done, called_right _ _ load (λ i. (small i).fits) answer done, c.touched-touched.ensures.1)
+    (size, matches_length _ _ (sym (c.is_sound_beside.ensures.same c.if-not-is_sound_beside.false) ∙ c.if-not-same.false), call_tells _ size load answer (λ i. (small i).fits) done, call_told _ size load answer (λ i. (small i).fits) done, call_stored _ size load answer (λ i. (small i).fits) done, called_right _ _ load (λ i. (small i).fits) answer done, c.touched-touched.ensures.1)
 
 pub packed-requires-in-Done : goal.packed-requires-in-Done
 packed-requires-in-Done c = (omega arith, omega (arith, call_caller_small _ c.if-table-ne5128.false c.load-top.ensures.0 c.serve_word-answer.ensures), omega (arith, brief_first (call_brief _ _ _) (sym c.serve_word-answer.ensures.ran.outcome ∙ c.in-Done.is)))
@@ -59,11 +59,11 @@ returns-in-Done c =
     let small = c.slice_known-1.given in
     let bytes = c.slice_known-2-1.given in
     let right = sym c.is_sound_beside.ensures.says ∙ c.if-not-is_sound_beside.false in
-    let same = sym (c.is_sound_beside.ensures.same c.if-not-is_sound_beside.false) ∙ not-false _ c.if-not-same.false in
+    let same = sym (c.is_sound_beside.ensures.same c.if-not-is_sound_beside.false) ∙ c.if-not-same.false in
     call_both _ _ _ _ c.if-table-ne5128.false c.load-top.ensures.0 right same c.serve_word-answer.ensures (λ i. (small i).fits) c.in-Done.is (λ i. (bytes i).fits) c.packed-in-Done.ensures c.store_both.ensures.0 c.touched-touched.ensures c.store_both.ensures.1 refl
 
 pub returns-in-Refused : goal.returns-in-Refused
 returns-in-Refused c =
     let right = sym c.is_sound_beside.ensures.says ∙ c.if-not-is_sound_beside.false in
-    let same = sym (c.is_sound_beside.ensures.same c.if-not-is_sound_beside.false) ∙ not-false _ c.if-not-same.false in
+    let same = sym (c.is_sound_beside.ensures.same c.if-not-is_sound_beside.false) ∙ c.if-not-same.false in
     call_neither _ _ _ _ c.if-table-ne5128.false c.load-top.ensures.0 right same c.serve_word-answer.ensures c.in-Refused.is c.packed-in-Refused.ensures
