@@ -1,0 +1,10 @@
+-- src/regions.rt, ulavrepit_region_write: WriteLent table.now partition slot rbar.old rlar.old result rbar.new rlar.new
+use Rattle.board8.specs.Laws.Regions.{write_lent, write_lent_not}
+use borrow.Author.Rules.{rules}
+use Rattle.board8.proofs.regions.ulavrepit_region_write.Goals as goal
+
+pub returns-in-Pair : goal.returns-in-Pair
+returns-in-Pair c = write_lent _ _ _ _ _ c.pair_bytes.ensures _ c.in-Pair.is
+
+pub returns-in-Refused : goal.returns-in-Refused
+returns-in-Refused c = write_lent_not _ _ _ _ _ c.pair_bytes.ensures _ c.in-Refused.is
