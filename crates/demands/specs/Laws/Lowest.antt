@@ -16,6 +16,7 @@ pub data Rises : ℕ → Ladder → Type 1 where
   number : {n m k : ℕ} {P : ℕ → Type 0} {c : ℕ → Ladder} → n ≤ m → m ≤ 22 → ((i : ℕ) → Rises m (c i)) → Rises n (least m k P c)
 
 pub applies_range : {n m : ℕ} {l : Ladder} → Rises n l → Applies l m → (n ≤ m) × (m ≤ 22)
+applies_range top x = elim x [ ]
 applies_range (rung a b r) (fails _) = (a, b)
 applies_range (rung a b r) (later x) = let (c, d) = applies_range r x in (omega arith, d)
 applies_range (value a b r) (missing _) = (a, b)

@@ -24,6 +24,7 @@ data Low : Ladder → Type 1 where
   number : {m k : ℕ} {P : ℕ → Type 0} {c : ℕ → Ladder} → m ≤ 18 → ((i : ℕ) → Low (c i)) → Low (least m k P c)
 
 applies_low : {m : ℕ} {l : Ladder} → Low l → Applies l m → m ≤ 18
+applies_low top x = elim x [ ]
 applies_low (rung a u) (fails _) = a
 applies_low (rung a u) (later x) = applies_low u x
 applies_low (passed p u) (fails q) = absurd (q p)

@@ -89,6 +89,7 @@ data Below : Ladder → Type 1 where
   finds : {m k : ℕ} {P : ℕ → Type 0} {c : ℕ → Ladder} → m < 20 → ((i : ℕ) → Below (c i)) → Below (least m k P c)
 
 applies_below : {m : ℕ} {l : Ladder} → Below l → Applies l m → m < 20
+applies_below last x = elim x [ ]
 applies_below (asks b r) (fails _) = b
 applies_below (asks b r) (later x) = applies_below r x
 applies_below (needs b r) (missing _) = b
