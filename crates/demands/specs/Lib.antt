@@ -1,5 +1,4 @@
 pub mod Demands
-pub mod Theorem
 pub mod Branch
 pub mod Checks
 pub mod Sheet

@@ -1,4 +1,3 @@
 -- The line engine, driven by the calls of the other one: its masks name who holds each line.
 pub mod Engines
-pub mod Theorem
 pub mod Laws

@@ -1,6 +1,5 @@
 -- DEMAND 3: a ledger kept by hand from an accepted boot always equals the listing of holders, for each line, after any list of calls.
 use Rattle.std.specs.Prelude.{◌≡◌, true, List, ℕ, ◌≤◌, ◌<◌, length}
-use mathlib.Core.Logic.Iff
 use Rattle.loops.specs.Loops.{count}
 use Rattle.shapes.specs.declared.Board.{Board}
 use Rattle.tables.specs.View.{view}

@@ -3,7 +3,6 @@ use Rattle.tables.specs.Laws.Top.{top_16}
 use Rattle.sound.proofs.Laws.Holders.{wrong_length}
 use Rattle.rules.specs.Laws.Calls.{answers_unsound}
 use Rattle.rules.specs.Laws.Reads.{answers_copied, answers_left}
-use borrow.Author.Rules.{rules}
 use Rattle.calls.proofs.call.Goals as goal
 
 pub returns-then-t-ne641 : goal.returns-then-t-ne641

@@ -1,6 +1,5 @@
 -- src/lib.rt, call_table: CallAnswers board t.old word result t.new
 use mathlib.Core.Path.{sym, ◌∙◌}
-use borrow.Author.Tests.{not-true, not-false}
 use Rattle.rules.specs.Laws.Calls.{answers_unsound}
 use Rattle.calls.proofs.call_table.Goals as goal
 

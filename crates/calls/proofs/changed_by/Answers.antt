@@ -6,7 +6,6 @@ use Rattle.tables.specs.Search.{given_in}
 use Rattle.tables.specs.View.{view}
 use Rattle.rules.specs.Changes.{changed_by}
 use Rattle.rules.specs.Laws.Calls.{changed_at, changed_all}
-use borrow.Author.Rules.{rules}
 use Rattle.calls.proofs.changed_by.Goals as goal
 
 pub returns-in-5 : goal.returns-in-5

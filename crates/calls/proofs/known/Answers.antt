@@ -3,7 +3,6 @@ use mathlib.Core.Path.{refl, ◌∙◌}
 use Rattle.rules.specs.Rules.{uses}
 use Rattle.rules.specs.Laws.Each.{known_at}
 use Rattle.rules.specs.Laws.Calls.{known_not}
-use borrow.Author.Rules.{rules}
 use Rattle.calls.proofs.known.Goals as goal
 
 pub returns-in-1 : goal.returns-in-1

@@ -1,8 +1,6 @@
 -- src/lib.rt, region_known: result ≡ region_call f && unused (record { p = true; s = true; u = true; r = true; l = false; w = false }) f
 use mathlib.Core.Path.{refl}
-use borrow.Author.Tests.{not-true, not-false}
 use Rattle.rules.specs.Rules.{unused, region_call}
-use borrow.Author.Rules.{rules}
 use Rattle.calls.proofs.region_known.Goals as goal
 
 pub returns-then-r : goal.returns-then-r

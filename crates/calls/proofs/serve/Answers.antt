@@ -1,9 +1,7 @@
 -- src/lib.rt, serve: Ran (serve board (view t.old) f) t.old result t.new
 use mathlib.Core.Path.{sym, ◌∙◌}
-use borrow.Author.Tests.{not-true, not-false}
 use Rattle.rules.specs.Laws.Ran.{ran_refused, ran_as}
 use Rattle.rules.specs.Laws.Calls.{serve_unknown, serve_known}
-use borrow.Author.Rules.{rules}
 use Rattle.calls.proofs.serve.Goals as goal
 
 pub returns-then-not-known : goal.returns-then-not-known

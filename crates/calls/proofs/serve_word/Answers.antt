@@ -4,7 +4,6 @@ use Rattle.sound.proofs.Laws.List.{sound_means}
 use Rattle.sound.proofs.Laws.Whole.{sound_right}
 use Rattle.sound.specs.Laws.Canonical.{sound_canon}
 use Rattle.rules.specs.Laws.Calls.{read_small, answers_served, answers_unread}
-use borrow.Author.Rules.{rules}
 use Rattle.calls.proofs.serve_word.Goals as goal
 
 pub changed_by-changed-requires : goal.changed_by-changed-requires

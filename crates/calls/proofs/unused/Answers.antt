@@ -1,8 +1,6 @@
 -- src/lib.rt, unused: result ≡ unused (record { p = p; s = s; u = u; r = r; l = l; w = w }) f
 use mathlib.Core.Path.{refl}
-use borrow.Author.Tests.{not-true, not-false}
 use Rattle.rules.specs.Rules.{unused}
-use borrow.Author.Rules.{rules}
 use Rattle.calls.proofs.unused.Goals as goal
 
 pub returns-then-not-either : goal.returns-then-not-either

@@ -1,12 +1,7 @@
 -- src/lib.rt, check_eight: SlotsChecked t.now p.0 (8 * j) (slots_test t.now (view t.now).k p.0 j) result
-use mathlib.Core.Path.{sym, ◌∙◌}
-use borrow.Author.Tests.{not-false}
 use Rattle.tables.specs.View.{view}
 use Rattle.summing.specs.Sums.{Adding}
-use Rattle.summing.specs.Laws.Sums.{adding_at}
-use Rattle.comparing.specs.Laws.Once.{SlotsFrom, slots_start, slots_on, slots_fail, slots_done, checked_fails, checked_all, structure_of_law}
-use native.Mathlib.Omega.{arith}
-use borrow.Author.Rules.{rules}
+use Rattle.comparing.specs.Laws.Once.{SlotsFrom}
 use Rattle.comparing.proofs.check_eight.Given as goal
 
 abbrev pub invariant-loop-i : goal.invariant-loop-i

@@ -1,9 +1,7 @@
 -- src/lib.rt, check_slot: SlotsChecked t.now p.0 (i - 1) (s5_slot t.now (view t.now).k p.0 (i - 1)) result
 use mathlib.Core.Path.{sym, ◌∙◌, ap}
-use borrow.Author.Tests.{not-false}
 use Rattle.comparing.specs.Laws.Once.{slot_ranged, checked_refused, checked_passed}
 use native.Mathlib.Omega.{arith}
-use borrow.Author.Rules.{rules}
 use mathlib.Core.Bool.{not}
 use Rattle.comparing.proofs.check_slot.Goals as goal
 

@@ -1,13 +1,9 @@
 -- src/lib.rt, check_slots: SlotsChecked t.now p.0 0 (s5 t.now (view t.now).k p.0) result
 use mathlib.Core.Path.{sym, ◌∙◌}
-use Prim.Native.Nat.{◌*◌}
 use borrow.Author.Tests.{not-false}
-use Rattle.tables.specs.View.{view}
-use Rattle.summing.specs.Sums.{Adding}
 use Rattle.summing.specs.Laws.Sums.{adding_start, adding_at}
-use Rattle.comparing.specs.Laws.Once.{StructuresFrom, structures_start, structures_on, structures_fail, structures_done, checked_fails, checked_all}
+use Rattle.comparing.specs.Laws.Once.{structures_start, structures_on, structures_fail, structures_done, checked_fails, checked_all}
 use native.Mathlib.Omega.{arith}
-use borrow.Author.Rules.{rules}
 use Rattle.comparing.proofs.check_slots.Goals as goal
 
 pub loop-j-init : goal.loop-j-init

@@ -1,12 +1,10 @@
 -- src/lib.rt, check_structure: SlotsChecked t.now p.0 (8 * j) (slots_test t.now (view t.now).k p.0 j) result
 use mathlib.Core.Path.{ap, sym, ◌∙◌}
-use borrow.Author.Tests.{not-false}
 use Rattle.tables.specs.Search.{is_some}
 use Rattle.tables.specs.Laws.Search.{structure_some}
 use Rattle.shape.specs.Laws.Records.{slots_absent}
 use Rattle.summing.specs.Laws.Sums.{absent_room, add_empty}
 use Rattle.comparing.specs.Laws.Once.{checked_refused, checked_passed, words_empty}
-use borrow.Author.Rules.{rules}
 use mathlib.Core.Bool.{not}
 use Rattle.comparing.proofs.check_structure.Goals as goal
 

@@ -1,15 +1,8 @@
 -- src/lib.rt, compare_each: ComparedTo sheet.now t.now 16 (all 16 (shape_at t.now)) result same.new
-use mathlib.Core.Path.{ap, sym, ◌∙◌}
-use mathlib.Core.Bool.{not}
 use Prim.Native.Nat.{◌-◌}
-use borrow.Author.Tests.{not-false}
 use Rattle.loops.specs.Laws.Every.{Passing}
-use Rattle.loops.specs.Laws.Scan.{seek_start, seek_hit, seek_on, seek_end}
 use Rattle.shape.specs.AtOnce.{shape_at}
 use Rattle.comparing.specs.Once.{SameTo}
-use Rattle.comparing.specs.Laws.Once.{same_up_to, compared_refused, compared_passed}
-use native.Mathlib.Omega.{arith}
-use borrow.Author.Rules.{rules}
 use Rattle.comparing.proofs.compare_each.Given as goal
 
 abbrev pub invariant-loop-p : goal.invariant-loop-p

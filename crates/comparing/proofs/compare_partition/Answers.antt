@@ -1,6 +1,5 @@
 -- src/lib.rt, compare_partition: ComparedTo sheet.now t.now (p.0 + 1) (shape_at t.now p.0) result same.new
 use mathlib.Core.Path.{sym, ◌∙◌, ap}
-use borrow.Author.Tests.{not-true, not-false}
 use Rattle.tables.specs.Laws.Top.{top_absent}
 use Rattle.sound.specs.Laws.Tests.{and_says, never}
 use Rattle.shape.specs.AtOnce.{shape_at}
@@ -8,7 +7,6 @@ use Rattle.decide.specs.Laws.Decide.{failed, passed, absent_shape, and_is, top_s
 use Rattle.sheetrules.proofs.Laws.Words.{pair_absent}
 use Rattle.comparing.specs.Laws.Once.{same_on, compared_refused, compared_passed, compared_as}
 use native.Mathlib.Omega.{arith}
-use borrow.Author.Rules.{rules}
 use mathlib.Core.Bool.{not}
 use Rattle.comparing.proofs.compare_partition.Goals as goal
 

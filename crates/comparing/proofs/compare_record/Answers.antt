@@ -5,7 +5,6 @@ use Rattle.sound.specs.Clauses.{s5}
 use Rattle.shape.specs.Laws.Records.{record_test, record_is}
 use Rattle.summing.specs.Laws.Written.{children_few, with_children}
 use Rattle.comparing.specs.Laws.Once.{same_on, compared_refused, compared_passed}
-use borrow.Author.Rules.{rules}
 use Rattle.comparing.proofs.compare_record.Goals as goal
 
 pub returns-then-not-header_sound : goal.returns-then-not-header_sound

@@ -4,7 +4,6 @@ use Rattle.sound.specs.Laws.Tests.{and_says, never}
 use Rattle.shape.specs.AtOnce.{formed}
 use Rattle.decide.specs.Laws.Decide.{failed, passed, and_is, top_first}
 use Rattle.comparing.specs.Laws.Once.{same_start, compared_refused, compared_as}
-use borrow.Author.Rules.{rules}
 use mathlib.Core.Bool.{not}
 use Rattle.comparing.proofs.is_formed.Goals as goal
 

@@ -1,7 +1,6 @@
 -- src/lib.rt, pair_is: result ≡ pair_is sheet.now p.0 masks lines
 use Rattle.sheetrules.specs.Laws.Bytes.{pair_differs, pair_second}
 use native.Mathlib.Omega.{arith}
-use borrow.Author.Rules.{rules}
 use Rattle.comparing.proofs.pair_is.Goals as goal
 
 pub word-requires : goal.word-requires

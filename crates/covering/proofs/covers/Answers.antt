@@ -1,6 +1,5 @@
 -- src/lib.rt, covers: result ≡ covers_for ranked (view t.now) p.0
 use Rattle.decide.specs.Laws.Tiles.{in_order, child_of}
-use borrow.Author.Rules.{rules}
 use Rattle.covering.proofs.covers.Goals as goal
 
 pub tiles_memory-requires : goal.tiles_memory-requires

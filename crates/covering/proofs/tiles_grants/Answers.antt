@@ -1,8 +1,6 @@
 -- src/lib.rt, tiles_grants: result ≡ covers_for ranked (view t.now) p.0
-use Prim.Native.Nat.{◌-◌}
 use native.Mathlib.Omega.{arith}
-use Rattle.covering.specs.Laws.Cover.{WalkedFor, cover_start, grant_filled, cover_end, cover_skip, cover_on, cover_stuck}
-use borrow.Author.Rules.{rules}
+use Rattle.covering.specs.Laws.Cover.{cover_start, grant_filled, cover_end, cover_skip, cover_on, cover_stuck}
 use Rattle.covering.proofs.tiles_grants.Goals as goal
 use Rattle.covering.proofs.tiles_grants.Goals.{then-g-p+else-i-n, else-g-p}
 

@@ -1,6 +1,5 @@
 -- src/lib.rt, tiles_memory: result ≡ covers_for ranked (view t.now) p.0
 use Rattle.covering.specs.Cover.{covers_for}
-use borrow.Author.Rules.{rules}
 use Rattle.covering.proofs.tiles_memory.Goals as goal
 
 pub returns-then-ranked : goal.returns-then-ranked

@@ -3,7 +3,6 @@ use mathlib.Core.Path.{sym, ◌∙◌, ap}
 use Rattle.sound.specs.Laws.Tests.{and_says, never}
 use Rattle.shape.specs.AtOnce.{formed}
 use Rattle.decide.specs.Laws.Decide.{failed, passed, and_is, top_first}
-use borrow.Author.Rules.{rules}
 use mathlib.Core.Bool.{not}
 use Rattle.decide.proofs.is_formed.Goals as goal
 

@@ -2,7 +2,6 @@
 use mathlib.Core.Path.{refl}
 use borrow.Author.Tests.{eq-eqb, ne_eqb}
 use Rattle.decide.specs.Walk.{none_left}
-use borrow.Author.Rules.{rules}
 use Rattle.decide.proofs.none_left.Goals as goal
 
 pub returns-then-p-eq0 : goal.returns-then-p-eq0

@@ -1,9 +1,7 @@
 -- src/lib.rt, order_told: Decided board t.now result order.new counts.new
-use borrow.Author.Tests.{not-false}
 use Rattle.decide.specs.Laws.Decide.{failed, passed, parts_formed, formed_first, formed_shaped, not_sound}
 use Rattle.decide.specs.Laws.Decided.{not_marked, decided}
 use Rattle.marking.specs.Laws.Marking.{no_marks}
-use borrow.Author.Rules.{rules}
 use mathlib.Core.Path.{ap}
 use mathlib.Core.Bool.{not}
 use Rattle.decide.proofs.order_told.Goals as goal

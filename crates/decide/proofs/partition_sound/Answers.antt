@@ -1,9 +1,7 @@
 -- src/lib.rt, partition_sound: result ≡ left_where board (view t.now) p.0
 use mathlib.Core.Path.{sym, ◌∙◌, ap}
-use borrow.Author.Tests.{not-true}
 use Rattle.decide.specs.Laws.Decide.{passed}
 use Rattle.decide.specs.Laws.Local.{left_absent, left_short, left_last}
-use borrow.Author.Rules.{rules}
 use mathlib.Core.Bool.{not}
 use Rattle.decide.proofs.partition_sound.Goals as goal
 

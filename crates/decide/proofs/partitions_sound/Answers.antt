@@ -1,10 +1,8 @@
 -- src/lib.rt, partitions_sound: result ≡ all 16 (local_where board (view t.now) mark.now)
 use mathlib.Core.Path.{refl, ap}
 use native.Mathlib.Omega.{arith}
-use borrow.Author.Tests.{not-false}
 use Rattle.decide.specs.Laws.Decide.{passed}
 use Rattle.decide.specs.Laws.Walk.{row_of_law, root_here, walk_first, walk_ended, rest_local, not_walked, root_uncovered}
-use borrow.Author.Rules.{rules}
 use mathlib.Core.Bool.{not}
 use Rattle.decide.proofs.partitions_sound.Goals as goal
 

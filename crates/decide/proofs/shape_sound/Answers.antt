@@ -1,10 +1,8 @@
 -- src/lib.rt, shape_sound: result ≡ shape_at t.now p.0
 use mathlib.Core.Path.{sym, ◌∙◌, ap}
-use borrow.Author.Tests.{not-true}
 use Rattle.sound.specs.Laws.Tests.{and_says, never}
 use Rattle.shape.specs.AtOnce.{shape_at}
 use Rattle.decide.specs.Laws.Decide.{failed, passed, absent_shape, and_is}
-use borrow.Author.Rules.{rules}
 use mathlib.Core.Bool.{not}
 use Rattle.decide.proofs.shape_sound.Goals as goal
 

@@ -11,7 +11,7 @@ use Rattle.tables.specs.View.{view}
 use Rattle.tables.specs.Search.{present}
 use Rattle.tables.specs.Top.{Top}
 use Rattle.tables.specs.Laws.Top.{top_absent}
-use Rattle.sound.specs.Clauses.{s1, s2, s3_first, s3, s4, s5, s6, s7, s9, s10, s11, sound}
+use Rattle.sound.specs.Clauses.{s1, s2, s3_first, s6, sound}
 use Rattle.sound.specs.Laws.Tests.{and_says, and_true, not_says, never}
 use Rattle.ordering.specs.Laws.Present.{absent_zero}
 use Rattle.shape.specs.Laws.Absent.{absent_s3, absent_s4, absent_s5, absent_s6, absent_s7, absent_s8, absent_s9, absent_s10, absent_s11}

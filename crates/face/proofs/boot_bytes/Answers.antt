@@ -5,7 +5,6 @@ use Prim.Native.Nat.{ℕ}
 use Rattle.rules.proofs.Laws.Brief.{boot_brief, brief_first, number_small}
 use Rattle.face.specs.Laws.Face.{boot_root, boot_none, boot_lent, boot_kept}
 use native.Mathlib.Omega.{arith}
-use borrow.Author.Rules.{rules}
 use Rattle.face.proofs.boot_bytes.Goals as goal
 
 pub packed-requires : goal.packed-requires

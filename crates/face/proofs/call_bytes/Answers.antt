@@ -1,13 +1,9 @@
 -- src/lib.rt, call_bytes: CallLent board table.old word second.old result table.new second.new
-use mathlib.Core.Path.{◌≡◌, refl, ap, sym, ◌∙◌}
-use lib.ListN.{length}
-use borrow.Author.Tests.{not-false}
-use Rattle.memory.specs.Bytes.{bytes_of}
+use mathlib.Core.Path.{refl, sym, ◌∙◌}
 use Rattle.tables.specs.Laws.Top.{top_at}
 use Rattle.rules.proofs.Laws.Brief.{call_brief, brief_first, number_small}
 use Rattle.face.specs.Laws.Face.{call_none, call_lent, call_tells, call_told, call_stored, call_stands, call_lent_refused, call_caller_small}
 use native.Mathlib.Omega.{arith}
-use borrow.Author.Rules.{rules}
 use Rattle.face.proofs.call_bytes.Goals as goal
 use Rattle.face.proofs.call_bytes.Goals.{then-not-stands, else-not-stands}
 

@@ -3,7 +3,6 @@ use mathlib.Core.Path.{refl, sym, ◌∙◌}
 use Rattle.tables.specs.Laws.Top.{top_at}
 use Rattle.face.specs.Laws.Face.{holders_first, holders_number, list_none, list_lent, list_kept}
 use native.Mathlib.Omega.{arith}
-use borrow.Author.Rules.{rules}
 use Rattle.face.proofs.holders_bytes.Goals as goal
 
 pub packed-requires : goal.packed-requires

@@ -2,11 +2,9 @@
 -- `holders::descend` meets its contract: at each turn the descent from p comes to the same partition and the same sum as from the root.
 use mathlib.Core.Path.{refl, sym, ◌∙◌}
 use native.Mathlib.Omega.{arith}
-use borrow.Author.Rules.{rules}
-use Rattle.tables.specs.View.{view}
 use Rattle.tables.specs.Laws.Answers.{looked_count}
 use Rattle.sound.proofs.Laws.Holders.{deepest_here, deepest_last}
-use Rattle.sound.proofs.Laws.Looks.{Descending, looks_descent_room, looks_descent_down, looks_descent_here, looks_descent_last}
+use Rattle.sound.proofs.Laws.Looks.{looks_descent_room, looks_descent_down, looks_descent_here, looks_descent_last}
 use Rattle.holders.proofs.descend.Goals as goal
 
 pub loop-left-init : goal.loop-left-init

@@ -1,11 +1,6 @@
 -- src/lib.rt, descend: (result.deepest.0 ≡ deepest (view t.now).k l.0 0 15) × (result.deepest.0 < 16) × (result.count ≡ looks_of (view t.now).k l.0)
-use mathlib.Core.Path.{refl, sym, ◌∙◌}
-use native.Mathlib.Omega.{arith}
-use borrow.Author.Rules.{rules}
 use Rattle.tables.specs.View.{view}
-use Rattle.tables.specs.Laws.Answers.{looked_count}
-use Rattle.sound.proofs.Laws.Holders.{deepest_here, deepest_last}
-use Rattle.sound.proofs.Laws.Looks.{Descending, looks_descent_room, looks_descent_down, looks_descent_here, looks_descent_last}
+use Rattle.sound.proofs.Laws.Looks.{Descending}
 use Rattle.holders.proofs.descend.Given as goal
 
 abbrev pub invariant-loop-left : goal.invariant-loop-left

@@ -1,7 +1,6 @@
 -- src/lib.rt, holders: HoldersListed board t.now line list.old result list.new
 use Rattle.tables.specs.Laws.Top.{top_16}
 use Rattle.sound.proofs.Laws.Holders.{wrong_length, listed_unsound, listed_copy}
-use borrow.Author.Rules.{rules}
 use Rattle.holders.proofs.holders.Goals as goal
 
 pub returns-then-t-ne641 : goal.returns-then-t-ne641

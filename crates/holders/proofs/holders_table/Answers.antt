@@ -1,11 +1,9 @@
 -- src/lib.rt, holders_table: HoldersListed board t.now line list.old result list.new
 use mathlib.Core.Path.{sym, ◌∙◌, ap}
-use borrow.Author.Tests.{not-true}
 use Rattle.decide.specs.Laws.Decide.{passed}
 use Rattle.sound.proofs.Laws.Whole.{tested}
 use Rattle.sound.proofs.Laws.Holders.{listed_unsound, listed_outside, listed_short, listed_done, below_base, from_end, in_memory_law}
 use native.Mathlib.Omega.{arith}
-use borrow.Author.Rules.{rules}
 use mathlib.Core.Bool.{not}
 use Rattle.holders.proofs.holders_table.Goals as goal
 

@@ -3,7 +3,6 @@ use Rattle.tables.specs.Laws.Search.{lowest_some}
 use Rattle.tables.specs.Laws.Answers.{looked_slot, looked_count}
 use Rattle.sound.proofs.Laws.Holders.{heir_none, heir_given, heir_empty}
 use native.Mathlib.Omega.{arith}
-use borrow.Author.Rules.{rules}
 use Rattle.holders.proofs.look.Goals as goal
 
 pub returns-in_default : goal.returns-in_default

@@ -1,6 +1,5 @@
 -- src/lib.rt, write_holders: Writes (view t.now).k l.0 list.old result list.new
 use Rattle.sound.proofs.Laws.Holders.{writes_from}
-use borrow.Author.Rules.{rules}
 use Rattle.holders.proofs.write_holders.Goals as goal
 
 pub descend-d-requires : goal.descend-d-requires

@@ -1,6 +1,5 @@
 -- DEMAND 3, of runs: they are the longest runs of lines for which the same names stand in the ledger, and their number is the ledger's.
 use Rattle.std.specs.Prelude.{◌≡◌, List, ℕ, suc, ◌≤◌, ◌<◌, length}
-use mathlib.Core.Logic.Iff
 use Rattle.shapes.specs.declared.Board.{Board}
 use Rattle.tables.specs.View.{view}
 use Rattle.tables.specs.declared.Outcome.{Outcome}

@@ -1,11 +1,6 @@
 -- src/lib.rt, mark_all: MarkSays (view t.now).k 80 result mark.new
-use Prim.Native.Nat.{◌*◌, ◌-◌, ◌≤◌}
-use borrow.Author.Tests.{not-false}
-use Rattle.tables.specs.View.{view}
-use Rattle.marking.specs.Marking.{MarkedTo}
 use Rattle.marking.specs.Laws.Marking.{says_fails, can_mark, top_marks}
 use native.Mathlib.Omega.{arith}
-use borrow.Author.Rules.{rules}
 use mathlib.Core.Path.{ap}
 use mathlib.Core.Bool.{not}
 use Rattle.marking.proofs.mark_all.Goals as goal

@@ -1,12 +1,7 @@
 -- src/lib.rt, mark_areas: MarkSays (view t.now).k (5 * (p.0 + 1)) result mark.new
 use mathlib.Core.Path.{sym, ◌∙◌, ap}
-use Prim.Native.Nat.{◌+◌, ◌*◌, ◌-◌, ◌≤◌}
-use borrow.Author.Tests.{not-true, not-false}
-use Rattle.tables.specs.View.{view}
-use Rattle.marking.specs.Marking.{MarkedTo}
 use Rattle.marking.specs.Laws.Marking.{says_fails, absent_marks, five_marks}
 use native.Mathlib.Omega.{arith}
-use borrow.Author.Rules.{rules}
 use mathlib.Core.Bool.{not}
 use Rattle.marking.proofs.mark_areas.Goals as goal
 

@@ -1,7 +1,5 @@
 -- src/lib.rt, mark_either: MarksEither (view t.now).k one.0 other.0 (area_between lo.0 hi.0) mark.old result mark.new
 use mathlib.Core.Path.{refl}
-use native.Mathlib.Omega.{arith}
-use borrow.Author.Rules.{rules}
 use Rattle.marking.specs.Marking.{in_one}
 use Rattle.marking.specs.Laws.Marking.{marks_none, then_other}
 use Rattle.marking.proofs.mark_either.Goals as goal

@@ -3,7 +3,6 @@ use mathlib.Core.Path.{refl}
 use native.Mathlib.Omega.{arith}
 use Rattle.marking.specs.Laws.Marking.{search_none, search_some, mark_tells}
 use Rattle.marking.specs.Marking.{nobody, marked, before}
-use borrow.Author.Rules.{rules}
 use Rattle.marking.proofs.mark_equal.Goals as goal
 
 pub returns-then-i-ge32 : goal.returns-then-i-ge32

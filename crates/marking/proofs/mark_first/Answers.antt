@@ -2,7 +2,6 @@
 use mathlib.Core.Path.{sym, ◌∙◌}
 use mathlib.Core.Bool.{false≢true}
 use native.Mathlib.Omega.{arith}
-use borrow.Author.Rules.{rules}
 use borrow.Author.Tests.{not-true, not-false}
 use Rattle.sound.proofs.Laws.MeansAreas.{rooted_means}
 use Rattle.marking.specs.Laws.Marking.{says_rooted, structure_absent, own_first, parent_first}

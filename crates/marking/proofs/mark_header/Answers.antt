@@ -1,7 +1,6 @@
 -- src/lib.rt, mark_header: MarkSays (view t.now).k (5 * p.0 + 1) result mark.new
 use mathlib.Core.Path.{sym, ◌∙◌}
 use native.Mathlib.Omega.{arith}
-use borrow.Author.Rules.{rules}
 use borrow.Author.Tests.{not-true, not-false}
 use Rattle.marking.specs.Laws.Marking.{says_rooted, header_absent, header_marks}
 use Rattle.marking.proofs.mark_header.Goals as goal

@@ -1,6 +1,5 @@
 -- src/lib.rt, mark_later: MarkSays (view t.now).k (5 * p.0 + (j + 1)) result mark.new
 use native.Mathlib.Omega.{arith}
-use borrow.Author.Rules.{rules}
 use borrow.Author.Tests.{not-true, not-false}
 use Rattle.marking.specs.Laws.Marking.{structure_absent, own_first}
 use Rattle.marking.proofs.mark_later.Goals as goal

@@ -3,7 +3,6 @@ use mathlib.Core.Path.{refl}
 use borrow.Author.Tests.{not-true, not-false}
 use Rattle.tables.specs.View.{structure_area}
 use Rattle.sound.specs.Clauses.{when, s8_apart}
-use borrow.Author.Rules.{rules}
 use Rattle.owning.proofs.area_apart.Goals as goal
 
 pub returns-then-not-f : goal.returns-then-not-f

@@ -4,7 +4,6 @@ use mathlib.Core.Bool.{not}
 use borrow.Author.Tests.{not-true, not-false, lt-ltb, le-ltb}
 use Rattle.tables.specs.View.{structure_area}
 use Rattle.tables.specs.Settle.{apart}
-use borrow.Author.Rules.{rules}
 use Rattle.owning.proofs.later_off.Goals as goal
 
 pub returns-then-m-n : goal.returns-then-m-n

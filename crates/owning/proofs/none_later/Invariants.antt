@@ -1,14 +1,10 @@
 -- src/lib.rt, none_later: result ≡ all 80 (λ n. not (ltb m n) || apart ((view t.now).k.area (n / 5) (n % 5)) lo.0 hi.0)
-use mathlib.Core.Path.{ap, sym, ◌∙◌}
 use mathlib.Core.Bool.{not, ◌||◌}
 use Prim.Native.Nat.{◌-◌, ◌/◌, ◌%◌}
-use native.Mathlib.Omega.{arith}
 use Rattle.loops.specs.Laws.Every.{Passing}
-use Rattle.loops.specs.Laws.Scan.{seek_start, seek_hit, seek_on, seek_end}
 use lib.Dec.{ltb}
 use Rattle.tables.specs.View.{view}
 use Rattle.tables.specs.Settle.{apart}
-use borrow.Author.Rules.{rules}
 use Rattle.owning.proofs.none_later.Given as goal
 
 abbrev pub invariant-loop-n : goal.invariant-loop-n

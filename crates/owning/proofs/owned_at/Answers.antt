@@ -1,15 +1,10 @@
 -- src/lib.rt, owned_at: result ≡ s8 (view t.now).k p.0
 use mathlib.Core.Path.{refl, ap, sym, ◌∙◌}
 use mathlib.Core.Bool.{not}
-use Prim.Native.Nat.{◌-◌}
 use native.Mathlib.Omega.{arith}
-use borrow.Author.Tests.{not-true}
-use Rattle.loops.specs.Laws.Every.{Passing}
 use Rattle.loops.specs.Laws.Scan.{seek_start, seek_hit, seek_on, seek_end}
-use Rattle.tables.specs.View.{view}
-use Rattle.sound.specs.Clauses.{s8_apart, s8}
+use Rattle.sound.specs.Clauses.{s8}
 use Rattle.decide.specs.Laws.Decide.{passed, and_is}
-use borrow.Author.Rules.{rules}
 use Rattle.owning.proofs.owned_at.Goals as goal
 
 pub returns-then-not-areas_backed : goal.returns-then-not-areas_backed

@@ -1,15 +1,8 @@
 -- src/lib.rt, owned_at: result ≡ s8 (view t.now).k p.0
-use mathlib.Core.Path.{refl, ap, sym, ◌∙◌}
-use mathlib.Core.Bool.{not}
 use Prim.Native.Nat.{◌-◌}
-use native.Mathlib.Omega.{arith}
-use borrow.Author.Tests.{not-true}
 use Rattle.loops.specs.Laws.Every.{Passing}
-use Rattle.loops.specs.Laws.Scan.{seek_start, seek_hit, seek_on, seek_end}
 use Rattle.tables.specs.View.{view}
-use Rattle.sound.specs.Clauses.{s8_apart, s8}
-use Rattle.decide.specs.Laws.Decide.{passed, and_is}
-use borrow.Author.Rules.{rules}
+use Rattle.sound.specs.Clauses.{s8_apart}
 use Rattle.owning.proofs.owned_at.Given as goal
 
 abbrev pub invariant-loop-j : goal.invariant-loop-j

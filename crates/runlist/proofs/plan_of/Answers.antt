@@ -1,7 +1,6 @@
 -- src/lib.rt, plan_of: (result ≡ plan_of board t.old size) × (t.new ≡ marks_in board t.old)
 use mathlib.Core.Path.{refl, ◌∙◌, ap}
 use native.Mathlib.Omega.{arith}
-use borrow.Author.Rules.{rules}
 use Rattle.sound.proofs.Laws.Whole.{tested}
 use Rattle.runlist.specs.Laws.Listing.{decided_unsound, decided_sound, decided_order, plan_unsound, plan_short, plan_done, marks_unsound, marks_sound}
 use mathlib.Core.Bool.{not}

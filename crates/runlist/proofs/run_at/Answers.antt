@@ -1,5 +1,4 @@
 -- src/lib.rt, run_at: result ≡ run_at marks.now i
-use borrow.Author.Rules.{rules}
 use mathlib.Core.Path.{ap, ◌∙◌}
 use Prim.Native.Nat.{ℕ}
 use Rattle.words.specs.Kind.{fields_in}

@@ -3,7 +3,6 @@ use lib.ListN.{length-replicate}
 use Prim.Native.Nat.{ℕ}
 use Rattle.rules.specs.Laws.Ran.{ran_refused, ran_as, ran_copied, ran_kept}
 use Rattle.services.specs.Laws.Boot.{boot_any, boot_length}
-use borrow.Author.Rules.{rules}
 use Rattle.services.proofs.boot.Goals as goal
 
 pub returns-then-t-ne641 : goal.returns-then-t-ne641

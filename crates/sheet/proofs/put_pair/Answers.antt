@@ -3,7 +3,6 @@ use mathlib.Core.Path.{ap, ◌∙◌}
 use lib.ListN.{length}
 use Rattle.sheetrules.specs.Laws.Bytes.{put_length, pair_put_law}
 use native.Mathlib.Omega.{arith}
-use borrow.Author.Rules.{rules}
 use Rattle.sheet.proofs.put_pair.Goals as goal
 
 pub words_of-x-requires : goal.words_of-x-requires

@@ -1,14 +1,9 @@
 -- src/lib.rt, put_pairs: sheet.new ≡ sheet_bytes (sheet_of (view t.now))
-use mathlib.Core.Path.{refl, sym, ◌∙◌}
 use Prim.Native.Nat.{◌*◌, ◌-◌, ◌≤◌}
 use Rattle.loops.specs.Loops.{Filling}
 use Rattle.tables.specs.View.{view}
 use Rattle.memory.specs.Bytes.{byte_of}
 use Rattle.sheetrules.specs.Sheet.{sheet_of}
-use Rattle.sheetrules.specs.Laws.Bytes.{pair_sheet, sheet_start, sheet_on, sheet_end}
-use Rattle.summing.specs.Laws.Written.{children_few, with_children}
-use native.Mathlib.Omega.{arith}
-use borrow.Author.Rules.{rules}
 use Rattle.sheet.proofs.put_pairs.Given as goal
 
 abbrev pub invariant-loop-p : goal.invariant-loop-p

@@ -1,6 +1,5 @@
 -- src/lib.rt, write_sheet: sheet.new ≡ sheet_bytes (sheet_of (view t.now))
 use mathlib.Core.Path.{refl}
-use borrow.Author.Rules.{rules}
 use Rattle.sheet.proofs.write_sheet.Goals as goal
 
 pub children-requires : goal.children-requires

@@ -1,7 +1,6 @@
 -- src/lib.rt, of_image: result ≡ image_verdict board b.now
 use mathlib.Core.Path.{refl}
 use Rattle.verdict.proofs.Laws.Stages.{image_other, image_said}
-use borrow.Author.Rules.{rules}
 use Rattle.verdict.proofs.of_image.Goals as goal
 
 pub returns-then-b-ne5128 : goal.returns-then-b-ne5128

@@ -3,7 +3,6 @@ use mathlib.Core.Path.{refl}
 use native.Mathlib.Omega.{arith}
 use Rattle.tables.specs.Laws.Top.{top_16}
 use Rattle.verdict.proofs.Laws.Stages.{early_reached, early_said, late_said, reached_shaped, arranged_orders}
-use borrow.Author.Rules.{rules}
 use Rattle.verdict.proofs.of_table.Goals as goal
 
 pub returns-then-first-lt96 : goal.returns-then-first-lt96

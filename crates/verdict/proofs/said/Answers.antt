@@ -3,7 +3,6 @@ use mathlib.Core.Path.{refl}
 use borrow.Author.Tests.{le-ltb, lt-ltb}
 use Rattle.verdict.specs.Verdict.{failing}
 use Rattle.verdict.specs.Stages.{said_of}
-use borrow.Author.Rules.{rules}
 use Rattle.verdict.proofs.said.Goals as goal
 
 pub returns-then-m-ge176 : goal.returns-then-m-ge176

@@ -1,3 +1,4 @@
+-- src/lists.rt, ulavrepit_runs: RunsLent V7 table.now list.old result list.new
 use Prim.Native.Nat.{◌-◌, ◌≤◌}
 use mathlib.Core.Path.{◌≡◌}
 use Rattle.runs.specs.Marks.{run_at}

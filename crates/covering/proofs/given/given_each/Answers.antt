@@ -1,15 +1,10 @@
 -- src/given.rt, given_each: result ≡ s7_given (view t.now).k p.0 && s7_whole (view t.now) p.0
 use mathlib.Core.Path.{ap, sym, ◌∙◌}
 use mathlib.Core.Bool.{not}
-use Prim.Native.Nat.{◌-◌}
 use Rattle.loops.specs.Laws.Scan.{seek_start, seek_hit, seek_on}
-use Rattle.loops.specs.Laws.Every.{Passing}
-use Rattle.tables.specs.View.{view}
-use Rattle.covering.specs.Cover.{given_slot}
 use Rattle.covering.specs.Laws.Given.{given_each_is, given_empty}
 use Rattle.ordering.specs.Laws.Used.{seek_bound}
 use native.Mathlib.Omega.{arith}
-use borrow.Author.Rules.{rules}
 use Rattle.covering.proofs.given.given_each.Goals as goal
 
 pub loop-i-init : goal.loop-i-init

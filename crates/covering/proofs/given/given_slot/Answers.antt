@@ -4,7 +4,6 @@ use borrow.Author.Tests.{not-true, not-false, eq-eqb, ne_eqb}
 use Rattle.tables.specs.View.{entry_in}
 use Rattle.sound.specs.Clauses.{when}
 use Rattle.covering.specs.Cover.{given_slot}
-use borrow.Author.Rules.{rules}
 use Rattle.covering.proofs.given.given_slot.Goals as goal
 
 pub returns-then-not-f : goal.returns-then-not-f

@@ -1,13 +1,12 @@
 -- src/entries.rt, entry_right: result ≡ entry_right (view t.now) mark.now p.0 i.0
 use mathlib.Core.Path.{refl, ap, sym}
 use mathlib.Core.Bool.{Bool, not, beq}
-use borrow.Author.Tests.{not-true, not-false, eq-eqb, ne_eqb}
+use borrow.Author.Tests.{eq-eqb, ne_eqb}
 use Rattle.tables.specs.View.{entry_of, entry_in}
 use Rattle.sound.specs.Clauses.{when}
 use Rattle.decide.specs.Local.{entry_right}
 use Rattle.decide.specs.Laws.Entries.{whole_given, not_whole, given_divides}
 use Rattle.marking.specs.Laws.Marking.{mark_tells}
-use borrow.Author.Rules.{rules}
 use Rattle.decide.proofs.entries.entry_right.Goals as goal
 
 pub returns-then-f : goal.returns-then-f

@@ -1,15 +1,10 @@
 -- src/entries.rt, full_each: result ≡ all 32 (full_slot (view t.now).k p.0)
 use mathlib.Core.Path.{ap, sym, ◌∙◌}
 use mathlib.Core.Bool.{not}
-use Prim.Native.Nat.{◌-◌}
 use Rattle.loops.specs.Laws.Scan.{seek_start, seek_hit, seek_on}
-use Rattle.loops.specs.Laws.Every.{Passing}
-use Rattle.tables.specs.View.{view}
-use Rattle.decide.specs.Entries.{full_slot}
 use Rattle.decide.specs.Laws.Entries.{full_empty}
 use Rattle.ordering.specs.Laws.Used.{seek_bound}
 use native.Mathlib.Omega.{arith}
-use borrow.Author.Rules.{rules}
 use Rattle.decide.proofs.entries.full_each.Goals as goal
 
 pub loop-i-init : goal.loop-i-init

@@ -4,7 +4,6 @@ use borrow.Author.Tests.{not-true, not-false}
 use Rattle.tables.specs.View.{entry_in}
 use Rattle.sound.specs.Clauses.{when, full}
 use Rattle.decide.specs.Entries.{full_slot}
-use borrow.Author.Rules.{rules}
 use Rattle.decide.proofs.entries.full_slot.Goals as goal
 
 pub returns-then-not-f : goal.returns-then-not-f

@@ -1,13 +1,8 @@
 -- src/entries.rt, has_lent: result ≡ any 32 (λ i. has (lends p.0 (entry_of f)) ((view t.now).k.slot q.0 i))
 use Prim.Native.Nat.{◌-◌}
 use Rattle.loops.specs.Laws.Every.{Missing}
-use Rattle.loops.specs.Laws.Scan.{seek_start, seek_hit, seek_on}
 use Rattle.tables.specs.View.{entry_of, view}
 use Rattle.sound.specs.Clauses.{has, lends}
-use Rattle.decide.specs.Laws.Entries.{lends_empty}
-use Rattle.ordering.specs.Laws.Used.{seek_bound}
-use native.Mathlib.Omega.{arith}
-use borrow.Author.Rules.{rules}
 use Rattle.decide.proofs.entries.has_lent.Given as goal
 
 abbrev pub invariant-loop-i : goal.invariant-loop-i

@@ -2,7 +2,6 @@
 use mathlib.Core.Path.{refl}
 use borrow.Author.Tests.{not-true, not-false, eq-eqb, ne_eqb}
 use Rattle.sound.specs.Clauses.{undivided}
-use borrow.Author.Rules.{rules}
 use Rattle.decide.proofs.entries.undivided.Goals as goal
 
 pub returns-then-not-f : goal.returns-then-not-f

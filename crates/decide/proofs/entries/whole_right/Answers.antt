@@ -1,6 +1,5 @@
 -- src/entries.rt, whole_right: result ≡ (not f.whole || undivided (view t.now).k p.0 f.opened (entry_of f))
 use Rattle.decide.specs.Laws.Entries.{whole_on, whole_off}
-use borrow.Author.Rules.{rules}
 use Rattle.decide.proofs.entries.whole_right.Goals as goal
 
 pub returns-then-f : goal.returns-then-f

@@ -1,6 +1,5 @@
 -- src/tiles.rt, follows: result ≡ follows first a b
 use Rattle.decide.specs.Tiles.{follows}
-use borrow.Author.Rules.{rules}
 use Rattle.decide.proofs.tiles.follows.Goals as goal
 
 pub returns-then-first : goal.returns-then-first

@@ -1,6 +1,5 @@
 -- src/tiles.rt, none_beyond: result ≡ within a b
 use Rattle.decide.specs.Laws.Tiles.{number_within}
-use borrow.Author.Rules.{rules}
 use Rattle.decide.proofs.tiles.none_beyond.Goals as goal
 
 pub returns : goal.returns

@@ -1,7 +1,6 @@
 -- src/tiles.rt, number: result ≡ rights_number a
 use Rattle.decide.specs.Tiles.{rights_number}
 use mathlib.Core.Path.{refl}
-use borrow.Author.Rules.{rules}
 use Rattle.decide.proofs.tiles.number.Goals as goal
 
 pub returns : goal.returns

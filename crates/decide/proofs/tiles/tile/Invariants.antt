@@ -1,16 +1,11 @@
 -- src/tiles.rt, tile: TiledAs (row_of t.now order.now p.0) (opened_bit t.now order.now p.0) n i lo.0 hi.0 r opened result
-use mathlib.Core.Path.{◌≡◌, refl, sym}
+use mathlib.Core.Path.{◌≡◌}
 use mathlib.Core.Bool.{true}
 use mathlib.Core.Logic.{◌↔◌}
 use Prim.Native.Nat.{◌-◌, ◌≤◌}
 use lib.Dec.{eqb}
-use borrow.Author.Tests.{not-true, not-false, eq-eqb}
-use Rattle.sound.specs.Laws.Tests.{not_says}
-use Rattle.sound.proofs.Laws.MeansRegions.{beq_means}
 use Rattle.decide.specs.Tiles.{row_of, opened_bit, Tiling, AllSet}
-use Rattle.decide.specs.Laws.Tiles.{ComparedWith, compare_start, set_start, set_on, few, stuck_as, other_bits, same_bits, tile_start, tile_none, tile_elsewhere, tile_over, tile_unlike, tile_next, compare_next, not_first}
-use native.Mathlib.Omega.{arith}
-use borrow.Author.Rules.{rules}
+use Rattle.decide.specs.Laws.Tiles.{ComparedWith}
 use Rattle.decide.proofs.tiles.tile.Given as goal
 
 abbrev pub invariant-loop-at : goal.invariant-loop-at

@@ -1,11 +1,7 @@
 -- src/tiles.rt, tile_lines: Tiled (plain_row t.now order.now p.0) n i lo.0 hi.0 all_rights result
 use Prim.Native.Nat.{◌-◌, ◌≤◌}
-use native.Mathlib.Omega.{arith}
 use Rattle.tables.specs.State.{all_rights}
 use Rattle.decide.specs.Tiles.{plain_row, Tiling}
-use Rattle.decide.specs.Laws.Tiles.{tile_start, tile_end}
-use Rattle.decide.specs.Laws.Lines.{line_none, line_elsewhere, line_over, line_next}
-use borrow.Author.Rules.{rules}
 use Rattle.decide.proofs.tiles.tile_lines.Given as goal
 
 abbrev pub invariant-loop-at : goal.invariant-loop-at

@@ -1,6 +1,5 @@
 -- src/tiles.rt, tiles_whole: result ≡ exactly (view t.now).k p.0
 use Rattle.decide.specs.Laws.Lines.{root_walk}
-use borrow.Author.Rules.{rules}
 use Rattle.decide.proofs.tiles.tiles_whole.Goals as goal
 
 pub returns : goal.returns

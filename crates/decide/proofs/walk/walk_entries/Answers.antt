@@ -1,10 +1,6 @@
 -- src/walk.rt, walk_entries: WalkSays t.now order.now counts.now mark.now (q.0 + 1) 0 result next.new
-use Prim.Native.Nat.{◌-◌, ◌≤◌}
 use native.Mathlib.Omega.{arith}
-use borrow.Author.Tests.{not-false}
-use Rattle.decide.specs.Walk.{WalkedTo}
 use Rattle.decide.specs.Laws.Walk.{row_of_law, row_done, walk_says, walk_fails}
-use borrow.Author.Rules.{rules}
 use mathlib.Core.Path.{ap}
 use mathlib.Core.Bool.{not}
 use Rattle.decide.proofs.walk.walk_entries.Goals as goal

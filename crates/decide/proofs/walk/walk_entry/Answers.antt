@@ -3,7 +3,6 @@ use native.Mathlib.Omega.{arith}
 use Rattle.decide.specs.Laws.Decide.{passed}
 use Rattle.decide.specs.Laws.Tiles.{seen_present}
 use Rattle.decide.specs.Laws.Walk.{step_row, step_entry, step_slot, entry_wrong, entry_free, given_row, given_few, entry_stuck, entry_on, walk_says, walk_stops}
-use borrow.Author.Rules.{rules}
 use mathlib.Core.Path.{ap}
 use mathlib.Core.Bool.{not}
 use Rattle.decide.proofs.walk.walk_entry.Goals as goal

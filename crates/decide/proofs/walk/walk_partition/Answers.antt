@@ -1,6 +1,5 @@
 -- src/walk.rt, walk_partition: WalkSays t.now order.now counts.now mark.now (q.0 + 1) 0 result next.new
 use mathlib.Core.Path.{sym, ◌∙◌, ap}
-use borrow.Author.Tests.{not-true}
 use Rattle.decide.specs.Laws.Decide.{passed}
 use Rattle.decide.specs.Laws.Walk.{row_absent, walk_says}
 use mathlib.Core.Bool.{not}

@@ -2,7 +2,6 @@
 use mathlib.Core.Path.{sym, subst}
 use Rattle.verdict.specs.Verdict.{ClauseNamed}
 use Rattle.verdict.proofs.Theorem.{image_few}
-use borrow.Author.Rules.{rules}
 use Rattle.face.proofs.check.check_bytes.Goals as goal
 
 pub verdict_word-requires : goal.verdict_word-requires

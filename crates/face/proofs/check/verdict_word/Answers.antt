@@ -4,7 +4,6 @@ use Rattle.verdict.specs.Verdict.{checked}
 use Rattle.verdict.specs.declared.Verdict.{Verdict}
 use Rattle.face.specs.Face.{result_of}
 use native.Mathlib.Omega.{arith}
-use borrow.Author.Rules.{rules}
 use Rattle.face.proofs.check.verdict_word.Goals as goal
 
 pub packed-requires : goal.packed-requires

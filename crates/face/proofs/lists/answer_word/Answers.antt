@@ -3,7 +3,6 @@ use mathlib.Core.Path.{ap, sym, subst, ◌∙◌}
 use Rattle.face.specs.Face.{result_of}
 use Rattle.face.specs.Lists.{Small}
 use native.Mathlib.Omega.{arith}
-use borrow.Author.Rules.{rules}
 use Rattle.face.proofs.lists.answer_word.Goals as goal
 
 pub packed-requires : goal.packed-requires

@@ -1,7 +1,6 @@
 -- src/lists.rt, pieces_bytes: PiecesLent board table.now partition slot list.old result list.new
 use mathlib.Core.Path.{refl, sym, subst}
 use native.Mathlib.Omega.{arith}
-use borrow.Author.Rules.{rules}
 use Rattle.tables.specs.Laws.Top.{top_at}
 use Rattle.face.specs.Lists.{Small}
 use Rattle.face.specs.Laws.Lists.{pieces_lent_none, pieces_lent, pieces_answers}

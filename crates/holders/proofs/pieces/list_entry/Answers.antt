@@ -2,7 +2,6 @@
 use native.Mathlib.Omega.{arith}
 use borrow.Author.Tests.{not-true, not-false}
 use Rattle.holders.specs.Laws.Listing.{slot_none, can_list, slot_short, slot_listed}
-use borrow.Author.Rules.{rules}
 use Rattle.holders.proofs.pieces.list_entry.Goals as goal
 
 pub returns-then-not-f : goal.returns-then-not-f

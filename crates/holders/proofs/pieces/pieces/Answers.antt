@@ -2,7 +2,6 @@
 use Rattle.tables.specs.Laws.Top.{top_16}
 use Rattle.sound.proofs.Laws.Holders.{wrong_length}
 use Rattle.holders.specs.Laws.Listing.{pieces_unsound, pieces_copy}
-use borrow.Author.Rules.{rules}
 use Rattle.holders.proofs.pieces.pieces.Goals as goal
 
 pub returns-then-t-ne641 : goal.returns-then-t-ne641

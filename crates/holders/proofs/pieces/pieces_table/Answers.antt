@@ -1,11 +1,9 @@
 -- src/pieces.rt, pieces_table: PiecesListed board t.now partition slot list.old result list.new
 use mathlib.Core.Path.{sym, ◌∙◌, ap}
-use borrow.Author.Tests.{not-true}
 use native.Mathlib.Omega.{arith}
 use Rattle.decide.specs.Laws.Decide.{passed}
 use Rattle.sound.proofs.Laws.Whole.{tested}
 use Rattle.holders.specs.Laws.Listing.{pieces_unsound, pieces_nowhere, pieces_listed}
-use borrow.Author.Rules.{rules}
 use mathlib.Core.Bool.{not}
 use Rattle.holders.proofs.pieces.pieces_table.Goals as goal
 

@@ -1,12 +1,8 @@
 -- src/backing.rt, equal_slot: result ≡ equal_slot (view t.now).k q.0 (area_between lo.0 hi.0)
 use Prim.Native.Nat.{◌-◌}
-use Rattle.loops.specs.Laws.Scan.{Seeking, seek_start, seek_hit, seek_on}
+use Rattle.loops.specs.Laws.Scan.{Seeking}
 use Rattle.tables.specs.View.{view}
 use Rattle.marking.specs.Backing.{area_between, backs}
-use Rattle.marking.specs.Laws.Backing.{backs_empty}
-use Rattle.ordering.specs.Laws.Used.{seek_bound}
-use native.Mathlib.Omega.{arith}
-use borrow.Author.Rules.{rules}
 use Rattle.marking.proofs.backing.equal_slot.Given as goal
 
 abbrev pub invariant-loop-i : goal.invariant-loop-i

@@ -1,14 +1,11 @@
 -- src/backed.rt, areas_backed: result ≡ all 5 (s8_backed (view t.now).k p.0)
 use mathlib.Core.Path.{ap, sym, ◌∙◌}
 use mathlib.Core.Bool.{not}
-use Prim.Native.Nat.{◌-◌, ◌<◌}
-use borrow.Author.Tests.{not-true}
-use Rattle.loops.specs.Laws.Every.{Passing, fail_of}
+use Rattle.loops.specs.Laws.Every.{fail_of}
 use Rattle.loops.specs.Laws.Scan.{seek_start, seek_hit, seek_on, seek_end}
 use Rattle.tables.specs.View.{view}
 use Rattle.sound.specs.Clauses.{s8_backed}
 use native.Mathlib.Omega.{arith}
-use borrow.Author.Rules.{rules}
 use Rattle.owning.proofs.backed.areas_backed.Goals as goal
 
 pub returns-then-not-header_backed : goal.returns-then-not-header_backed

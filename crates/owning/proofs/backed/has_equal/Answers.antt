@@ -1,6 +1,5 @@
 -- src/backed.rt, has_equal: result ≡ equals (view t.now).k q.0 (area_between lo.0 hi.0)
 use Rattle.owning.specs.Laws.Backed.{equal_is}
-use borrow.Author.Rules.{rules}
 use Rattle.owning.proofs.backed.has_equal.Goals as goal
 
 pub returns : goal.returns

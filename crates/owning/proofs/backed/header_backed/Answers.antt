@@ -2,7 +2,6 @@
 use mathlib.Core.Path.{sym, ◌∙◌}
 use borrow.Author.Tests.{not-true, not-false}
 use Rattle.owning.specs.Laws.Backed.{backed_rooted, backed_header_absent, backed_header_parent}
-use borrow.Author.Rules.{rules}
 use Rattle.owning.proofs.backed.header_backed.Goals as goal
 
 pub returns-then-is_rooted : goal.returns-then-is_rooted

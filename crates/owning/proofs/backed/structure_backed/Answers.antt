@@ -2,7 +2,6 @@
 use mathlib.Core.Path.{sym, ◌∙◌}
 use borrow.Author.Tests.{not-true, not-false}
 use Rattle.owning.specs.Laws.Backed.{backed_rooted, backed_structure_absent, backed_structure_own, backed_structure_parent}
-use borrow.Author.Rules.{rules}
 use Rattle.owning.proofs.backed.structure_backed.Goals as goal
 
 pub returns-then-is_rooted : goal.returns-then-is_rooted

@@ -2,7 +2,6 @@
 use Rattle.rules.specs.Laws.Ran.{ran_refused, ran_done}
 use Rattle.services.specs.Laws.Boot.{boot_empty, boot_high, boot_done}
 use native.Mathlib.Omega.{arith}
-use borrow.Author.Rules.{rules}
 use Rattle.services.proofs.boot_service.boot_table.Goals as goal
 
 pub returns-then-base-end : goal.returns-then-base-end

@@ -3,7 +3,6 @@ use mathlib.Core.Path.{refl}
 use Rattle.tables.specs.Laws.Encode.{is_canon}
 use Rattle.services.specs.Laws.Boot.{root_words}
 use native.Mathlib.Omega.{arith}
-use borrow.Author.Rules.{rules}
 use Rattle.services.proofs.boot_service.put_root.Goals as goal
 
 pub put_header-requires : goal.put_header-requires

@@ -1,7 +1,6 @@
 -- src/clear_service.rt, clear_children: Cleared t.old p.0 (result + 1) t.new; clear_partition: Cleared t.old p.0 result t.new
 use mathlib.Core.Path.{sym, ◌∙◌}
 use native.Mathlib.Omega.{arith}
-use borrow.Author.Rules.{rules}
 use Rattle.tables.specs.Laws.Encode.{is_canon}
 use Rattle.tables.specs.Laws.FitView.{fit_view}
 use Rattle.services.specs.Laws.ClearExits.{cleared_few, zero_now, left_falls, cleared_all, child_left, empty_start, empty_few, empty_left, empty_no, empty_yes, empty_end}

@@ -1,6 +1,5 @@
 -- src/clear_service.rt, clear_out: Ran (clear_out (view t.old) p.0) t.old result t.new
 use mathlib.Core.Path.{sym, ◌∙◌}
-use borrow.Author.Tests.{not-true, not-false}
 use Rattle.tables.specs.Laws.Encode.{is_canon}
 use Rattle.rules.specs.Rules.{clear_out}
 use Rattle.rules.specs.Laws.Ran.{ran_refused, fail}
@@ -9,7 +8,6 @@ use Rattle.blocks.specs.Laws.GiveExits.{child_now}
 use Rattle.services.specs.Laws.Unsettled.{right_gone, gone_words, gone_ungiven, gone_branch, ran_settled}
 use Rattle.services.specs.Laws.ClearExits.{ungiven_child, clear_is, cleared_out}
 use Rattle.services.specs.Laws.Masked.{fixed_removed}
-use borrow.Author.Rules.{rules}
 use Rattle.services.proofs.clear_service.clear_out.Goals as goal
 
 pub returns-then-not-is_child : goal.returns-then-not-is_child

@@ -8,7 +8,6 @@ use Rattle.services.specs.Laws.Unsettled.{right_gone, gone_words, gone_structure
 use Rattle.services.specs.Laws.CollectExits.{no_such, structure_there, occupied_exit, root_first, not_root_first, collect_is}
 use Rattle.services.specs.Laws.Masked.{fixed_collect}
 use native.Mathlib.Omega.{arith}
-use borrow.Author.Rules.{rules}
 use Rattle.services.proofs.collect_service.collect.Goals as goal
 
 pub returns-then-not-own_or_child : goal.returns-then-not-own_or_child

@@ -1,14 +1,9 @@
 -- src/collect_service.rt, vacant: result ≡ vacant (view t.now).k p.0 j
 use Rattle.loops.specs.Laws.Every.{Passing}
-use Rattle.loops.specs.Laws.Scan.{seek_start, seek_hit, seek_on, seek_end}
 use Rattle.tables.specs.View.{view}
 use Rattle.tables.specs.Search.{is_some}
-use Rattle.rules.specs.Rules.{vacant}
-use Rattle.services.specs.Laws.CollectExits.{slot_there}
 use mathlib.Core.Bool.{not}
 use Prim.Native.Nat.{◌+◌, ◌*◌, ◌-◌}
-use native.Mathlib.Omega.{arith}
-use borrow.Author.Rules.{rules}
 use Rattle.services.proofs.collect_service.vacant.Given as goal
 
 abbrev pub invariant-loop-i : goal.invariant-loop-i

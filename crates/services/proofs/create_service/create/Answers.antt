@@ -13,7 +13,6 @@ use Rattle.services.specs.Laws.Unsettled.{came_header, ran_settled}
 use Rattle.services.specs.Laws.CreateExits.{create_is}
 use Rattle.services.specs.Laws.Masked.{fixed_create}
 use native.Mathlib.Omega.{arith}
-use borrow.Author.Rules.{rules}
 use Rattle.services.proofs.create_service.create.Goals as goal
 
 pub returns-in_default : goal.returns-in_default

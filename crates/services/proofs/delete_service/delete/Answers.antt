@@ -1,6 +1,5 @@
 -- src/delete_service.rt, delete: Ran (delete (view t.old) p.0) t.old result t.new
 use mathlib.Core.Path.{sym, ◌∙◌}
-use borrow.Author.Tests.{not-true, not-false}
 use Rattle.tables.specs.Laws.Encode.{is_canon}
 use Rattle.rules.specs.Rules.{delete}
 use Rattle.rules.specs.Laws.Ran.{ran_refused, fail}
@@ -9,7 +8,6 @@ use Rattle.blocks.specs.Laws.GiveExits.{child_now}
 use Rattle.services.specs.Laws.Unsettled.{right_gone, gone_words, gone_ungiven, gone_cleared, ran_settled}
 use Rattle.services.specs.Laws.DeleteExits.{delete_parent, delete_is, deleted}
 use Rattle.services.specs.Laws.Masked.{fixed_removed}
-use borrow.Author.Rules.{rules}
 use Rattle.services.proofs.delete_service.delete.Goals as goal
 
 pub is_child-requires : goal.is_child-requires

@@ -2,7 +2,6 @@
 use borrow.Author.Tests.{not-true, not-false}
 use Rattle.services.specs.Laws.DeleteExits.{ungive_empty, ungive_others, ungive_done}
 use native.Mathlib.Omega.{arith}
-use borrow.Author.Rules.{rules}
 use Rattle.services.proofs.delete_service.ungive_slot.Goals as goal
 
 pub returns-then-not-f : goal.returns-then-not-f

@@ -1,13 +1,11 @@
 -- src/find_service.rt, find: Ran (find (view t.now) p.0 l.0) t.now result t.now
 use mathlib.Core.Path.{sym, ◌∙◌}
-use borrow.Author.Tests.{not-true, not-false}
 use Rattle.tables.specs.Laws.Search.{lowest_some}
 use Rattle.tables.specs.Laws.Answers.{looked_slot}
 use Rattle.tables.specs.Laws.Encode.{canon_is}
 use Rattle.sound.specs.Laws.Settled.{right_settled, settled_words}
 use Rattle.rules.specs.Rules.{find}
 use Rattle.rules.specs.Laws.Ran.{ran_refused, ran_done, pass, fail, there, missing, second_is}
-use borrow.Author.Rules.{rules}
 use Rattle.services.proofs.find_service.find.Goals as goal
 
 pub returns-then-not-own_or_child : goal.returns-then-not-own_or_child

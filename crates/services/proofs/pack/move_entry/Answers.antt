@@ -5,7 +5,6 @@ use Rattle.tables.specs.Laws.Encode.{is_canon}
 use Rattle.tables.specs.Write.{put_slot}
 use Rattle.writing.specs.Laws.Stored.{is_then}
 use Rattle.services.specs.PackExits.{renamed}
-use borrow.Author.Rules.{rules}
 use Rattle.services.proofs.pack.move_entry.Goals as goal
 
 pub clear_entry-requires : goal.clear_entry-requires

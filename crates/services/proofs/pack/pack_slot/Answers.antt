@@ -4,7 +4,6 @@ use borrow.Author.Tests.{not-true, not-false}
 use Rattle.tables.specs.Laws.Search.{lowest_some}
 use Rattle.tables.specs.Laws.Answers.{found_is}
 use Rattle.services.specs.Laws.PackExits.{turn_empty, turn_full, turn_above, turn_moves}
-use borrow.Author.Rules.{rules}
 use Rattle.services.proofs.pack.pack_slot.Goals as goal
 
 pub returns-then-not-f : goal.returns-then-not-f

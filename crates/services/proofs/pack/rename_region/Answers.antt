@@ -1,7 +1,6 @@
 -- src/pack.rt, rename_region: Is t.new (rename_at (view t.old) p.0 i.0 j.0 r)
 use borrow.Author.Tests.{not-true, not-false}
 use Rattle.services.specs.Laws.PackExits.{rename_unloaded, rename_other, rename_hit}
-use borrow.Author.Rules.{rules}
 use Rattle.services.proofs.pack.rename_region.Goals as goal
 
 pub returns-then-not-x : goal.returns-then-not-x

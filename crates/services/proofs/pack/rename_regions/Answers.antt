@@ -1,11 +1,8 @@
 -- src/pack.rt, rename_regions: Is t.new (renamed (view t.old) p.0 i.0 j.0)
-use Prim.Native.Nat.{◌-◌}
-use Rattle.tables.specs.View.{view}
 use Rattle.tables.specs.Laws.Encode.{is_canon}
 use Rattle.tables.specs.Laws.FitView.{fit_view}
-use Rattle.services.specs.Laws.PackExits.{Renaming, rename_start, rename_more, rename_end}
+use Rattle.services.specs.Laws.PackExits.{rename_start, rename_more, rename_end}
 use native.Mathlib.Omega.{arith}
-use borrow.Author.Rules.{rules}
 use Rattle.services.proofs.pack.rename_regions.Goals as goal
 
 pub loop-r-init : goal.loop-r-init

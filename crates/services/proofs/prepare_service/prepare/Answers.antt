@@ -1,7 +1,7 @@
 -- src/prepare_service.rt, prepare: Ran (prepare (view t.old) p.0 s.0) t.old result t.new
 use mathlib.Core.Path.{refl, ap, sym, ◌∙◌}
 use mathlib.Core.Bool.{not}
-use borrow.Author.Tests.{not-true, not-false, lt-leb, le-leb}
+use borrow.Author.Tests.{lt-leb, le-leb}
 use Rattle.tables.specs.Laws.Encode.{is_canon}
 use Rattle.tables.specs.Laws.Search.{lowest_some}
 use Rattle.tables.specs.Laws.Answers.{structure_is}
@@ -13,7 +13,6 @@ use Rattle.services.specs.Laws.Unsettled.{came_structure, ran_settled}
 use Rattle.services.specs.Laws.CreateExits.{prepare_is}
 use Rattle.services.specs.Laws.Masked.{fixed_prepare}
 use native.Mathlib.Omega.{arith}
-use borrow.Author.Rules.{rules}
 use Rattle.services.proofs.prepare_service.prepare.Goals as goal
 
 pub returns-then-not-own_or_child : goal.returns-then-not-own_or_child

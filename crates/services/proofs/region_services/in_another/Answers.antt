@@ -1,7 +1,6 @@
 -- src/region_services.rt, in_another: result ≡ in_another (view t.now) p.0 s.0 r q
 use borrow.Author.Tests.{not-true, not-false}
 use Rattle.services.specs.Laws.RegionExits.{region_none, region_some, another_same, another_none, another_some}
-use borrow.Author.Rules.{rules}
 use Rattle.services.proofs.region_services.in_another.Goals as goal
 
 pub returns-then-q-r : goal.returns-then-q-r

@@ -1,13 +1,9 @@
 -- src/region_services.rt, loaded_elsewhere: result ≡ elsewhere (view t.now) p.0 s.0 r
 use mathlib.Core.Path.{sym, ◌∙◌}
-use Prim.Native.Nat.{◌-◌}
-use Rattle.loops.specs.Laws.Every.{Missing}
 use Rattle.loops.specs.Laws.Scan.{seek_start, seek_hit, seek_on, seek_end}
-use Rattle.tables.specs.View.{view}
 use Rattle.rules.specs.Rules.{elsewhere}
 use Rattle.services.specs.RegionExits.{in_another}
 use native.Mathlib.Omega.{arith}
-use borrow.Author.Rules.{rules}
 use Rattle.services.proofs.region_services.loaded_elsewhere.Goals as goal
 
 pub loop-q-init : goal.loop-q-init

@@ -1,7 +1,6 @@
 -- src/region_services.rt, pieces_after: result ≡ loaded_pieces board (view t.now).k.slot (upd (view t.now).region p.0 r (some s.0)) p.0
 use mathlib.Core.Path.{◌∙◌}
 use Rattle.loaded.specs.Laws.Limit.{pieces_after, can_count_after}
-use borrow.Author.Rules.{rules}
 use Rattle.services.proofs.region_services.pieces_after.Goals as goal
 
 pub loaded_pieces-requires : goal.loaded_pieces-requires

@@ -7,7 +7,6 @@ use Rattle.rules.specs.Rules.{read_region}
 use Rattle.rules.specs.Laws.Ran.{ran_refused, ran_done, pass, fail, second_is}
 use Rattle.services.specs.Laws.RegionExits.{region_high, region_low, seen_region_small, word_none, word_some}
 use native.Mathlib.Omega.{arith}
-use borrow.Author.Rules.{rules}
 use Rattle.services.proofs.region_services.read_region.Goals as goal
 
 pub returns-then-not-own_or_child : goal.returns-then-not-own_or_child

@@ -1,12 +1,10 @@
 -- src/region_services.rt, unload: Ran (unload (view t.old) p.0 r) t.old result t.new
 use mathlib.Core.Path.{refl, sym, ◌∙◌}
-use borrow.Author.Tests.{not-true, not-false}
 use Rattle.sound.specs.Laws.Settled.{unload_settled, settled_words}
 use Rattle.rules.specs.Rules.{unload}
 use Rattle.rules.specs.Laws.Ran.{ran_refused, ran_done, pass, fail}
 use Rattle.services.specs.Laws.RegionExits.{region_high, region_low}
 use native.Mathlib.Omega.{arith}
-use borrow.Author.Rules.{rules}
 use Rattle.services.proofs.region_services.unload.Goals as goal
 
 pub returns-then-not-own_or_child : goal.returns-then-not-own_or_child

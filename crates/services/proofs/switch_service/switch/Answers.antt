@@ -1,10 +1,8 @@
 -- src/switch_service.rt, switch: Ran (switch (view t.old) p.0) t.old result t.new
 use mathlib.Core.Path.{refl, sym, ◌∙◌}
-use borrow.Author.Tests.{not-true, not-false}
 use Rattle.sound.specs.Laws.Settled.{current_settled, settled_words}
 use Rattle.rules.specs.Rules.{switch}
 use Rattle.rules.specs.Laws.Ran.{ran_refused, ran_done, pass, fail}
-use borrow.Author.Rules.{rules}
 use Rattle.services.proofs.switch_service.switch.Goals as goal
 
 pub returns-then-not-parent_or_child : goal.returns-then-not-parent_or_child

@@ -1,6 +1,5 @@
 -- src/who.rt, own_or_child: result ≡ own_or_child (view t.now).k p.0
 use Rattle.services.specs.Laws.Who.{own_caller, own_other}
-use borrow.Author.Rules.{rules}
 use Rattle.services.proofs.who.own_or_child.Goals as goal
 
 pub returns-then-p-f : goal.returns-then-p-f

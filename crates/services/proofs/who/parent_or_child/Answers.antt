@@ -1,6 +1,5 @@
 -- src/who.rt, parent_or_child: result ≡ parent_or_child (view t.now).k p.0
 use Rattle.services.specs.Laws.Who.{is_parent, of_root, not_parent}
-use borrow.Author.Rules.{rules}
 use Rattle.services.proofs.who.parent_or_child.Goals as goal
 
 pub returns-then-f-eq0 : goal.returns-then-f-eq0

@@ -1,8 +1,6 @@
 -- src/who.rt, up_from: result ≡ up_from (view t.now).k p.0
 use Rattle.tables.specs.View.{view}
-use Rattle.rules.specs.Laws.Changes.{MaskUp, mask_up_start, mask_up_root, mask_up_on, mask_up_end}
-use native.Mathlib.Omega.{arith}
-use borrow.Author.Rules.{rules}
+use Rattle.rules.specs.Laws.Changes.{MaskUp}
 use Rattle.services.proofs.who.up_from.Given as goal
 
 abbrev pub invariant-loop-left : goal.invariant-loop-left

@@ -1,7 +1,6 @@
 -- src/kept.rt, put_again: sheet.new ≡ kept_pair (view t.now) p.0 sheet.old
 use Rattle.sheet.specs.Laws.Touched.{few_again, pair_again}
 use native.Mathlib.Omega.{arith}
-use borrow.Author.Rules.{rules}
 use Rattle.sheet.proofs.kept.put_again.Goals as goal
 
 pub word-requires : goal.word-requires

@@ -1,7 +1,5 @@
 -- src/bits.rt, clean_at: result ≡ (not (eqb p.0 0) || s3_first t.now) && s3 t.now p.0
 use mathlib.Core.Path.{refl}
-use borrow.Author.Tests.{not-true, not-false}
-use borrow.Author.Rules.{rules}
 use Rattle.verdict.proofs.bits.clean_at.Goals as goal
 
 pub returns-then-not-first_clean : goal.returns-then-not-first_clean

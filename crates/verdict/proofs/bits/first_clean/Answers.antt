@@ -2,7 +2,6 @@
 use mathlib.Core.Path.{refl}
 use borrow.Author.Tests.{eq-eqb, ne_eqb}
 use Rattle.sound.specs.Clauses.{s3_first}
-use borrow.Author.Rules.{rules}
 use Rattle.verdict.proofs.bits.first_clean.Goals as goal
 
 pub returns-then-p-ne0 : goal.returns-then-p-ne0

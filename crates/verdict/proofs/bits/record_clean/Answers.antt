@@ -1,8 +1,6 @@
 -- src/bits.rt, record_clean: result ≡ s3 t.now p.0
 use mathlib.Core.Path.{refl}
-use borrow.Author.Tests.{not-true, not-false}
 use Rattle.sound.specs.Clauses.{s3}
-use borrow.Author.Rules.{rules}
 use Rattle.verdict.proofs.bits.record_clean.Goals as goal
 
 pub returns-then-not-header_bits : goal.returns-then-not-header_bits

@@ -1,14 +1,8 @@
 -- src/bits.rt, structures_clean: result ≡ all 4 (λ j. zeroed structure (area_word_at t.now p.0 (1 + j)))
 use mathlib.Core.Path.{ap, sym, ◌∙◌}
 use mathlib.Core.Bool.{not}
-use Prim.Native.Nat.{◌+◌, ◌-◌}
 use native.Mathlib.Omega.{arith}
-use Rattle.loops.specs.Laws.Every.{Passing}
 use Rattle.loops.specs.Laws.Scan.{seek_start, seek_hit, seek_on, seek_end}
-use Rattle.words.specs.Kind.{zeroed}
-use Rattle.words.specs.Words.{structure}
-use Rattle.tables.specs.View.{area_word_at}
-use borrow.Author.Rules.{rules}
 use Rattle.verdict.proofs.bits.structures_clean.Goals as goal
 
 pub loop-j-init : goal.loop-j-init

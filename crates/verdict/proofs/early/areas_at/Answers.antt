@@ -1,6 +1,5 @@
 -- src/early.rt, areas_at: result ≡ s4 t.now (view t.now).k p.0
 use Rattle.verdict.specs.Laws.Records.{s4_fails, s4_decides}
-use borrow.Author.Rules.{rules}
 use mathlib.Core.Path.{ap}
 use mathlib.Core.Bool.{not}
 use Rattle.verdict.proofs.early.areas_at.Goals as goal

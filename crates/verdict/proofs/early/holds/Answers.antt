@@ -3,7 +3,6 @@ use mathlib.Core.Path.{◌≡◌}
 use native.Mathlib.Omega.{arith}
 use Rattle.sound.specs.Clauses.{s5, clause_at}
 use Rattle.verdict.proofs.Laws.Stages.{reached_s3, reached_shaped}
-use borrow.Author.Rules.{rules}
 use Rattle.verdict.proofs.early.holds.Goals as goal
 
 pub returns-then-n-le1 : goal.returns-then-n-le1

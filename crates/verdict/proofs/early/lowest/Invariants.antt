@@ -1,10 +1,6 @@
 -- src/early.rt, lowest: result ≡ lowest_of board t.now 96
 use Prim.Native.Nat.{◌-◌, ◌≤◌}
-use native.Mathlib.Omega.{arith}
-use Rattle.verdict.proofs.Laws.Stages.{NoneFails, cleared_start, cleared_reached, cleared_hit, cleared_on, cleared_end}
-use borrow.Author.Rules.{rules}
-use mathlib.Core.Path.{ap}
-use mathlib.Core.Bool.{not}
+use Rattle.verdict.proofs.Laws.Stages.{NoneFails}
 use Rattle.verdict.proofs.early.lowest.Given as goal
 
 abbrev pub invariant-loop-m : goal.invariant-loop-m

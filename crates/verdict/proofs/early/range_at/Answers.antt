@@ -2,7 +2,6 @@
 use mathlib.Core.Path.{refl}
 use borrow.Author.Tests.{le-ltb, lt-ltb, eq-eqb, ne_eqb}
 use Rattle.sound.specs.Clauses.{s1}
-use borrow.Author.Rules.{rules}
 use Rattle.verdict.proofs.early.range_at.Goals as goal
 
 pub returns-then-p-ne0 : goal.returns-then-p-ne0

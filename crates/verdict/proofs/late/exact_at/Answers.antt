@@ -1,7 +1,6 @@
 -- src/late.rt, exact_at: result ≡ s7 (view t.now) p.0
 use Rattle.decide.specs.Laws.Decide.{passed}
 use Rattle.verdict.proofs.Laws.Stages.{s7_absent, given_fails, exact_decides}
-use borrow.Author.Rules.{rules}
 use mathlib.Core.Path.{ap}
 use mathlib.Core.Bool.{not}
 use Rattle.verdict.proofs.late.exact_at.Goals as goal

@@ -3,7 +3,6 @@ use mathlib.Core.Path.{◌≡◌}
 use native.Mathlib.Omega.{arith}
 use Rattle.sound.specs.Clauses.{clause_at}
 use Rattle.verdict.proofs.Laws.Stages.{reached_shaped, reached_before}
-use borrow.Author.Rules.{rules}
 use Rattle.verdict.proofs.late.holds.Goals as goal
 
 pub exact_at-requires : goal.exact_at-requires

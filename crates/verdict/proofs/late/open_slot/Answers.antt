@@ -1,7 +1,6 @@
 -- src/late.rt, open_slot: result ≡ open_slot (view t.now) p.0 i.0
 use borrow.Author.Tests.{not-true, not-false}
 use Rattle.verdict.specs.Laws.Opens.{open_empty, open_there}
-use borrow.Author.Rules.{rules}
 use Rattle.verdict.proofs.late.open_slot.Goals as goal
 
 pub returns-then-not-f : goal.returns-then-not-f

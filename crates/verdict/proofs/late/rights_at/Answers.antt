@@ -1,7 +1,6 @@
 -- src/late.rt, rights_at: result ≡ s11 (view t.now).k p.0
 use Rattle.decide.specs.Laws.Decide.{passed}
 use Rattle.verdict.proofs.Laws.Stages.{s11_absent, rights_decide}
-use borrow.Author.Rules.{rules}
 use mathlib.Core.Path.{ap}
 use mathlib.Core.Bool.{not}
 use Rattle.verdict.proofs.late.rights_at.Goals as goal

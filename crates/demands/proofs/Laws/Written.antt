@@ -30,7 +30,7 @@ use Rattle.demands.specs.Demands.{refusal_in, first_in, Accepted, Answered, hold
 use Rattle.demands.specs.Laws.Lowest.{past, none_left_law}
 use Rattle.demands.specs.Laws.Rising.{holders_rises, runs_rises}
 use Rattle.demands.specs.Laws.Results.{reads_back, result_answered, accepted_done}
-use Rattle.demands.specs.Laws.Listings.{runs_are, runs_only, table_lists, table_runs, table_runs_only, holders_looked, leaves, holders_result, holders_exact, holders_by, holders_done, runs_result, runs_exact, runs_by, runs_done}
+use Rattle.demands.proofs.Laws.Listings.{runs_are, runs_only, table_lists, table_runs, table_runs_only, holders_looked, leaves, holders_result, holders_exact, holders_by, holders_done, runs_result, runs_exact, runs_by, runs_done}
 
 nobody_calls : 0 < 2 ^ 8
 nobody_calls = omega arith

@@ -48,7 +48,7 @@ use Rattle.face.specs.Face.{handed, result_of, second_after, bytes_after, Lent, 
 use Rattle.face.specs.Laws.Face.{handed_is, handed_unsound, handed_whole, handed_short}
 use Rattle.facesheet.specs.Sheets.{BothLent, BootSheetLent, CallSheetLent}
 use Rattle.demands.specs.Demands.{Bytes, BootLent, refusal_in, first_in, Accepted, Applies, fails, later, missing, of_entry, no_lowest, of_lowest}
-use Rattle.demands.specs.Theorem.{boot_answered, booted, start, start_good}
+use Rattle.demands.proofs.Theorem.{boot_answered, booted, start, start_good}
 use Rattle.demands.specs.Laws.Calls.{handed_small, handed_of, call_answered, call_done, one_unsound, next, caller_byte}
 use Rattle.demands.specs.Laws.Lowest.{Rises, top, rung, applies_range, past}
 use Rattle.demands.specs.Laws.Results.{reads_back}

@@ -26,7 +26,7 @@ use Rattle.demands.specs.Demands.{BootLent, first_in, Accepted, Answered, Change
 use Rattle.demands.specs.Laws.Rising.{boot_rises}
 use Rattle.demands.specs.Laws.Results.{reads_back, result_answered, accepted_done}
 use Rattle.demands.specs.Laws.Calls.{handed_small, handed_of, changed, call_answered, call_caller, call_changed, called}
-use Rattle.demands.specs.Laws.Written.{holders_answered, holders_written, runs_answered, runs_written, tells}
+use Rattle.demands.proofs.Laws.Written.{holders_answered, holders_written, runs_answered, runs_written, tells}
 
 -- ── boot ──
 module _ (base end : ℕ) {b : List ℕ} {r : ℕ} {c : List ℕ} (h : BootLent b base end r c) where

@@ -12,7 +12,7 @@ use Rattle.face.specs.Laws.Face.{handed_is, handed_unsound}
 use Rattle.face.specs.Laws.Check.{check_says}
 use Rattle.demands.specs.Laws.Calls.{handed_small, one_unsound}
 use Rattle.demands.specs.Checks.{CheckLent, CheckDemand}
-use Rattle.demands.specs.Theorem.{calls_sound}
+use Rattle.demands.proofs.Theorem.{calls_sound}
 
 -- a check finds nothing exactly where the bytes that are handed over are a sound table
 nothing : (board : Board) (b : List ℕ) {q : ℕ} → CheckLent board b q → (q ≡ 0) ↔ Sound board (handed b)

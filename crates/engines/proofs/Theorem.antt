@@ -21,11 +21,11 @@ use Rattle.engine.specs.Laws.Exits.{memory_of}
 use Rattle.engine.specs.Laws.Marking.{between_length, between_from}
 use Rattle.face.specs.Face.{handed, CallLent, ListLent}
 use Rattle.demands.specs.Demands.{BootLent, Accepted, first_in, HoldersWritten, happened, entered, Called, no_call, one_call, Tells}
-use Rattle.demands.specs.Theorem.{demand_three, booted, start, start_good}
+use Rattle.demands.proofs.Theorem.{demand_three, booted, start, start_good}
 use Rattle.demands.specs.Laws.Calls.{call_done, call_event, call_noted, next}
 use Rattle.engines.specs.Engines.{goes, makes, Drives, Both, no_turn, one_turn, SideBySide, LineEngine}
 use Rattle.engines.specs.Laws.Mirrors.{Mirrors, start_mirrors}
-use Rattle.engines.specs.Laws.Follows.{makes_size, makes_past, Follows, call_follows, take_event}
+use Rattle.engines.proofs.Laws.Follows.{makes_size, makes_past, Follows, call_follows, take_event}
 
 -- what is not refused answers 0, and makes its masks
 driven : (base end : ℕ) (e : Event) {ms : List ℕ} {q : ℕ} {ns : List ℕ} → goes (length ms) base end e ≡ true → Drives base end e ms q ns → (q ≡ 0) × (ns ≡ makes base end e ms)

@@ -1,0 +1,4 @@
+pub mod Listings
+pub mod Written
+pub mod ChecksProof
+pub mod SheetProof
