@@ -1,4 +1,4 @@
--- 02's refusals of the register pair, over the promises of the two functions. The theorem is `region-pair` (`Laws/Exactly.antt`).
+-- 02's refusals of the register pair, over the promises of the two functions. The theorem is `region_pair` (`Laws/Exactly.antt`).
 use Rattle.std.specs.Prelude.{◌≡◌, true, false, List, ◌↔◌, ℕ, ◌^◌, ◌<◌}
 use Rattle.shapes.specs.declared.Board.TheVariants.{V8}
 use Rattle.tables.specs.State.{none, some, Entry}

@@ -1,4 +1,4 @@
--- 01's "A session printed whole" and "Checked by the prover, and by a run": one list, `cases`, and a single statement over it, `every-case`.
+-- 01's "A session printed whole" and "Checked by the prover, and by a run": one list, `cases`, and a single statement over it, `every_case` (proofs/Cases.antt).
 -- The checker computes every case by the rules that the contracts cite: call_on, boot_on, words_after, holders_outcome, holders_bytes; on ARMv7-M.
 use Rattle.std.specs.Prelude.{◌≡◌, refl, Bool, true, false, ◌&&◌, List, [], ◌∷◌, ◌++◌, map, ℕ, length, get_or, replicate, eqb}
 use Rattle.std.proofs.Common.{ap₂, eq-eqb, eqb-true}

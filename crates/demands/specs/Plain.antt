@@ -1,5 +1,5 @@
 -- ARMv8-M: "On this one #102's pieces, 19 and the limit of 8 pieces in S10 don't apply, and each loaded entry is one region." What is common is said once, over the
--- pieces of the board (`pieces_for`); of this board the rest follows. The theorem is `plain-board` (`Laws/PlainProof.antt`).
+-- pieces of the board (`pieces_for`); of this board the rest follows. The theorem is `plain_board` (`Laws/PlainProof.antt`).
 use Rattle.std.specs.Prelude.{◌≡◌, List, [], ◌∷◌, ℕ, ◌-◌, ◌≤◌}
 use Rattle.shapes.specs.declared.Board.TheVariants.{V8}
 use Rattle.shapes.specs.Pieces.{piece, pieces_for}

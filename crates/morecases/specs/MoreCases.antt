@@ -1,4 +1,4 @@
--- Cases beside 01's list: services that it does not call, and 02's requests 101, 102, 104, 105 and 111. One list, `more_cases`, and a single statement over it, `every-more-case`.
+-- Cases beside 01's list: services that it does not call, and 02's requests 101, 102, 104, 105 and 111. One list, `more_cases`, and a single statement over it, `every_more_case`.
 -- The checker computes them as it computes those of `cases`, on ARMv7-M.
 use Rattle.std.specs.Prelude.{◌≡◌, refl, true, false, cond, List, [], ◌∷◌, ◌++◌, ℕ, ◌+◌, ◌*◌, ◌^◌, get_or, replicate, eqb}
 use Rattle.std.proofs.Math.Bool.{and-eq-true_iff}

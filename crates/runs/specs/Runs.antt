@@ -47,7 +47,7 @@ pub record Chain (l m : ℕ) (rs : List Run) : Type 0 where
   pub long : (i : ℕ) → i < length rs → (nth_run rs i).start.0 < (nth_run rs i).end.0
 
 -- The longest runs: every line of a run has that run's holders, and neighbours differ in theirs.
--- `runs-longest` says that the runs are so, `longest-one` that nothing else is.
+-- `runs_longest` says that the runs are so, `longest_one` that nothing else is.
 pub record Longest (k : K) (rs : List Run) : Type 0 where
   pub chain : Chain k.base k.stop rs
   pub same : (i l : ℕ) → i < length rs → On (nth_run rs i) l → holders_of k l ≡ trail k (nth_run rs i).deepest.0 15
@@ -64,7 +64,7 @@ runs_over rs list = rs ++ drop (length rs) list
 unfoldable pub runs_records : Board → List ℕ → List Run → List Run
 runs_records b t list = cond (sound b t) (cond (leb (length (runs_of (view t).k)) (length list)) (runs_over (runs_of (view t).k) list) list) list
 
--- what their one writer promises of the words that it was handed (`handed-listed` of board): its outcome, and every record of the list
+-- what their one writer promises of the words that it was handed (`handed_listed` of board): its outcome, and every record of the list
 pub record RunsListed (b : Board) (t : List ℕ) (before : List Run) (r : Outcome) (after : List Run) : Type 0 where
   pub outcome : r ≡ runs_outcome b t (length before)
   pub records : after ≡ runs_records b t before

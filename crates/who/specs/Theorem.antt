@@ -22,7 +22,7 @@ use Rattle.isolation.proofs.Laws.Regions.{load_exact, load_done}
 use Rattle.who.specs.Who.{names_it, can_write}
 use Rattle.who.specs.Laws.Pieces.{sum_only, number, is_0, is_2, is_3}
 
--- of the entry e in slot s of p, in a right table, as every sound one is (`sound-right`)
+-- of the entry e in slot s of p, in a right table, as every sound one is (`sound_right`)
 module _ (b : Board) {t : Table} (h : Right t) (p s : ℕ) {e : Entry} (at : t.k.slot p s ≡ some e) where
   -- what a number says of the first test, open, and of the last, few pieces
   tested : (A : Bool → Bool → Type 0) {n : ℕ} → ((o w x c f : Bool) → number o w x c f ≡ n → A o f) → can_write b t p s e (t.opened p s) ≡ n

@@ -19,7 +19,7 @@ use Rattle.sound.proofs.Laws.List.{sound_means}
 use Rattle.face.specs.Face.{handed}
 use Rattle.pairs.specs.Pair.{Readable, pair_of, entry_of_pair, one_word, halves, writes, open_word, reads}
 use Rattle.pairs.specs.Exactly.{registers}
-use Rattle.pairs.proofs.Laws.Answers.{writes_done, writes_unread}
+use Rattle.pairs.proofs.Laws.Exits.{writes_done, writes_unread}
 use Rattle.pairs.proofs.Laws.Exactly.{pairs}
 use Rattle.pairs.specs.declared.PairWritten.{PairWritten}
 use Rattle.pairs.specs.declared.PairWritten.TheVariants.{Pair, Refused}

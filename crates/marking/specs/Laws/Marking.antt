@@ -308,9 +308,9 @@ module _ (l : List ℕ) (shaped : Shaped l) where
 
       -- where S8 asks for an entry of q
       pub says_marks : {q r : ℕ} {m' : List ℕ} → q < 16 → (q ≡ k.parent p) ⊎ ((q ≡ p) × (0 < j)) → Marks k q a m r m' → (EachS8 k → Equals k q a) → MarkSays k (5 * p + (j + 1)) (eqb r 1) m'
-      says_marks b who (nobody z e none_equal) Has-one = says_none z (λ s8. none_equal (Has-one s8))
-      says_marks b who (marked i c w z free e) Has-one = says_found b who (marked i c w z free e) (λ y. omega arith)
-      says_marks b who (before i c w z taken e) Has-one = says_found b who (before i c w z taken e) (λ y. omega arith)
+      says_marks b who (nobody z e none_equal) has_one = says_none z (λ s8. none_equal (has_one s8))
+      says_marks b who (marked i c w z free e) has_one = says_found b who (marked i c w z free e) (λ y. omega arith)
+      says_marks b who (before i c w z taken e) has_one = says_found b who (before i c w z taken e) (λ y. omega arith)
 
   -- ── the header's area ──
   module _ {p : ℕ} {m : List ℕ} (in_p : p < 16) (inv : MarkedTo k (5 * p + 0) m) {f : HeaderFields} (v : SeenHeader l p f) where
@@ -378,9 +378,9 @@ module _ (l : List ℕ) (shaped : Shaped l) where
       asked : {one other : ℕ} {r : Bool} {m' : List ℕ} → one < 16 → other < 16 → (one ≡ k.parent p) ⊎ ((one ≡ p) × (0 < j)) → (other ≡ k.parent p) ⊎ ((other ≡ p) × (0 < j))
           → (EachS8 k → Equals k one (area_between f.start.0 f.end.0) ⊎ Equals k other (area_between f.start.0 f.end.0))
           → MarksEither k one other (area_between f.start.0 f.end.0) m r m' → MarkSays k (5 * p + (j + 1)) r m'
-      asked b c who-one who-other Has-one (in_one x e found t) = rw e (says_found p j few inv in_p area n b who-one t found)
-      asked b c who-one who-other Has-one (in_other x e no_entry t) =
-          rw e (says_marks p j few inv in_p area n c who-other t (λ s8. ⊎_elim (λ o. absurd (no_entry o)) (λ o. o) (Has-one s8)))
+      asked b c who-one who-other has_one (in_one x e found t) = rw e (says_found p j few inv in_p area n b who-one t found)
+      asked b c who-one who-other has_one (in_other x e no_entry t) =
+          rw e (says_marks p j few inv in_p area n c who-other t (λ s8. ⊎_elim (λ o. absurd (no_entry o)) (λ o. o) (has_one s8)))
 
       pub own_first : {r : Bool} {m' : List ℕ} → MarksEither k p g.parent.0 (area_between f.start.0 f.end.0) m r m' → MarkSays k (5 * p + (j + 1)) r m'
       own_first = asked in_p w.parent_small (inr (refl, from)) (inl (sym w.parent)) either

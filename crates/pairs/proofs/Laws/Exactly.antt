@@ -10,7 +10,7 @@ use Rattle.pairs.specs.Pair.{Readable, bare, pair_of, entry_of_pair, one_word, h
 use Rattle.pairs.specs.Exactly.{registers, Pairs, WrittenByEntry}
 use Rattle.pairs.specs.Laws.Word.{printed_pair}
 use Rattle.pairs.proofs.Laws.Pair.{pair_back, pair_only}
-use Rattle.pairs.proofs.Laws.Answers.{writes_done, writes_unread}
+use Rattle.pairs.proofs.Laws.Exits.{writes_done, writes_unread}
 use Rattle.pairs.specs.declared.Registers.{Registers}
 use Rattle.pairs.specs.declared.PairWritten.TheVariants.{Pair, Refused}
 

@@ -2,7 +2,7 @@
 use mathlib.Core.Path.{sym, ◌∙◌}
 use mathlib.Core.Bool.{true≢false}
 use native.Mathlib.Omega.{arith}
-use Rattle.pairs.proofs.Laws.Answers.{reads_set, reads_unfair, reads_is}
+use Rattle.pairs.proofs.Laws.Exits.{reads_set, reads_unfair, reads_is}
 use borrow.Author.Tests.{not-true, not-false}
 use Rattle.pairs.proofs.read_pair.Goals as goal
 

@@ -1,7 +1,7 @@
 -- src/lib.rt, write_pair: result ≡ writes (plain start end rights)
 use native.Mathlib.Omega.{arith}
 use Rattle.pairs.specs.Pair.{plain}
-use Rattle.pairs.proofs.Laws.Answers.{writes_unread, writes_empty, writes_past, writes_by}
+use Rattle.pairs.proofs.Laws.Exits.{writes_unread, writes_empty, writes_past, writes_by}
 use borrow.Author.Tests.{not-true, not-false}
 use Rattle.pairs.proofs.write_pair.Goals as goal
 

@@ -118,11 +118,12 @@ module _ {t : Table} {c p n : ℕ} {l : List ℕ} (inv : Ungiving t c p n l) whe
       }
 
 -- ── delete ──
-module _ (l : List ℕ) {c : ℕ} (p : ℕ) (now : (view l).k.current ≡ c) (is : child (view l).k c p ≡ true) where
+module _ {l : List ℕ} {c : ℕ} (p : ℕ) (now : (view l).k.current ≡ c) (is : child (view l).k c p ≡ true) where
   pub delete_parent : has_child (view l).k p ≡ true → Ran (delete (view l) p) l (Refused 15) l
   unfolding delete
   delete_parent q = ran_refused (pass 3 (child_now _ _ now is) (fail 15 _ (ap not q)))
 
+module _ (l : List ℕ) {c : ℕ} (p : ℕ) (now : (view l).k.current ≡ c) (is : child (view l).k c p ≡ true) where
   pub delete_is : has_child (view l).k p ≡ false → delete (view l) p ≡ done 0 0 (settled (zero_records (ungiven (view l) (view l).k.current p) (λ q. eqb q p)))
   unfolding delete
   delete_is q = pass 3 (child_now _ _ now is) (pass 15 (ap not q) refl)

@@ -20,7 +20,7 @@ returns-then-not-is_child c = ran_refused (fail 3 _ (child_now _ _ c.first.ensur
 
 pub returns-then-has_child : goal.returns-then-has_child
 unfolding delete
-returns-then-has_child c = delete_parent _ _ c.first.ensures.current (sym c.is_child.ensures ∙ c.if-not-is_child.false) (sym c.has_child.ensures ∙ c.if-has_child.true)
+returns-then-has_child c = delete_parent _ c.first.ensures.current (sym c.is_child.ensures ∙ c.if-not-is_child.false) (sym c.has_child.ensures ∙ c.if-has_child.true)
 
 pub up_from-above-requires : goal.up_from-above-requires
 unfolding delete

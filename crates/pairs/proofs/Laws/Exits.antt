@@ -1,4 +1,3 @@
--- src/lib.rt, Laws: is no function of this file
 -- The exits of the code that writes a pair and of the code that reads one.
 use Rattle.std.specs.Prelude.{◌≡◌, refl, Bool, true, false, cond, not, ℕ, ◌-◌, ◌≤◌, ◌<◌, ◌^◌}
 use Rattle.std.proofs.Math.Path.{ap, sym, subst}
