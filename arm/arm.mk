@@ -61,6 +61,8 @@ arm_library_access = $(arm_access)
 arm_kit_flags := -O3 -ffunction-sections -fdata-sections $(addprefix -mllvm ,-trap-unreachable -no-trap-after-noreturn \
     -disable-machine-licm -disable-postra-machine-licm -sink-common-insts=false)
 arm_library_flags := $(arm_kit_flags) -Werror -Wno-override-module -fstack-usage
+# Up to eight bytes whose place in memory is not known are copied one by one, so that no copy calls a function that firmware would have to bring.
+arm_copies := -mllvm -max-store-memcpy=8
 
 # board.bc is made with the archive.
 arm_module := $(lib_folder)/arm/board.ll
@@ -70,11 +72,12 @@ $(arm_module): $(lib_folder)/libulavrepit.a arm/as_text arm/gives_archive arm/kn
 
 # Functions that are not inlined. The marks of runs lie in an array of leave_marks: in the frame of its caller they would lie beside
 # all that decides the table, which has ended when they are made; so is the order of the entries in is_sound_beside, for a call with a
-# sheet. The others but the three that follow are for text: without them it is 3,370 bytes more on a Cortex-M0 and 2,220 on an M3.
+# sheet, and so are the areas in gone::settle_named: in the frame of its caller they cost a call 200 bytes of stack more.
+# The others but the three that follow are for text: without them it is 3,370 bytes more on a Cortex-M0 and 2,220 on an M3.
 # walk_entries and has_lent are for the walk, which has the registers to itself then: find takes 400 to 3,700 less on the densest table.
 # store is for its loop over eight words, which is unrolled once more by itself.
 arm_apart := runs::walk::leave_marks searching::holding_slot marking::backing::equal_slot loaded::limit::entry_pieces \
-    settling::areas::zero_record settling::areas::clear_of settling::came::settle_named \
+    settling::areas::zero_record settling::areas::Areas::is_clear_of settling::came::settle_named settling::gone::settle_named \
     decide::walk::walk_entries decide::entries::has_lent summing::pairs::words_of facesheet::is_sound_beside memory::store
 # Beside them on one processor, of the look for zeros and of the load: on a Cortex-M0 the load, which then counts from an address of
 # its own; on the others the look at a record, whose loop is unrolled then, with places that differ by constants.
@@ -85,11 +88,11 @@ arm_apart_of = $(arm_apart) $(arm_apart_$(call arm_kind,$(1)))
 keep_apart = sed $(patsubst %,-e '/^define.*@"%"./s/ #0 {/ #0 noinline {/',$(1))
 has_apart = [ $$(grep -c '^define.* noinline {$$' $(@D)/board.ll) -eq $(words $(1)) ] || { echo 'a function is to be kept apart that the module has not: $(1)' >&2; false; }
 
-# Loops, FUNCTION=TURNS: so many turns are put together, with 1 none (docs/DECISIONS.md, 81). Unrolled, the loop over records is text
-# alone; loads of four words are put together, and where bytes are read, which nothing joins, looks at four words too.
-arm_loops_cortex-m0 :=
-arm_loops_any := memory::zero_end=1 memory::load_records=4
-arm_loops_aligned := memory::zero_end=1 memory::zero_forty=5 memory::load_records=2
+# Loops, FUNCTION=TURNS: so many turns are put together, with 1 none (docs/DECISIONS.md, 81). Unrolled, the loops over records and over
+# the areas that make room are text alone, and the look at a record reads beyond the 32 bytes behind an address, where a Cortex-M0 takes half as many instructions again; loads of four words are put together, and where bytes are read, which nothing joins, looks at four words too.
+arm_loops_cortex-m0 := memory::zero_forty=1 settling::areas::Areas::shift=1
+arm_loops_any := memory::zero_end=1 memory::load_records=4 memory::zero_forty=2 settling::areas::Areas::shift=1
+arm_loops_aligned := memory::zero_end=1 memory::zero_forty=5 memory::load_records=2 settling::areas::Areas::shift=1
 arm_loops_of = $(arm_loops_$(if $(filter cortex-m0,$(1)),cortex-m0,$(ARM_ACCESS)))
 # A word about a loop stands at its jump back; what it says, at the module's end, under a number that nothing else has.
 loop_function = $(firstword $(subst =, ,$(1)))
@@ -106,7 +109,7 @@ $(arm_build)/%/libulavrepit.a: $(arm_module) arm/arm.mk arm/stack.awk arm/recurs
 	@{ $(call keep_apart,$(call arm_apart_of,$*)) $(call tell_loops,$(call arm_loops_of,$*)) $< && echo 'module asm "$(arm_attribute)"' $(call loops_told,$(call arm_loops_of,$*)); } >$(@D)/board.ll
 	@$(call has_apart,$(call arm_apart_of,$*))
 	@$(call has_loops,$(call arm_loops_of,$*))
-	@$(arm_bin)/clang $(arm_target_$*) $(arm_flags) $(arm_library_access) $(arm_library_flags) -S -x ir $(@D)/board.ll -o $(@D)/board.s
+	@$(arm_bin)/clang $(arm_target_$*) $(arm_flags) $(arm_library_access) $(arm_library_flags) $(arm_copies) -S -x ir $(@D)/board.ll -o $(@D)/board.s
 	@$(arm_bin)/clang $(arm_target_$*) $(arm_flags) -c $(@D)/board.s -o $(@D)/board.o
 	@awk -f arm/stack.awk arm/recursion.txt $(@D)/board.su $(@D)/board.s >$(@D)/stack.txt
 	@rm -f $@

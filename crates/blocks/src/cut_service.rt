@@ -7,11 +7,11 @@ ghost use Rattle.rules.specs.Ran.{Ran};
 ghost use Rattle.writing.specs.CanWrite.{CanEntry};
 ghost use Rattle.blocks.specs.CutExits.{CanCut, split_at};
 
-use crate::pick::{Picked, free_entry};
+use crate::pick::free_entry;
 use crate::unloading::unload_entry;
-use tables::{Found, Outcome};
+use tables::Outcome;
 use words::slot_word::SlotFields;
-use words::{Line, Partition, Slot};
+use words::{Line, Partition, Refusal, Slot};
 
 // slot s of c, whose entry is f, is unloaded and ends at l; slot n goes on from there
 fn split_entry(t: &mut [u64; 641], c: Partition, s: Slot, n: Slot, l: Line, f: SlotFields)
@@ -33,21 +33,18 @@ fn cut_entry(t: &mut [u64; 641], s: Slot, l: Line, f: SlotFields) -> Outcome
     ensures { Ran (cut (view t.old) s.0 l.0) t.old result t.new }
 {
     if f.start.0 >= l.0 {
-        return Outcome::Refused(7);
+        return Err(Refusal::WrongLine);
     }
     if l.0 >= f.end.0 {
-        return Outcome::Refused(7);
+        return Err(Refusal::WrongLine);
     }
     let c = tables::read::first(t).current;
-    let found = searching::free_slot(t, c);
-    let Found::At(n) = found else {
-        return Outcome::Refused(8);
-    };
+    let n = searching::free_slot(t, c).ok_or(Refusal::NoneFree)?;
     if f.whole {
-        return Outcome::Refused(18);
+        return Err(Refusal::LentWhole);
     }
     split_entry(t, c, s, n, l, f);
-    Outcome::Done(n.0 as u64, 0)
+    Ok((n.0 as u64, 0))
 }
 
 // 7: slot s, which is open, is unloaded and ends at l, and a free slot goes on from there: a right table stays settled
@@ -55,8 +52,6 @@ pub fn cut(t: &mut [u64; 641], s: Slot, l: Line) -> Outcome
     requires { Canon t.old × (s.0 < 32) × (l.0 < 2 ^ 27) × Right (view t.old) }
     ensures { Ran (cut (view t.old) s.0 l.0) t.old result t.new }
 {
-    match free_entry(t, s) {
-        Picked::Refused(n) => Outcome::Refused(n),
-        Picked::Entry(f) => cut_entry(t, s, l, f),
-    }
+    let f = free_entry(t, s)?;
+    cut_entry(t, s, l, f)
 }

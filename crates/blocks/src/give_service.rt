@@ -7,10 +7,10 @@ ghost use Rattle.rules.specs.Ran.{Ran};
 ghost use Rattle.writing.specs.CanWrite.{CanEntry};
 ghost use Rattle.blocks.specs.GiveExits.{CanGive, handed_to};
 
-use crate::pick::{Picked, free_entry};
-use tables::{Found, Outcome};
+use crate::pick::free_entry;
+use tables::Outcome;
 use words::slot_word::SlotFields;
-use words::{Partition, Rights, Slot};
+use words::{Partition, Refusal, Rights, Slot};
 
 // slot s of c, whose entry is f, is given to p; slot n of p has its range with rights r, whole or not
 fn hand_over(
@@ -50,18 +50,15 @@ fn give_entry(
     requires { CanGive t.old c.0 p.0 s.0 f }
     ensures { Ran (give (view t.old) p.0 s.0 r whole) t.old result t.new }
 {
-    let found = searching::free_slot(t, p);
-    let Found::At(n) = found else {
-        return Outcome::Refused(8);
-    };
+    let n = searching::free_slot(t, p).ok_or(Refusal::NoneFree)?;
     if !shape::rights::rights_within(r, f.rights) {
-        return Outcome::Refused(10);
+        return Err(Refusal::MoreRights);
     }
     if f.whole {
-        return Outcome::Refused(18);
+        return Err(Refusal::LentWhole);
     }
     hand_over(t, c, s, p, n, r, whole, f);
-    Outcome::Done(n.0 as u64, 0)
+    Ok((n.0 as u64, 0))
 }
 
 // 5: slot s, which is open, is given to the child p, and a free slot of p has its range with rights r, whole or not: a right table stays settled
@@ -71,10 +68,8 @@ pub fn give(t: &mut [u64; 641], p: Partition, s: Slot, r: Rights, whole: bool) -
 {
     let c = tables::read::first(t).current;
     if !searching::is_child(t, c, p) {
-        return Outcome::Refused(3);
+        return Err(Refusal::WrongPartition);
     }
-    match free_entry(t, s) {
-        Picked::Refused(n) => Outcome::Refused(n),
-        Picked::Entry(f) => give_entry(t, c, p, s, r, whole, f),
-    }
+    let f = free_entry(t, s)?;
+    give_entry(t, c, p, s, r, whole, f)
 }

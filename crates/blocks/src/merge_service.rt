@@ -12,13 +12,13 @@ ghost use Rattle.blocks.specs.MergeExits.{may_join, CanMerge, joined_at};
 use crate::unloading::unload_entry;
 use tables::Outcome;
 use words::slot_word::SlotFields;
-use words::{Partition, Slot};
+use words::{Partition, Refusal, Slot};
 
 // the entry g is given to c and contains e
 fn grants(c: Partition, e: SlotFields, g: SlotFields) -> bool
     ensures { result ≡ grants c.0 (entry_of e) (entry_of g) }
 {
-    if g.given.0 != c.0 {
+    if g.given != c {
         return false;
     }
     if g.start.0 > e.start.0 {
@@ -45,13 +45,11 @@ fn one_grant(t: &[u64; 641], q: Partition, c: Partition, e: SlotFields, f: SlotF
     requires { q.0 < 16 }
     ensures { result ≡ any 32 (λ i. contains_both c.0 (entry_of e) (entry_of f) ((view t.now).k.slot q.0 i)) }
 {
-    let mut i = 0u32;
-    while i < 32 {
+    for i in 0..32 {
         let g = tables::read::entry(t, q, Slot(i));
         if contains_both(c, e, f, g) {
             return true;
         }
-        i += 1;
     }
     false
 }
@@ -94,25 +92,25 @@ fn merge_entries(
     ensures { Ran (merge (view t.old) s.0 u.0) t.old result t.new }
 {
     if !e.opened {
-        return Outcome::Refused(5);
+        return Err(Refusal::NotOpen);
     }
     if !f.opened {
-        return Outcome::Refused(5);
+        return Err(Refusal::NotOpen);
     }
     if e.given.0 != 0 {
-        return Outcome::Refused(6);
+        return Err(Refusal::Given);
     }
     if f.given.0 != 0 {
-        return Outcome::Refused(6);
+        return Err(Refusal::Given);
     }
-    if e.end.0 != f.start.0 {
-        return Outcome::Refused(11);
+    if e.end != f.start {
+        return Err(Refusal::Apart);
     }
     if !may_join(t, c, e, f) {
-        return Outcome::Refused(12);
+        return Err(Refusal::TwoGrants);
     }
     join(t, c, s, u, e, f);
-    Outcome::Done(0, 0)
+    Ok((0, 0))
 }
 
 // 8: slot s ends where slot u ended, and slot u is free; both are unloaded, and both are open, so in a right table nothing is left to settle
@@ -123,11 +121,11 @@ pub fn merge(t: &mut [u64; 641], s: Slot, u: Slot) -> Outcome
     let c = tables::read::first(t).current;
     let e = tables::read::entry(t, c, s);
     if !e.present {
-        return Outcome::Refused(4);
+        return Err(Refusal::NoEntry);
     }
     let f = tables::read::entry(t, c, u);
     if !f.present {
-        return Outcome::Refused(4);
+        return Err(Refusal::NoEntry);
     }
     merge_entries(t, c, s, u, e, f)
 }

@@ -9,9 +9,9 @@ ghost use Rattle.rules.specs.Ran.{Ran};
 ghost use Rattle.writing.specs.CanWrite.{CanEntry};
 ghost use Rattle.blocks.specs.TakeExits.{CanTake, taken_back};
 
-use tables::{Found, Outcome};
+use tables::Outcome;
 use words::slot_word::SlotFields;
-use words::{Partition, Slot};
+use words::{Partition, Refusal, Slot};
 
 // slot i of the child that e is given to is an open, not-given entry of exactly that range
 fn is_returned(t: &[u64; 641], e: SlotFields, i: Slot) -> bool
@@ -26,28 +26,26 @@ fn is_returned(t: &[u64; 641], e: SlotFields, i: Slot) -> bool
     if f.given.0 != 0 {
         return false;
     }
-    if f.start.0 != e.start.0 {
+    if f.start != e.start {
         return false;
     }
-    if f.end.0 != e.end.0 {
+    if f.end != e.end {
         return false;
     }
     f.opened
 }
 
 // the lowest slot of that child that is returned
-fn returned_slot(t: &[u64; 641], e: SlotFields) -> Found
+fn returned_slot(t: &[u64; 641], e: SlotFields) -> Option<Slot>
     requires { e.given.0 < 16 }
     ensures { result ≡ found_of (lowest 32 (returned (view t.now) (entry_of e))) }
 {
-    let mut i = 0u32;
-    while i < 32 {
+    for i in 0..32 {
         if is_returned(t, e, Slot(i)) {
-            return Found::At(Slot(i));
+            return Some(Slot(i));
         }
-        i += 1;
     }
-    Found::Nothing
+    None
 }
 
 // slot s of c, whose entry is e, is given to nobody; slot i of the child that had it is free
@@ -68,13 +66,10 @@ fn take_entry(t: &mut [u64; 641], c: Partition, s: Slot, e: SlotFields) -> Outco
     requires { CanTake t.old c.0 s.0 e }
     ensures { Ran (take (view t.old) s.0) t.old result t.new }
 {
-    let found = returned_slot(t, e);
-    let Found::At(i) = found else {
-        return Outcome::Refused(14);
-    };
+    let i = returned_slot(t, e).ok_or(Refusal::InPieces)?;
     take_back(t, c, s, i, e);
     settling::settle_regions(t, e.given);
-    Outcome::Done(0, 0)
+    Ok((0, 0))
 }
 
 // 6: slot s is taken back from the child that it is given to; in a right table nothing is left to settle but the child's regions
@@ -85,10 +80,10 @@ pub fn take(t: &mut [u64; 641], s: Slot) -> Outcome
     let c = tables::read::first(t).current;
     let e = tables::read::entry(t, c, s);
     if !e.present {
-        return Outcome::Refused(4);
+        return Err(Refusal::NoEntry);
     }
     if e.given.0 == 0 {
-        return Outcome::Refused(6);
+        return Err(Refusal::Given);
     }
     take_entry(t, c, s, e)
 }

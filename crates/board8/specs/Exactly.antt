@@ -1,5 +1,5 @@
 -- 02's refusals of the register pair, over the promises of the two functions. The theorem is `region_pair` (`Laws/Exactly.antt`).
-use Rattle.std.specs.Prelude.{◌≡◌, true, false, List, ◌↔◌, ℕ, ◌^◌, ◌<◌}
+use Rattle.std.specs.Prelude.{◌≡◌, true, false, List, ◌↔◌, ℕ, ◌^◌, ◌<◌, Ok}
 use Rattle.shapes.specs.declared.Board.TheVariants.{V8}
 use Rattle.tables.specs.State.{none, some, Entry}
 use Rattle.tables.specs.View.{view}
@@ -9,7 +9,6 @@ use Rattle.sound.specs.Sound.{Present}
 use Rattle.face.specs.Face.{handed}
 use Rattle.pairs.specs.Pair.{Readable, writes}
 use Rattle.pairs.specs.Exactly.{registers, WrittenByEntry}
-use Rattle.pairs.specs.declared.PairWritten.TheVariants.{Pair}
 use Rattle.board8.specs.Regions.{WriteLent, ReadLent}
 
 -- writing slot s of partition p: answer r, and what the two registers are after it. Not sound; no entry; not readable; readable: these are all.
@@ -21,7 +20,7 @@ pub record Writing (bytes : List ℕ) (p s rbar rlar r rbar' rlar' : ℕ) : Type
   pub absent : sound V8 (handed bytes) ≡ true → (Present (view (handed bytes)).k p → ⊥) → r ≡ 4
   pub unread : sound V8 (handed bytes) ≡ true → (e : Entry) → (view (handed bytes)).k.slot p s ≡ some e → e.rights.read ≡ false → r ≡ 22
   pub written : sound V8 (handed bytes) ≡ true → (e : Entry) → (view (handed bytes)).k.slot p s ≡ some e → e.rights.read ≡ true
-      → Readable e × (r ≡ 0) × (writes e ≡ Pair (registers rbar' rlar'))
+      → Readable e × (r ≡ 0) × (writes e ≡ Ok (registers rbar' rlar'))
   -- refused, both registers are as they were
   pub stays : (r ≡ 0 → ⊥) → (rbar' ≡ rbar) × (rlar' ≡ rlar)
 
@@ -29,7 +28,7 @@ pub record Writing (bytes : List ℕ) (p s rbar rlar r rbar' rlar' : ℕ) : Type
 pub record Reading (rbar rlar word r word' : ℕ) : Type 0 where
   pub refused : (r ≡ 22) ↔ (WrittenByEntry rbar rlar → ⊥)
   pub stays : r ≡ 22 → word' ≡ word
-  pub told : (r ≡ 22 → ⊥) → (r ≡ 0) × ((e : Entry) × Readable e × (e.given ≡ 0) × (e.whole ≡ false) × (word' ≡ slot_word (some e) true) × (writes e ≡ Pair (registers rbar rlar)))
+  pub told : (r ≡ 22 → ⊥) → (r ≡ 0) × ((e : Entry) × Readable e × (e.given ≡ 0) × (e.whole ≡ false) × (word' ≡ slot_word (some e) true) × (writes e ≡ Ok (registers rbar rlar)))
 
 -- who keeps the two promises does so
 pub record RegionPair : Type 0 where

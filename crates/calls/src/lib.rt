@@ -1,108 +1,110 @@
 #![tactic(auto)]
 
-ghost use Rattle.std.specs.Prelude.{◌≡◌, true, false, ◌&&◌, ◌||◌, ◌<◌};
+ghost use Rattle.std.specs.Prelude.{◌≡◌, true, false, ◌||◌, ◌<◌, eqb, MatchResult};
 ghost use Rattle.words.specs.Fields.{SmallCall};
 ghost use Rattle.tables.specs.View.{view};
 ghost use Rattle.tables.specs.Top.{Top};
 ghost use Rattle.tables.specs.Encode.{Canon};
 ghost use Rattle.sound.specs.Clauses.{sound};
 ghost use Rattle.sound.specs.Whole.{Right};
-ghost use Rattle.rules.specs.Rules.{no_rights, unused, region_call, known, numbered, perform, serve};
+ghost use Rattle.words.specs.declared.Refusal.TheVariants.{BadWord};
+ghost use Rattle.tables.specs.State.{some};
+ghost use Rattle.rules.specs.Services.{code_of};
+ghost use Rattle.rules.specs.Rules.{no_rights, uses, unused, region_call, known, numbered, serve};
 ghost use Rattle.rules.specs.Ran.{Ran};
 ghost use Rattle.rules.specs.Changes.{changed_by};
 ghost use Rattle.rules.specs.Calls.{CallAnswers};
 
 // A call: whether the table is sound, what the call word says, and its service.
-use rules::Answer;
+use rules::{Answer, Service, Uses};
 use shapes::Board;
 use tables::Outcome;
 use tables::masks::one_partition;
-use words::call_word::{CallFields, CallRead};
-use words::{Partition, Rights, Slot};
+use words::call_word::CallFields;
+use words::{Packed, Partition, Refusal, Rights, Slot};
 
+#[tactic(auto, unfolding(rules::specs::Rules::no_rights))]
 fn no_rights(r: Rights) -> bool
     ensures { result ≡ no_rights r }
 {
-    if r.read {
-        return false;
-    }
-    if r.write {
-        return false;
-    }
-    !r.execute
+    !r.read && !r.write && !r.execute
 }
 
-fn either(a: bool, b: bool) -> bool
-    ensures { result ≡ a || b }
+// The fields that the service uses.
+#[tactic(auto, unfolding(rules::specs::Rules::uses))]
+fn uses(service: Service) -> Uses
+    ensures { uses (code_of service) ≡ some result }
 {
-    if a {
-        return true;
+    let no = Uses {
+        p: false,
+        s: false,
+        u: false,
+        r: false,
+        l: false,
+        w: false,
+    };
+    let p = Uses { p: true, ..no };
+    let s = Uses { s: true, ..no };
+    let both = Uses { s: true, ..p };
+    match service {
+        Service::Create => s,
+        Service::Delete => p,
+        Service::Prepare => both,
+        Service::Collect => Uses { u: true, ..p },
+        Service::Give => Uses {
+            r: true,
+            w: true,
+            ..both
+        },
+        Service::Take => s,
+        Service::Cut => Uses { l: true, ..s },
+        Service::Merge => Uses { u: true, ..s },
+        Service::Region => Uses {
+            u: true,
+            r: true,
+            ..both
+        },
+        Service::ReadRegion => Uses { u: true, ..p },
+        Service::Find => Uses { l: true, ..p },
+        Service::Switch => p,
+        Service::ClearOut => p,
+        Service::Pack => p,
     }
-    b
 }
 
 // Each field that the service doesn't use is 0.
-fn unused(p: bool, s: bool, u: bool, r: bool, l: bool, w: bool, f: CallFields) -> bool
-    ensures { result ≡ unused (record { p = p; s = s; u = u; r = r; l = l; w = w }) f }
+#[tactic(auto, unfolding(rules::specs::Rules::unused))]
+fn unused(x: Uses, f: CallFields) -> bool
+    ensures { result ≡ unused x f }
 {
-    if !either(p, f.partition.0 == 0) {
-        return false;
-    }
-    if !either(s, f.slot.0 == 0) {
-        return false;
-    }
-    if !either(u, f.other == 0) {
-        return false;
-    }
-    let rights = f.rights;
-    if !either(r, no_rights(rights)) {
-        return false;
-    }
-    if !either(l, f.line.0 == 0) {
-        return false;
-    }
-    either(w, !f.whole)
+    (x.p || f.partition.0 == 0)
+        && (x.s || f.slot.0 == 0)
+        && (x.u || f.other == 0)
+        && (x.r || no_rights(f.rights))
+        && (x.l || f.line.0 == 0)
+        && (x.w || !f.whole)
 }
 
-// Service 9: R is not above 1, S is 0 where R is 1, and L and W are 0.
-fn region_known(f: CallFields) -> bool
-    ensures { result ≡ region_call f && unused (record { p = true; s = true; u = true; r = true; l = false; w = false }) f }
+// Service 9: R is not above 1, and S is 0 where R is 1.
+#[tactic(auto, unfolding(rules::specs::Rules::region_call))]
+fn region_call(f: CallFields) -> bool
+    ensures { result ≡ region_call f }
 {
-    let r = f.rights;
-    if r.read {
-        return false;
-    }
-    if r.write {
-        return false;
-    }
-    if !either(!r.execute, f.slot.0 == 0) {
-        return false;
-    }
-    unused(true, true, true, true, false, false, f)
+    !f.rights.read && !f.rights.write && (!f.rights.execute || f.slot.0 == 0)
 }
 
-// The number is a service's, and the fields that it doesn't use (P, S, T, R, L, W) are 0.
-fn known(f: CallFields) -> bool
-    ensures { result ≡ known f }
+// The service of a call word whose fields are in order: the number is a service's, and the fields that it doesn't use are 0.
+fn named(f: CallFields) -> Result<Service, Refusal>
+    ensures { MatchResult result (λ s. (code_of s ≡ f.service) × (known f ≡ true)) (λ why. (why ≡ BadWord) × (known f ≡ false)) }
 {
-    let service = f.service;
-    match service {
-        1 => unused(false, true, false, false, false, false, f),
-        2 => unused(true, false, false, false, false, false, f),
-        3 => unused(true, true, false, false, false, false, f),
-        4 => unused(true, false, true, false, false, false, f),
-        5 => unused(true, true, false, true, false, true, f),
-        6 => unused(false, true, false, false, false, false, f),
-        7 => unused(false, true, false, false, true, false, f),
-        8 => unused(false, true, true, false, false, false, f),
-        9 => region_known(f),
-        11 => unused(true, false, true, false, false, false, f),
-        12 => unused(true, false, false, false, true, false, f),
-        13 => unused(true, false, false, false, false, false, f),
-        14 => unused(true, false, false, false, false, false, f),
-        15 => unused(true, false, false, false, false, false, f),
-        _ => false,
+    let service = Service::try_from(f.service)?;
+    if matches!(service, Service::Region) && !region_call(f) {
+        return Err(Refusal::BadWord);
     }
+    if !unused(uses(service), f) {
+        return Err(Refusal::BadWord);
+    }
+    Ok(service)
 }
 
 // Service 9: R = 1 unloads, R = 0 loads.
@@ -117,28 +119,26 @@ fn region(board: Board, t: &mut [u64; 641], f: CallFields) -> Outcome
     services::region_services::load(board, t, f.partition, f.slot, f.other)
 }
 
-// The service of a call word whose fields are in order.
-fn perform(board: Board, t: &mut [u64; 641], f: CallFields) -> Outcome
-    requires { Canon t.old × SmallCall f × (known f ≡ true) × Right (view t.old) }
-    ensures { Ran (perform board (view t.old) f) t.old result t.new }
+// The service, of such fields.
+fn perform(board: Board, t: &mut [u64; 641], service: Service, f: CallFields) -> Outcome
+    requires { Canon t.old × SmallCall f × Right (view t.old) }
+    ensures { Ran (numbered board (code_of service) (view t.old) f) t.old result t.new }
 {
-    let service = f.service;
     match service {
-        1 => services::create_service::create(t, f.slot),
-        2 => services::delete_service::delete(t, f.partition),
-        3 => services::prepare_service::prepare(t, f.partition, f.slot),
-        4 => services::collect_service::collect(t, f.partition, f.other),
-        5 => blocks::give_service::give(t, f.partition, f.slot, f.rights, f.whole),
-        6 => blocks::take_service::take(t, f.slot),
-        7 => blocks::cut_service::cut(t, f.slot, f.line),
-        8 => blocks::merge_service::merge(t, f.slot, Slot(f.other)),
-        9 => region(board, t, f),
-        11 => services::region_services::read_region(t, f.partition, f.other),
-        12 => services::find_service::find(t, f.partition, f.line),
-        13 => services::switch_service::switch(t, f.partition),
-        14 => services::clear_service::clear_out(t, f.partition),
-        15 => services::pack::pack(t, f.partition),
-        _ => Outcome::Refused(2),
+        Service::Create => services::create_service::create(t, f.slot),
+        Service::Delete => services::delete_service::delete(t, f.partition),
+        Service::Prepare => services::prepare_service::prepare(t, f.partition, f.slot),
+        Service::Collect => services::collect_service::collect(t, f.partition, f.other),
+        Service::Give => blocks::give_service::give(t, f.partition, f.slot, f.rights, f.whole),
+        Service::Take => blocks::take_service::take(t, f.slot),
+        Service::Cut => blocks::cut_service::cut(t, f.slot, f.line),
+        Service::Merge => blocks::merge_service::merge(t, f.slot, Slot(f.other)),
+        Service::Region => region(board, t, f),
+        Service::ReadRegion => services::region_services::read_region(t, f.partition, f.other),
+        Service::Find => services::find_service::find(t, f.partition, f.line),
+        Service::Switch => services::switch_service::switch(t, f.partition),
+        Service::ClearOut => services::clear_service::clear_out(t, f.partition),
+        Service::Pack => services::pack::pack(t, f.partition),
     }
 }
 
@@ -147,10 +147,8 @@ fn serve(board: Board, t: &mut [u64; 641], f: CallFields) -> Outcome
     requires { Canon t.old × SmallCall f × Right (view t.old) }
     ensures { Ran (serve board (view t.old) f) t.old result t.new }
 {
-    if !known(f) {
-        return Outcome::Refused(2);
-    }
-    perform(board, t, f)
+    let service = named(f)?;
+    perform(board, t, service, f)
 }
 
 // Whose records the service can change, as a mask: the caller's, that of P, or that of whom the slot is given to; of others all.
@@ -158,22 +156,34 @@ fn changed_by(t: &[u64; 641], caller: Partition, f: CallFields) -> u32
     requires { ((view t.now).k.current ≡ caller.0) × (caller.0 < 16) × SmallCall f }
     ensures { result ≡ changed_by f.service (view t.now).k f }
 {
-    let service = f.service;
+    let Ok(service) = Service::try_from(f.service) else {
+        return 0xffff;
+    };
     match service {
-        5 => one_partition(caller) | one_partition(f.partition),
-        6 => {
+        Service::Give => one_partition(caller) | one_partition(f.partition),
+        Service::Take => {
             let child = searching::given_to(t, caller, f.slot);
             one_partition(caller) | one_partition(child)
         }
-        7 => one_partition(caller),
-        8 => one_partition(caller),
-        9 => one_partition(f.partition),
-        11 => 0,
-        12 => 0,
-        13 => 0,
-        15 => one_partition(f.partition),
-        _ => 0xffff,
+        Service::Cut | Service::Merge => one_partition(caller),
+        Service::Region | Service::Pack => one_partition(f.partition),
+        Service::ReadRegion | Service::Find | Service::Switch => 0,
+        Service::Create
+        | Service::Delete
+        | Service::Prepare
+        | Service::Collect
+        | Service::ClearOut => 0xffff,
     }
+}
+
+// Whether the service changes no word, whatever it answers.
+fn only_reads(f: CallFields) -> bool
+    ensures { result ≡ eqb f.service 11 || eqb f.service 12 }
+{
+    matches!(
+        Service::try_from(f.service),
+        Ok(Service::ReadRegion | Service::Find)
+    )
 }
 
 // A call on the words of a sound table: its service, or 2 where it is none. Find and read region leave every word as it was.
@@ -184,12 +194,12 @@ pub fn serve_word(board: Board, t: &mut [u64; 641], word: u64) -> Answer
     tables::fits(t);
     let first = tables::read::first(t);
     let caller = first.current;
-    let read = otherwords::call_word::read(word);
+    let read = CallFields::read(word);
     match read {
-        CallRead::Fields(f) => {
+        Ok(f) => {
             let changed = changed_by(t, caller, f);
             let outcome = serve(board, t, f);
-            let stands = either(f.service == 11, f.service == 12);
+            let stands = only_reads(f);
             Answer {
                 caller,
                 outcome,
@@ -197,9 +207,9 @@ pub fn serve_word(board: Board, t: &mut [u64; 641], word: u64) -> Answer
                 changed,
             }
         }
-        CallRead::Refused(n) => Answer {
+        Err(n) => Answer {
             caller,
-            outcome: Outcome::Refused(n),
+            outcome: Err(n),
             stands: true,
             changed: 0,
         },
@@ -214,7 +224,7 @@ pub fn call_table(board: Board, t: &mut [u64; 641], top: u32, word: u64) -> Answ
     if !decide::is_sound(board, t, top) {
         return Answer {
             caller: Partition(0),
-            outcome: Outcome::Refused(1),
+            outcome: Err(Refusal::NotSound),
             stands: true,
             changed: 0,
         };
@@ -230,7 +240,7 @@ pub fn call(board: Board, t: &mut [u64], word: u64) -> Answer
     if t.len() != 641 {
         return Answer {
             caller: Partition(0),
-            outcome: Outcome::Refused(1),
+            outcome: Err(Refusal::NotSound),
             stands: true,
             changed: 0,
         };

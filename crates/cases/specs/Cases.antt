@@ -16,15 +16,14 @@ use Rattle.tables.specs.Update.{pick, upd, upd1, both?}
 use Rattle.tables.specs.Search.{lowest, present, absent, absent_child, child, has_child, no_structure, free, holds, looked_at}
 use Rattle.tables.specs.Settle.{meets, apart, clear, open_bit, open_at, keep, settle}
 use Rattle.tables.specs.ZeroRecord.{zero_to, zero_blanks}
-use Rattle.tables.specs.Outcomes.{answered}
-use Rattle.tables.specs.declared.Outcome.{Outcome}
+use Rattle.tables.specs.Outcomes.{answered, Outcome}
 use Rattle.sound.specs.Clauses.{when, has, is_nowhere, long, s1, s2_root, s2_other, s2, blank_region, s3_regions, s3_first, s3, rooted, s4_area, s4_absent, s4, s5_slot, s5, apart_e, s6, held, covered, s7_root, s7_given, grants, s7_inside, s7_cover, lends, undivided, s7_whole, s7, equals, s8_backed, s8_apart, s8, s9, s10_names, s10_once, s10, full, within, s11_within, contains_both, one_grant, same_rights, s11_equal, s11, clause_at, sound}
 use Rattle.shapes.specs.Pieces.{fits, grown, widest, pieces_in, pieces}
 use Rattle.sound.specs.Limit.{entry_pieces, region_pieces, loaded_pieces}
 use Rattle.sound.specs.Holders.{receiver, given_by, heir, deepest, trail, holders_of, sum_over, looks_of, in_memory, holders_outcome, holders_bytes}
 use Rattle.rules.specs.Ran.{outcome_of}
 use Rattle.rules.specs.Pack.{usable, rename, move_to, pack_slot, packed}
-use Rattle.rules.specs.Rules.{Result, check, need, own_or_child, parent_or_child, free_entry, create, delete, prepare, vacant, collect, give, returned, take, cut, merge, elsewhere, load, unload, region_word, read_region, find, switch, ungive, branch, clear_out, pack, no_rights, uses, unused, region_call, known, perform, serve, serve_read, call_on, boot_on, words_after}
+use Rattle.rules.specs.Rules.{Effect, check, need, own_or_child, parent_or_child, free_entry, create, delete, prepare, vacant, collect, give, returned, take, cut, merge, elsewhere, load, unload, region_word, read_region, find, switch, ungive, branch, clear_out, pack, no_rights, uses, unused, region_call, known, perform, serve, serve_read, call_on, boot_on, words_after}
 
 -- ── a case: what is computed, and what 01 says ──
 abbrev pub Case : Type 0
@@ -41,7 +40,7 @@ abbrev pub told : Outcome → List ℕ
 told o = let n = answered o in n.refusal ∷ n.first ∷ n.second ∷ []
 
 -- .. that of a rule
-abbrev pub shown : Result → List ℕ
+abbrev pub shown : Effect → List ℕ
 shown r = told (outcome_of r)
 
 -- the call word with these fields: service, P, S, T, L; no rights

@@ -1,16 +1,16 @@
 -- The pass that decides S1 to S5 and compares the sheet: what it knows of the slots that it has added up, and of the pairs that it has compared.
-use Rattle.std.specs.Prelude.{◌≡◌, Bool, true, List, ℕ}
+use Rattle.std.specs.Prelude.{◌≡◌, Bool, true, List, ℕ, Option, is_some, IfSome}
 use Rattle.loops.specs.Loops.{all}
 use Rattle.tables.specs.View.{view}
 use Rattle.sound.specs.Whole.{Right}
 use Rattle.summing.specs.Sums.{Adding}
 use Rattle.sheetrules.specs.Bytes.{pair_matches}
-use Rattle.comparing.specs.declared.Checked.{Checked}
+use Rattle.summing.specs.declared.sums.Sums.{Sums}
 
 -- The test is told; where it holds, the slots of p from i on are gathered.
-pub record SlotsChecked (l : List ℕ) (p i : ℕ) (test : Bool) (x : Checked) : Type 0 where
-  pub says : x.sound ≡ test
-  pub sums : x.sound ≡ true → Adding (view l) p i x.sums
+pub record SlotsChecked (l : List ℕ) (p i : ℕ) (test : Bool) (x : Option Sums) : Type 0 where
+  pub says : is_some x ≡ test
+  pub sums : IfSome x (Adding (view l) p i)
 
 -- Of a table that is right, s says whether the pairs below n are its own.
 pub record SameTo (b l : List ℕ) (n : ℕ) (s : Bool) : Type 0 where

@@ -21,48 +21,31 @@ use words::{Partition, Slot};
 // S1 to S5 decided once more as `decide` does it, and the sheet compared in the same pass: each slot that is found as S5 wants it is added up at once.
 // What is compared counts only if the table is sound, which is decided after it.
 
-// What a walk over slots gathered, and whether all were as S5 wants them; where one was not, the walk ended there.
-#[derive(Clone, Copy)]
-pub struct Checked {
-    pub sound: bool,
-    pub sums: Sums,
-}
-
-// S5 of slot i - 1, whose structure is present, and the slot joins those from i on.
-fn check_slot(t: &[u64; 641], p: Partition, i: u32, x: Sums) -> Checked
-    requires { (p.0 < 16) × (0 < i) × HasStructure t.now p.0 ((i - 1) / 8) × Adding (view t.now) p.0 i x }
-    ensures { SlotsChecked t.now p.0 (i - 1) (s5_slot t.now (view t.now).k p.0 (i - 1)) result }
+// What a walk over slots gathered, if all were as S5 wants them: here S5 of slot s, whose structure is present, and the slot joins those above it.
+fn check_slot(t: &[u64; 641], p: Partition, s: Slot, x: Sums) -> Option<Sums>
+    requires { (p.0 < 16) × HasStructure t.now p.0 (s.0 / 8) × Adding (view t.now) p.0 (s.0 + 1) x }
+    ensures { SlotsChecked t.now p.0 s.0 (s5_slot t.now (view t.now).k p.0 s.0) result }
 {
-    if !records::slot_sound(t, p, Slot(i - 1)) {
-        return Checked {
-            sound: false,
-            sums: x,
-        };
+    if !records::slot_sound(t, p, s) {
+        return None;
     }
-    let sums = summing::sums::add_slot(t, p, i, x);
-    Checked { sound: true, sums }
+    Some(summing::sums::add_slot(t, p, s, x))
 }
 
 // .. of the eight of structure j, which is present
-fn check_eight(t: &[u64; 641], p: Partition, j: u32, x: Sums) -> Checked
+fn check_eight(t: &[u64; 641], p: Partition, j: u32, x: Sums) -> Option<Sums>
     requires { (p.0 < 16) × (j < 4) × HasStructure t.now p.0 j × Adding (view t.now) p.0 (8 * j + 8) x }
     ensures { SlotsChecked t.now p.0 (8 * j) (slots_test t.now (view t.now).k p.0 j) result }
 {
     let mut sums = x;
-    let mut i = 8 * j + 8;
-    while i > 8 * j {
-        let y = check_slot(t, p, i, sums);
-        if !y.sound {
-            return y;
-        }
-        sums = y.sums;
-        i -= 1;
+    for i in (8 * j..8 * j + 8).rev() {
+        sums = check_slot(t, p, Slot(i), sums)?;
     }
-    Checked { sound: true, sums }
+    Some(sums)
 }
 
 // .. of structure j; the slots of an absent one are zero words
-fn check_structure(t: &[u64; 641], p: Partition, j: u32, x: Sums) -> Checked
+fn check_structure(t: &[u64; 641], p: Partition, j: u32, x: Sums) -> Option<Sums>
     requires { (p.0 < 16) × (j < 4) × Adding (view t.now) p.0 (8 * j + 8) x }
     ensures { SlotsChecked t.now p.0 (8 * j) (slots_test t.now (view t.now).k p.0 j) result }
 {
@@ -71,21 +54,17 @@ fn check_structure(t: &[u64; 641], p: Partition, j: u32, x: Sums) -> Checked
         return check_eight(t, p, j, x);
     }
     if !zeros::slot_words(t, p, j) {
-        return Checked {
-            sound: false,
-            sums: x,
-        };
+        return None;
     }
-    let sums = Sums {
+    Some(Sums {
         slots: 256 * x.slots,
         held: x.held,
         opened: x.opened,
-    };
-    Checked { sound: true, sums }
+    })
 }
 
 // .. of all 32
-fn check_slots(t: &[u64; 641], p: Partition) -> Checked
+fn check_slots(t: &[u64; 641], p: Partition) -> Option<Sums>
     requires { p.0 < 16 }
     ensures { SlotsChecked t.now p.0 0 (s5 t.now (view t.now).k p.0) result }
 {
@@ -94,16 +73,10 @@ fn check_slots(t: &[u64; 641], p: Partition) -> Checked
         held: 0,
         opened: 0,
     };
-    let mut j = 4u32;
-    while j > 0 {
-        let y = check_structure(t, p, j - 1, sums);
-        if !y.sound {
-            return y;
-        }
-        sums = y.sums;
-        j -= 1;
+    for j in (0..4).rev() {
+        sums = check_structure(t, p, j, sums)?;
     }
-    Checked { sound: true, sums }
+    Some(sums)
 }
 
 // These are the two words of p in the sheet.
@@ -152,11 +125,10 @@ fn compare_record(
     if !zeros::blank_words(t, p) {
         return false;
     }
-    let x = check_slots(t, p);
-    if !x.sound {
+    let Some(x) = check_slots(t, p) else {
         return false;
-    }
-    let pair = pairs::words_from(t, p, children, x.sums);
+    };
+    let pair = pairs::words_from(t, p, children, x);
     note_pair(sheet, p, pair.masks, pair.lines, same);
     true
 }
@@ -193,12 +165,10 @@ fn compare_each(t: &[u64; 641], top: u32, masks: &[u32; 16], sheet: &[u8], same:
     requires { Top t.now top × (0 < top) × ChildrenTo (view t.now).k 16 masks.now × (length sheet.now ≡ 256) × SameTo sheet.now t.now 0 same.old }
     ensures { ComparedTo sheet.now t.now 16 (all 16 (shape_at t.now)) result same.new }
 {
-    let mut p = 0u32;
-    while p < 16 {
+    for p in 0..16 {
         if !compare_partition(t, top, Partition(p), masks, sheet, same) {
             return false;
         }
-        p += 1;
     }
     true
 }

@@ -33,12 +33,10 @@ pub fn given_each(t: &[u64; 641], p: Partition) -> bool
     ensures { result ≡ s7_given (view t.now).k p.0 && s7_whole (view t.now) p.0 }
 {
     let used = used_slots(t, p);
-    let mut i = 0u32;
-    while i < used {
+    for i in 0..used {
         if !given_slot(t, p, Slot(i)) {
             return false;
         }
-        i += 1;
     }
     true
 }

@@ -12,7 +12,7 @@ ghost use Rattle.covering.specs.Cover.{TiledFor, covers_for};
 pub mod given;
 
 use decide::tiles::{covers_whole, tile_lines, tile_slot, tiles_whole};
-use ordering::order::slot_at;
+use ordering::order::{Order, slot_at};
 use tables::read;
 use words::{Partition, Slot};
 
@@ -51,17 +51,15 @@ fn tiles_grants(
     ensures { result ≡ covers_for ranked (view t.now) p.0 }
 {
     let mut i = 0u32;
-    let mut j = 0u32;
-    while j < m {
+    for j in 0..m {
         let s = slot_at(q, order, j);
         let g = read::entry(t, q, s);
-        if g.given.0 == p.0 {
+        if g.given == p {
             i = tile_for(ranked, t, p, order, n, i, q, s);
             if i > n {
                 return false;
             }
         }
-        j += 1;
     }
     i == n
 }
@@ -78,21 +76,15 @@ fn tiles_memory(ranked: bool, t: &[u64; 641], p: Partition, order: &[u8; 512], n
 }
 
 // S7 at p, which is present, but for what it says of given and whole entries; ranked: S11 too, and the open bits of what p was given
-pub fn covers(
-    ranked: bool,
-    t: &[u64; 641],
-    p: Partition,
-    order: &[u8; 512],
-    counts: &[u32; 16],
-) -> bool
-    requires { (p.0 < 16) × (present (view t.now).k p.0 ≡ true) × Shaped t.now × Orders (view t.now).k order.now counts.now }
+pub fn covers(ranked: bool, t: &[u64; 641], p: Partition, order: &Order) -> bool
+    requires { (p.0 < 16) × (present (view t.now).k p.0 ≡ true) × Shaped t.now × Orders (view t.now).k order.now.slots order.now.counts }
     ensures { result ≡ covers_for ranked (view t.now) p.0 }
 {
-    let n = counts[p.0 as usize];
+    let n = order.counts[p.0 as usize];
     if p.0 == 0 {
-        return tiles_memory(ranked, t, p, order, n);
+        return tiles_memory(ranked, t, p, &order.slots, n);
     }
     let h = read::header(t, p);
-    let m = counts[h.parent.0 as usize];
-    tiles_grants(ranked, t, p, h.parent, order, n, m)
+    let m = order.counts[h.parent.0 as usize];
+    tiles_grants(ranked, t, p, h.parent, &order.slots, n, m)
 }

@@ -20,13 +20,13 @@ fn lends(g: SlotFields, p: Partition, f: SlotFields) -> bool
     if !g.present {
         return false;
     }
-    if g.given.0 != p.0 {
+    if g.given != p {
         return false;
     }
-    if g.start.0 != f.start.0 {
+    if g.start != f.start {
         return false;
     }
-    g.end.0 == f.end.0
+    g.end == f.end
 }
 
 // q has such an entry
@@ -35,13 +35,11 @@ fn has_lent(t: &[u64; 641], q: Partition, p: Partition, f: SlotFields) -> bool
     ensures { result ≡ any 32 (λ i. has (lends p.0 (entry_of f)) ((view t.now).k.slot q.0 i)) }
 {
     let used = used_slots(t, q);
-    let mut i = 0u32;
-    while i < used {
+    for i in 0..used {
         let g = read::entry(t, q, Slot(i));
         if lends(g, p, f) {
             return true;
         }
-        i += 1;
     }
     false
 }
@@ -118,12 +116,10 @@ pub fn full_each(t: &[u64; 641], p: Partition) -> bool
     ensures { result ≡ all 32 (full_slot (view t.now).k p.0) }
 {
     let used = used_slots(t, p);
-    let mut i = 0u32;
-    while i < used {
+    for i in 0..used {
         if !full_slot(t, p, Slot(i)) {
             return false;
         }
-        i += 1;
     }
     true
 }

@@ -15,6 +15,7 @@ pub mod entries;
 pub mod tiles;
 mod walk;
 
+use ordering::order::Order;
 use shapes::Board;
 use words::Partition;
 
@@ -37,26 +38,24 @@ fn shapes_sound(t: &[u64; 641], top: u32) -> bool
     requires { Top t.now top × (0 < top) }
     ensures { result ≡ all 16 (shape_at t.now) }
 {
-    let mut p = 0u32;
-    while p < top {
+    for p in 0..top {
         if !shape_sound(t, Partition(p)) {
             return false;
         }
-        p += 1;
     }
     true
 }
 
 // The walk has left no entry of p over; the root was given nothing.
-fn none_left(p: Partition, counts: &[u32; 16], next: &[u32; 16]) -> bool
-    requires { (p.0 < 16) × (length counts.now ≡ 16) × (length next.now ≡ 16) }
-    ensures { result ≡ none_left counts.now next.now p.0 }
+fn none_left(p: Partition, order: &Order, next: &[u32; 16]) -> bool
+    requires { (p.0 < 16) × (length next.now ≡ 16) }
+    ensures { result ≡ none_left order.now.counts next.now p.0 }
 {
     if p.0 == 0 {
         return true;
     }
     let k = p.0 as usize;
-    next[k] == counts[k]
+    next[k] == order.counts[k]
 }
 
 // what the walk leaves to tell of p: that, and S10
@@ -64,56 +63,47 @@ fn partition_sound(
     board: Board,
     t: &[u64; 641],
     p: Partition,
-    counts: &[u32; 16],
+    order: &Order,
     next: &[u32; 16],
 ) -> bool
-    requires { (p.0 < 16) × Ended t.now counts.now next.now }
+    requires { (p.0 < 16) × Ended t.now order.now.counts next.now }
     ensures { result ≡ left_where board (view t.now) p.0 }
 {
     if !searching::is_present(t, p) {
         return true;
     }
-    if !none_left(p, counts, next) {
+    if !none_left(p, order, next) {
         return false;
     }
     loaded::opening::regions_right(board, t, p)
 }
 
 // .. of each
-fn rest_sound(board: Board, t: &[u64; 641], top: u32, counts: &[u32; 16], next: &[u32; 16]) -> bool
-    requires { Top t.now top × Ended t.now counts.now next.now }
+fn rest_sound(board: Board, t: &[u64; 641], top: u32, order: &Order, next: &[u32; 16]) -> bool
+    requires { Top t.now top × Ended t.now order.now.counts next.now }
     ensures { result ≡ all 16 (left_where board (view t.now)) }
 {
-    let mut p = 0u32;
-    while p < top {
-        if !partition_sound(board, t, Partition(p), counts, next) {
+    for p in 0..top {
+        if !partition_sound(board, t, Partition(p), order, next) {
             return false;
         }
-        p += 1;
     }
     true
 }
 
 // S7 and S9 to S11
-fn partitions_sound(
-    board: Board,
-    t: &[u64; 641],
-    top: u32,
-    order: &[u8; 512],
-    counts: &[u32; 16],
-    mark: &[u32; 16],
-) -> bool
-    requires { Top t.now top × CanDecide t.now order.now counts.now mark.now }
+fn partitions_sound(board: Board, t: &[u64; 641], top: u32, order: &Order, mark: &[u32; 16]) -> bool
+    requires { Top t.now top × CanDecide t.now order.now.slots order.now.counts mark.now }
     ensures { result ≡ all 16 (local_where board (view t.now) mark.now) }
 {
-    if !tiles::covers_whole(t, Partition(0), order, counts[0]) {
+    if !tiles::covers_whole(t, Partition(0), &order.slots, order.counts[0]) {
         return false;
     }
     let mut next = [0u32; 16];
-    if !walk::walk(t, top, order, counts, mark, &mut next) {
+    if !walk::walk(t, top, order, mark, &mut next) {
         return false;
     }
-    rest_sound(board, t, top, counts, &next)
+    rest_sound(board, t, top, order, &next)
 }
 
 // S1 to S5. Who has decided them in a pass of its own, and says so, spares this one.
@@ -131,43 +121,30 @@ fn is_formed(t: &[u64; 641], top: u32, told: bool) -> bool
 }
 
 // Exactly the sound tables pass. Of such a table the entries are left in order.
-fn order_told(
-    board: Board,
-    t: &[u64; 641],
-    top: u32,
-    told: bool,
-    order: &mut [u8; 512],
-    counts: &mut [u32; 16],
-) -> bool
-    requires { Top t.now top × (told ≡ true → formed t.now ≡ true) × (length order.old ≡ 512) × (length counts.old ≡ 16) }
-    ensures { Decided board t.now result order.new counts.new }
+fn order_told(board: Board, t: &[u64; 641], top: u32, told: bool, order: &mut Order) -> bool
+    requires { Top t.now top × (told ≡ true → formed t.now ≡ true) }
+    ensures { Decided board t.now result order.new.slots order.new.counts }
 {
     tables::sized(t);
     if !is_formed(t, top, told) {
         return false;
     }
-    if !ordering::arrange::arrange(t, top, order, counts) {
+    if !order.arrange(t, top) {
         return false;
     }
     let mut mark = [0u32; 16];
     if !marking::mark_all(t, top, &mut mark) {
         return false;
     }
-    partitions_sound(board, t, top, order, counts, &mark)
+    partitions_sound(board, t, top, order, &mark)
 }
 
 // .. for who lists its runs
-pub fn is_ordered(
-    board: Board,
-    t: &[u64; 641],
-    top: u32,
-    order: &mut [u8; 512],
-    counts: &mut [u32; 16],
-) -> bool
-    requires { Top t.now top × (length order.old ≡ 512) × (length counts.old ≡ 16) }
-    ensures { Decided board t.now result order.new counts.new }
+pub fn is_ordered(board: Board, t: &[u64; 641], top: u32, order: &mut Order) -> bool
+    requires { Top t.now top }
+    ensures { Decided board t.now result order.new.slots order.new.counts }
 {
-    order_told(board, t, top, false, order, counts)
+    order_told(board, t, top, false, order)
 }
 
 // Exactly the sound tables pass.
@@ -175,9 +152,8 @@ pub fn is_sound(board: Board, t: &[u64; 641], top: u32) -> bool
     requires { Top t.now top }
     ensures { result ≡ sound board t.now }
 {
-    let mut order = [0u8; 512];
-    let mut counts = [0u32; 16];
-    is_ordered(board, t, top, &mut order, &mut counts)
+    let mut order = Order::none();
+    is_ordered(board, t, top, &mut order)
 }
 
 // .. of those of which S1 to S5 are decided
@@ -185,7 +161,6 @@ pub fn is_sound_formed(board: Board, t: &[u64; 641], top: u32) -> bool
     requires { Top t.now top × (formed t.now ≡ true) }
     ensures { result ≡ sound board t.now }
 {
-    let mut order = [0u8; 512];
-    let mut counts = [0u32; 16];
-    order_told(board, t, top, true, &mut order, &mut counts)
+    let mut order = Order::none();
+    order_told(board, t, top, true, &mut order)
 }

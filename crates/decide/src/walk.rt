@@ -7,7 +7,7 @@ ghost use Rattle.decide.specs.Walk.{WalkedTo, CanStep, WalkSays};
 
 use crate::entries::entry_right;
 use crate::tiles::tile_slot;
-use ordering::order::slot_at;
+use ordering::order::{Order, slot_at};
 use tables::read;
 use words::Partition;
 
@@ -18,15 +18,14 @@ fn walk_entry(
     t: &[u64; 641],
     q: Partition,
     j: u32,
-    order: &[u8; 512],
-    counts: &[u32; 16],
+    order: &Order,
     mark: &[u32; 16],
     next: &mut [u32; 16],
 ) -> bool
-    requires { CanStep t.now order.now counts.now mark.now q.0 j next.old }
-    ensures { WalkSays t.now order.now counts.now mark.now q.0 (j + 1) result next.new }
+    requires { CanStep t.now order.now.slots order.now.counts mark.now q.0 j next.old }
+    ensures { WalkSays t.now order.now.slots order.now.counts mark.now q.0 (j + 1) result next.new }
 {
-    let i = slot_at(q, order, j);
+    let i = slot_at(q, &order.slots, j);
     let g = read::entry(t, q, i);
     if !entry_right(t, q, i, g, mark) {
         return false;
@@ -35,8 +34,8 @@ fn walk_entry(
         return true;
     }
     let c = g.given.0 as usize;
-    let n = counts[c];
-    let x = tile_slot(t, g.given, order, n, next[c], q, i);
+    let n = order.counts[c];
+    let x = tile_slot(t, g.given, &order.slots, n, next[c], q, i);
     if x > n {
         return false;
     }
@@ -48,21 +47,18 @@ fn walk_entry(
 fn walk_entries(
     t: &[u64; 641],
     q: Partition,
-    order: &[u8; 512],
-    counts: &[u32; 16],
+    order: &Order,
     mark: &[u32; 16],
     next: &mut [u32; 16],
 ) -> bool
-    requires { CanDecide t.now order.now counts.now mark.now × WalkedTo t.now order.now counts.now mark.now q.0 0 next.old × (q.0 < 16) × (present (view t.now).k q.0 ≡ true) }
-    ensures { WalkSays t.now order.now counts.now mark.now (q.0 + 1) 0 result next.new }
+    requires { CanDecide t.now order.now.slots order.now.counts mark.now × WalkedTo t.now order.now.slots order.now.counts mark.now q.0 0 next.old × (q.0 < 16) × (present (view t.now).k q.0 ≡ true) }
+    ensures { WalkSays t.now order.now.slots order.now.counts mark.now (q.0 + 1) 0 result next.new }
 {
-    let m = counts[q.0 as usize];
-    let mut j = 0u32;
-    while j < m {
-        if !walk_entry(t, q, j, order, counts, mark, next) {
+    let m = order.counts[q.0 as usize];
+    for j in 0..m {
+        if !walk_entry(t, q, j, order, mark, next) {
             return false;
         }
-        j += 1;
     }
     true
 }
@@ -71,38 +67,28 @@ fn walk_entries(
 fn walk_partition(
     t: &[u64; 641],
     q: Partition,
-    order: &[u8; 512],
-    counts: &[u32; 16],
+    order: &Order,
     mark: &[u32; 16],
     next: &mut [u32; 16],
 ) -> bool
-    requires { CanDecide t.now order.now counts.now mark.now × WalkedTo t.now order.now counts.now mark.now q.0 0 next.old × (q.0 < 16) }
-    ensures { WalkSays t.now order.now counts.now mark.now (q.0 + 1) 0 result next.new }
+    requires { CanDecide t.now order.now.slots order.now.counts mark.now × WalkedTo t.now order.now.slots order.now.counts mark.now q.0 0 next.old × (q.0 < 16) }
+    ensures { WalkSays t.now order.now.slots order.now.counts mark.now (q.0 + 1) 0 result next.new }
 {
     if !searching::is_present(t, q) {
         return true;
     }
-    walk_entries(t, q, order, counts, mark, next)
+    walk_entries(t, q, order, mark, next)
 }
 
 // .. each partition
-pub fn walk(
-    t: &[u64; 641],
-    top: u32,
-    order: &[u8; 512],
-    counts: &[u32; 16],
-    mark: &[u32; 16],
-    next: &mut [u32; 16],
-) -> bool
-    requires { Top t.now top × CanDecide t.now order.now counts.now mark.now × WalkedTo t.now order.now counts.now mark.now 0 0 next.old }
-    ensures { WalkSays t.now order.now counts.now mark.now 16 0 result next.new }
+pub fn walk(t: &[u64; 641], top: u32, order: &Order, mark: &[u32; 16], next: &mut [u32; 16]) -> bool
+    requires { Top t.now top × CanDecide t.now order.now.slots order.now.counts mark.now × WalkedTo t.now order.now.slots order.now.counts mark.now 0 0 next.old }
+    ensures { WalkSays t.now order.now.slots order.now.counts mark.now 16 0 result next.new }
 {
-    let mut q = 0u32;
-    while q < top {
-        if !walk_partition(t, Partition(q), order, counts, mark, next) {
+    for q in 0..top {
+        if !walk_partition(t, Partition(q), order, mark, next) {
             return false;
         }
-        q += 1;
     }
     true
 }

@@ -7,6 +7,9 @@ use Rattle.std.specs.Prelude.{◌≡◌, true, cond, List, [], ◌∷◌, ◌↔
 use Rattle.loops.specs.Loops.{count}
 use Rattle.words.specs.Kind.{RoundTrips, fields_in}
 use Rattle.words.specs.Words.{first, header, structure, regions, slot, call, boot}
+use Rattle.words.specs.declared.Refusal.{Refusal}
+use Rattle.words.specs.declared.Refusal.TheVariants.{NotSound, WrongLine, ShortList}
+use Rattle.words.specs.Refusals.{number_of}
 use Rattle.shapes.specs.declared.Board.{Board}
 use Rattle.tables.specs.State.{Opt, none, some, Entry, Table}
 use Rattle.tables.specs.View.{view}
@@ -52,16 +55,16 @@ Accepted r = refusal_in r ≡ 0
 -- Any table and any call word, damaged or invented, gets an answer. Each entry point refuses bad input itself with the number that document 01 gives, and
 -- a refusal changes no word of any lent buffer.
 
--- A ladder (isolation/specs/Ladder) is a row of document 01: conditions, each with the number of the refusal that is due where it fails, then the effect.
+-- A ladder (isolation/specs/Ladder) is a row of document 01: conditions, each with the refusal that is due where it fails, then the effect.
 -- Refusal n applies: a condition of number n fails, whether or not others fail too. A condition that speaks of an entry, or of a free number, is asked
 -- only where there is one.
 pub data Applies : Ladder → ℕ → Type 1 where
-  fails : {n : ℕ} {P : Type 0} {c : Ladder} → (P → ⊥) → Applies (must n P c) n
-  later : {n m : ℕ} {P : Type 0} {c : Ladder} → Applies c m → Applies (must n P c) m
-  missing : {A : Type 0} {n : ℕ} {o : Opt A} {c : A → Ladder} → o ≡ none → Applies (there n o c) n
-  of_entry : {A : Type 0} {n m : ℕ} {o : Opt A} {c : A → Ladder} (a : A) → o ≡ some a → Applies (c a) m → Applies (there n o c) m
-  no_lowest : {n k : ℕ} {P : ℕ → Type 0} {c : ℕ → Ladder} → ((i : ℕ) → i < k → P i → ⊥) → Applies (least n k P c) n
-  of_lowest : {n m k : ℕ} {P : ℕ → Type 0} {c : ℕ → Ladder} (i : ℕ) → Least k P i → Applies (c i) m → Applies (least n k P c) m
+  fails : {why : Refusal} {P : Type 0} {c : Ladder} → (P → ⊥) → Applies (must why P c) (number_of why)
+  later : {n : ℕ} {why : Refusal} {P : Type 0} {c : Ladder} → Applies c n → Applies (must why P c) n
+  missing : {A : Type 0} {why : Refusal} {o : Opt A} {c : A → Ladder} → o ≡ none → Applies (there why o c) (number_of why)
+  of_entry : {A : Type 0} {n : ℕ} {why : Refusal} {o : Opt A} {c : A → Ladder} (a : A) → o ≡ some a → Applies (c a) n → Applies (there why o c) n
+  no_lowest : {k : ℕ} {why : Refusal} {P : ℕ → Type 0} {c : ℕ → Ladder} → ((i : ℕ) → i < k → P i → ⊥) → Applies (least why k P c) (number_of why)
+  of_lowest : {n k : ℕ} {why : Refusal} {P : ℕ → Type 0} {c : ℕ → Ladder} (i : ℕ) → Least k P i → Applies (c i) n → Applies (least why k P c) n
 
 -- where several apply, the lowest
 pub record LowestRefusal (l : Ladder) (n : ℕ) : Type 1 where
@@ -79,9 +82,9 @@ pub record Answered (l : Ladder) (r : ℕ) (Unchanged : Type 0) : Type 1 where
 -- the row of holders, of a line and a list of so many bytes: 1, 7, 17; what is written where none applies is said below, in demand 2
 abbrev pub holders_ladder : Board → List ℕ → ℕ → ℕ → Ladder
 holders_ladder board t m size =
-    must 1 (Sound board t)
-    (must 7 (((view t).k.base ≤ m) × (m < (view t).k.stop))
-    (must 17 (16 ≤ size)
+    must NotSound (Sound board t)
+    (must WrongLine (((view t).k.base ≤ m) × (m < (view t).k.stop))
+    (must ShortList (16 ≤ size)
     (finish (length (holders_of (view t).k m)) (looks_of (view t).k m) (view t))))
 
 -- Each longest run of lines with the same holders, in rising order, where Holder p l says that p holds line l: the runs go from base to end, the lines of
@@ -99,8 +102,8 @@ TableRuns t rs = LongestRuns (Holds (view t).k.slot) (view t).k.parent (view t).
 -- the row of runs, of a list of so many records: 1, 17
 abbrev pub runs_ladder : Board → List ℕ → ℕ → Ladder
 runs_ladder board t size =
-    must 1 (Sound board t)
-    (must 17 ((rs : List Run) → TableRuns t rs → length rs ≤ size)
+    must NotSound (Sound board t)
+    (must ShortList ((rs : List Run) → TableRuns t rs → length rs ≤ size)
     (finish (length (runs_of (view t).k)) 0 (view t)))
 
 pub record DemandOne (board : Board) : Type 1 where

@@ -1,11 +1,9 @@
 -- A SHEET BESIDE THE TABLE (02, request 108), over the two C functions that keep it. Statements only; Laws/SheetProof.antt has the proofs.
 -- BootSheetLent and CallSheetLent (facesheet/specs/Sheets) are the promises of ulavrepit_boot_sheet and ulavrepit_call_sheet; masks_of, lines_for and sheet_of
 -- (sheet/specs/Sheet) say what the sheet of a table is.
-use Rattle.std.specs.Prelude.{◌≡◌, List, [], ◌∷◌, ◌↔◌, ℕ, ◌+◌, ◌-◌, ◌*◌, ◌<◌, length, get_or}
+use Rattle.std.specs.Prelude.{◌≡◌, List, [], ◌∷◌, ◌↔◌, ℕ, ◌+◌, ◌-◌, ◌*◌, ◌<◌, length, get_or, Ok}
 use Rattle.words.specs.Kind.{RoundTrips, reading, fields_in}
 use Rattle.words.specs.Words.{masks, lines}
-use Rattle.words.specs.declared.masks_word.MasksRead.TheVariants.{Fields as MasksAre}
-use Rattle.words.specs.declared.lines_word.LinesRead.TheVariants.{Fields as LinesAre}
 use Rattle.shapes.specs.declared.Board.{Board}
 use Rattle.tables.specs.State.{none, Table}
 use Rattle.tables.specs.View.{view}
@@ -23,7 +21,7 @@ IsSheet b s = s ≡ sheet_bytes (sheet_of (view (handed b)))
 
 -- what C reads of partition p in the two words of a sheet: the fields, or, of an absent partition, zero words
 pub record SheetPair (t : Table) (p first second : ℕ) : Type 0 where
-  pub present : Present t.k p → (reading masks first ≡ MasksAre (masks_of t.k p)) × (reading lines second ≡ LinesAre (lines_for t p))
+  pub present : Present t.k p → (reading masks first ≡ Ok (masks_of t.k p)) × (reading lines second ≡ Ok (lines_for t p))
   pub absent : t.k.area p 0 ≡ none → (first ≡ 0) × (second ≡ 0)
 
 -- calls of the words ws, one after the other, each handed the table and the sheet that the one before it left, take these from b and s to d and u

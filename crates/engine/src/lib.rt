@@ -3,17 +3,16 @@
 ghost use Rattle.std.specs.Prelude.{◌≡◌, ◌≤◌, length};
 ghost use Rattle.engine.specs.Engine.{between, joined, mask_struck, memory_right, child_right, members_right, block_right, lines_right, strike_right, StartLent, GiveLent, TakeLent, StrikeLent};
 
-// The ledger as masks, one a line, bit p for partition p. It knows nothing of slots. Each operation answers 0, or 21 and writes nothing.
+// The ledger as masks, one a line, bit p for partition p. It knows nothing of slots. Each operation answers 0, or 21 and writes nothing:
+// a number, since `StartLent` and the theorems of `engines` speak of it, and C gets it word for word.
 
 // Writes 1 from mask a to b - 1: the root alone.
 fn reset(masks: &mut [u16], a: usize, b: usize)
     requires { (a ≤ b) × (b ≤ length masks.old) }
     ensures { masks.new ≡ between a b (λ m. 1) masks.old }
 {
-    let mut i = a;
-    while i < b {
-        masks[i] = 1;
-        i += 1;
+    for mask in masks[a..b].iter_mut() {
+        *mask = 1;
     }
 }
 
@@ -22,11 +21,8 @@ fn enter(masks: &mut [u16], a: usize, b: usize, w: u16)
     requires { (a ≤ b) × (b ≤ length masks.old) }
     ensures { masks.new ≡ between a b (joined w) masks.old }
 {
-    let mut i = a;
-    while i < b {
-        let m = masks[i];
-        masks[i] = m | w;
-        i += 1;
+    for mask in masks[a..b].iter_mut() {
+        *mask |= w;
     }
 }
 
@@ -35,11 +31,8 @@ fn clear(masks: &mut [u16], a: usize, b: usize, w: u16)
     requires { (a ≤ b) × (b ≤ length masks.old) }
     ensures { masks.new ≡ between a b (mask_struck w) masks.old }
 {
-    let mut i = a;
-    while i < b {
-        let m = masks[i];
-        masks[i] = m ^ (m & w);
-        i += 1;
+    for mask in masks[a..b].iter_mut() {
+        *mask &= !w;
     }
 }
 

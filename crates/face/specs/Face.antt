@@ -1,13 +1,11 @@
 -- What C hands over and gets back: bytes for words, and one number of 64 bits for an answer.
-use Rattle.std.specs.Prelude.{◌≡◌, cond, List, [], ℕ, ◌+◌, ◌*◌, ◌^◌, length, eqb}
+use Rattle.std.specs.Prelude.{◌≡◌, cond, List, [], ℕ, ◌+◌, ◌*◌, ◌^◌, length, eqb, Ok, Err}
 use Rattle.shapes.specs.declared.Board.{Board}
 use Rattle.tables.specs.Encode.{encode}
 use Rattle.memory.specs.Bytes.{words_of, bytes_of}
-use Rattle.tables.specs.Outcomes.{answered}
-use Rattle.tables.specs.declared.Outcome.{Outcome}
-use Rattle.tables.specs.declared.Outcome.TheVariants.{Done, Refused}
+use Rattle.tables.specs.Outcomes.{answered, Outcome}
 use Rattle.sound.specs.Holders.{holders_outcome, holders_bytes}
-use Rattle.rules.specs.Rules.{Result, done, refused, call_on}
+use Rattle.rules.specs.Rules.{Effect, done, refused, call_on}
 use Rattle.rules.specs.Ran.{outcome_of}
 use Rattle.rules.specs.Calls.{caller_of}
 
@@ -25,16 +23,16 @@ result_of caller o = result_packed (answered o).refusal caller (answered o).firs
 
 -- the second value is written only when done
 unfoldable pub second_after : ℕ → Outcome → ℕ
-second_after before (Done v w) = (answered (Done v w)).second
-second_after before (Refused n) = before
+second_after before (Ok (v, w)) = (answered (Ok (v, w))).second
+second_after before (Err n) = before
 
 -- the bytes after: those of the table after, or, refused, as they were
-unfoldable pub bytes_after : List ℕ → Result → List ℕ
+unfoldable pub bytes_after : List ℕ → Effect → List ℕ
 bytes_after b (done v w t) = bytes_of (encode t)
 bytes_after b (refused n) = b
 
 -- what a function that writes the table promises of its result and of every byte
-pub record Lent (caller : ℕ) (res : Result) (before : List ℕ) (r : ℕ) (after : List ℕ) : Type 0 where
+pub record Lent (caller : ℕ) (res : Effect) (before : List ℕ) (r : ℕ) (after : List ℕ) : Type 0 where
   pub result : r ≡ result_of caller (outcome_of res)
   pub bytes : after ≡ bytes_after before res
 

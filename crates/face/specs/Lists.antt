@@ -1,9 +1,8 @@
 -- The runs, and the pieces of an entry, for the board's firmware: the table comes as bytes, the outcome goes back as one number.
-use Rattle.std.specs.Prelude.{◌≡◌, cond, List, ℕ, ◌^◌, ◌<◌, eqb, length, replicate}
+use Rattle.std.specs.Prelude.{◌≡◌, cond, List, ℕ, ◌^◌, ◌<◌, eqb, length, replicate, Ok, Err}
+use Rattle.words.specs.Refusals.{number_of}
 use Rattle.shapes.specs.declared.Board.{Board}
 use Rattle.memory.specs.Bytes.{words_of}
-use Rattle.tables.specs.declared.Outcome.{Outcome}
-use Rattle.tables.specs.declared.Outcome.TheVariants.{Done, Refused}
 use Rattle.holders.specs.Listing.{pieces_outcome, pieces_words}
 use Rattle.runs.specs.declared.Run.{Run}
 use Rattle.runlist.specs.declared.Plan.{Plan}
@@ -11,10 +10,11 @@ use Rattle.runs.specs.Runs.{runs_outcome, runs_records}
 use Rattle.runlist.specs.Listing.{plan_of, marks_in}
 use Rattle.face.specs.declared.lists.Ready.{Ready}
 use Rattle.face.specs.Face.{handed, result_of}
+use Rattle.tables.specs.Outcomes.{Outcome}
 
 abbrev pub Small : Outcome → Type 0
-Small (Done first second) = first < 2 ^ 32
-Small (Refused why) = why < 2 ^ 8
+Small (Ok (first, second)) = first < 2 ^ 32
+Small (Err why) = number_of why < 2 ^ 8
 
 abbrev pub ready_from : Plan → Ready
 ready_from p = record { number = p.number; answer = result_of 0 p.outcome }

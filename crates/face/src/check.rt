@@ -4,7 +4,7 @@ ghost use Rattle.face.specs.Face.{result_of};
 
 use shapes::Board;
 use verdict::Verdict;
-use words::Partition;
+use words::{Partition, Refusal};
 
 // There is no caller here.
 fn verdict_word(v: Verdict) -> u64
@@ -16,7 +16,7 @@ fn verdict_word(v: Verdict) -> u64
         Verdict::Fails(clause, p) => {
             crate::packed(0, Partition(0), 16 * clause as u64 + p.0 as u64)
         }
-        Verdict::Length => crate::packed(1, Partition(0), 0),
+        Verdict::Length => crate::refused(Refusal::NotSound, Partition(0)),
     }
 }
 

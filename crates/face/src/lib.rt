@@ -1,6 +1,7 @@
 #![tactic(auto)]
 
 ghost use Rattle.std.specs.Prelude.{◌≡◌, ◌^◌, ◌<◌};
+ghost use Rattle.words.specs.Refusals.{number_of};
 ghost use Rattle.rules.specs.Rules.{boot_on};
 ghost use Rattle.face.specs.Face.{handed, result_packed, Lent, CallLent, ListLent};
 
@@ -10,7 +11,7 @@ pub mod lists;
 
 use shapes::Board;
 use tables::Outcome;
-use words::Partition;
+use words::{Partition, Refusal};
 
 // What C gets: bits 16 to 31 are zero.
 pub fn packed(refusal: u64, caller: Partition, first: u64) -> u64
@@ -20,21 +21,29 @@ pub fn packed(refusal: u64, caller: Partition, first: u64) -> u64
     refusal + (0x100 * caller.0 as u64 + 0x1_0000_0000 * first)
 }
 
+// .. of a refusal: there is no value.
+pub fn refused(why: Refusal, caller: Partition) -> u64
+    requires { caller.0 < 16 }
+    ensures { result ≡ result_packed (number_of why) caller.0 0 }
+{
+    packed(u64::from(why), caller, 0)
+}
+
 // Boot: `services::boot` on bytes.
 pub fn boot_bytes(table: &mut [u8], base: u64, end: u64) -> u64
     ensures { Lent 0 (boot_on (handed table.old) base end) table.old result table.new }
 {
     if table.len() != 5128 {
-        return packed(1, Partition(0), 0);
+        return refused(Refusal::NotSound, Partition(0));
     }
     let mut a = [0u64; 641];
     let outcome = services::boot_service::boot_table(&mut a, base, end);
     match outcome {
-        Outcome::Done(first, _) => {
+        Ok((first, _)) => {
             memory::store_root(&a, table);
             packed(0, Partition(0), first)
         }
-        Outcome::Refused(n) => packed(n, Partition(0), 0),
+        Err(why) => refused(why, Partition(0)),
     }
 }
 
@@ -43,7 +52,7 @@ pub fn call_bytes(board: Board, table: &mut [u8], word: u64, second: &mut u64) -
     ensures { CallLent board table.old word second.old result table.new second.new }
 {
     if table.len() != 5128 {
-        return packed(1, Partition(0), 0);
+        return refused(Refusal::NotSound, Partition(0));
     }
     let mut a = [0u64; 641];
     let top = memory::load(table, &mut a);
@@ -53,14 +62,14 @@ pub fn call_bytes(board: Board, table: &mut [u8], word: u64, second: &mut u64) -
     let changed = answer.changed;
     let outcome = answer.outcome;
     match outcome {
-        Outcome::Done(first, value) => {
+        Ok((first, value)) => {
             if !stands {
                 memory::store(&a, changed, table);
             }
             *second = value;
             packed(0, caller, first)
         }
-        Outcome::Refused(n) => packed(n, caller, 0),
+        Err(why) => refused(why, caller),
     }
 }
 
@@ -75,16 +84,16 @@ pub fn holders_bytes(
     ensures { ListLent board table.now line list.old second.old result list.new second.new }
 {
     if table.len() != 5128 {
-        return packed(1, Partition(0), 0);
+        return refused(Refusal::NotSound, Partition(0));
     }
     let mut a = [0u64; 641];
     let top = memory::load(table, &mut a);
     let outcome = holders::holders_table(board, &a, top, line, list);
     match outcome {
-        Outcome::Done(first, value) => {
+        Ok((first, value)) => {
             *second = value;
             packed(0, Partition(0), first)
         }
-        Outcome::Refused(n) => packed(n, Partition(0), 0),
+        Err(why) => refused(why, Partition(0)),
     }
 }

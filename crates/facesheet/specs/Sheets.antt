@@ -3,7 +3,7 @@ use Rattle.std.specs.Prelude.{◌≡◌, Bool, true, List, ℕ}
 use Rattle.shapes.specs.declared.Board.{Board}
 use Rattle.tables.specs.View.{view}
 use Rattle.sound.specs.Clauses.{sound}
-use Rattle.rules.specs.Rules.{Result}
+use Rattle.rules.specs.Rules.{Effect}
 use Rattle.rules.specs.Ran.{outcome_of}
 use Rattle.rules.specs.Calls.{caller_of}
 use Rattle.sheetrules.specs.Sheet.{matches, call_sheet_on, boot_sheet_on}
@@ -16,7 +16,7 @@ pub record SoundBeside (board : Board) (l b : List ℕ) (r s : Bool) : Type 0 wh
   pub same : r ≡ true → s ≡ matches (handed_sheet b) (view l)
 
 -- what a function that writes the table and the sheet promises of its result and of every byte of both
-pub record BothLent (caller : ℕ) (res : Result) (b s : List ℕ) (r : ℕ) (c s' : List ℕ) : Type 0 where
+pub record BothLent (caller : ℕ) (res : Effect) (b s : List ℕ) (r : ℕ) (c s' : List ℕ) : Type 0 where
   pub table : Lent caller res b r c
   pub sheet : s' ≡ sheet_bytes_after s res
 

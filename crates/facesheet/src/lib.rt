@@ -10,11 +10,11 @@ ghost use Rattle.sound.specs.Whole.{Right};
 ghost use Rattle.sheet.specs.Touched.{Named, sheet_kept};
 ghost use Rattle.facesheet.specs.Sheets.{SoundBeside, BootSheetLent, CallSheetLent};
 
-use face::packed;
+use face::{packed, refused};
 use shapes::Board;
 use sheet::calls::Whose;
 use tables::Outcome;
-use words::Partition;
+use words::{Partition, Refusal};
 
 // Boot and call with a sheet beside the table. The functions without one do the same with the table.
 
@@ -23,20 +23,20 @@ pub fn boot_sheet_bytes(table: &mut [u8], sheet: &mut [u8], base: u64, end: u64)
     ensures { BootSheetLent table.old sheet.old base end result table.new sheet.new }
 {
     if table.len() != 5128 {
-        return packed(1, Partition(0), 0);
+        return refused(Refusal::NotSound, Partition(0));
     }
     if sheet.len() != 256 {
-        return packed(20, Partition(0), 0);
+        return refused(Refusal::WrongSheet, Partition(0));
     }
     let mut a = [0u64; 641];
     let outcome = services::boot_service::boot_table(&mut a, base, end);
     match outcome {
-        Outcome::Done(first, _) => {
+        Ok((first, _)) => {
             memory::store_root(&a, table);
             sheet::write_sheet(&a, sheet);
             packed(0, Partition(0), first)
         }
-        Outcome::Refused(n) => packed(n, Partition(0), 0),
+        Err(why) => refused(why, Partition(0)),
     }
 }
 
@@ -85,17 +85,17 @@ pub fn call_sheet_bytes(
     ensures { CallSheetLent board table.old sheet.old word second.old result table.new sheet.new second.new }
 {
     if table.len() != 5128 {
-        return packed(1, Partition(0), 0);
+        return refused(Refusal::NotSound, Partition(0));
     }
     let mut a = [0u64; 641];
     let top = memory::load(table, &mut a);
     let mut same = true;
     if !is_sound_beside(board, &a, top, sheet, &mut same) {
-        return packed(1, Partition(0), 0);
+        return refused(Refusal::NotSound, Partition(0));
     }
     if !same {
         let first = tables::read::first(&a);
-        return packed(20, first.current, 0);
+        return refused(Refusal::WrongSheet, first.current);
     }
     let touched = sheet::calls::touched(&a, word);
     let answer = calls::serve_word(board, &mut a, word);
@@ -104,11 +104,11 @@ pub fn call_sheet_bytes(
     let changed = answer.changed;
     let outcome = answer.outcome;
     match outcome {
-        Outcome::Done(first, value) => {
+        Ok((first, value)) => {
             store_both(&a, stands, changed, touched, table, sheet);
             *second = value;
             packed(0, caller, first)
         }
-        Outcome::Refused(n) => packed(n, caller, 0),
+        Err(why) => refused(why, caller),
     }
 }

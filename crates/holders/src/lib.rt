@@ -12,8 +12,8 @@ pub mod pieces;
 
 use decide::is_sound;
 use shapes::Board;
-use tables::{Found, Outcome};
-use words::{Line, Partition};
+use tables::Outcome;
+use words::{Line, Partition, Refusal};
 
 // One step down: whom a partition gave its entry that holds the line (0 is nobody), and how many slot words the search looked at.
 #[derive(Clone, Copy)]
@@ -37,7 +37,7 @@ fn look(t: &[u64; 641], l: Line, p: Partition) -> Step
     let looked = searching::holding_slot(t, p, l);
     let count = looked.count;
     let found = looked.found;
-    let Found::At(i) = found else {
+    let Some(i) = found else {
         return Step {
             heir: Partition(0),
             count: count,
@@ -64,8 +64,7 @@ fn descend(t: &[u64; 641], l: Line) -> Descent
 {
     let mut p = Partition(0);
     let mut count = 0u32;
-    let mut left = 15u32;
-    while left > 0 {
+    for _ in 0..15u32 {
         let step = look(t, l, p);
         let sum = count + step.count;
         let heir = step.heir;
@@ -77,7 +76,6 @@ fn descend(t: &[u64; 641], l: Line) -> Descent
         }
         p = heir;
         count = sum;
-        left -= 1;
     }
     let last = searching::holding_slot(t, p, l);
     Descent {
@@ -96,7 +94,7 @@ fn write_holders(t: &[u64; 641], l: Line, list: &mut [u8]) -> Outcome
     let mut way = 0u64;
     searching::climb::climb(t, p, 15, &mut way);
     let n = searching::climb::write_way(way, list);
-    Outcome::Done(n as u64, d.count as u64)
+    Ok((n as u64, d.count as u64))
 }
 
 // Holders of a line of a table that stands in an array: `holders` without its length and its copy.
@@ -105,17 +103,17 @@ pub fn holders_table(board: Board, t: &[u64; 641], top: u32, line: u64, list: &m
     ensures { HoldersListed board t.now line list.old result list.new }
 {
     if !is_sound(board, t, top) {
-        return Outcome::Refused(1);
+        return Err(Refusal::NotSound);
     }
     let f = tables::read::first(t);
     if line < f.base.0 as u64 {
-        return Outcome::Refused(7);
+        return Err(Refusal::WrongLine);
     }
     if line >= f.end.0 as u64 {
-        return Outcome::Refused(7);
+        return Err(Refusal::WrongLine);
     }
     if list.len() < 16 {
-        return Outcome::Refused(17);
+        return Err(Refusal::ShortList);
     }
     write_holders(t, Line(line as u32), list)
 }
@@ -127,7 +125,7 @@ pub fn holders(board: Board, t: &[u64], line: u64, list: &mut [u8]) -> Outcome
     ensures { HoldersListed board t.now line list.old result list.new }
 {
     if t.len() != 641 {
-        return Outcome::Refused(1);
+        return Err(Refusal::NotSound);
     }
     let mut a = [0u64; 641];
     tables::copies::copy_in(t, &mut a);

@@ -8,7 +8,7 @@ use decide::is_sound;
 use shapes::Board;
 use shapes::pieces::{piece_count, write_pieces};
 use tables::Outcome;
-use words::{Partition, Slot};
+use words::{Partition, Refusal, Slot};
 
 // The pieces of the entry in slot s of p: counted first, since a refusal writes nothing.
 fn list_entry(board: Board, t: &[u64; 641], p: Partition, s: Slot, list: &mut [u64]) -> Outcome
@@ -17,14 +17,14 @@ fn list_entry(board: Board, t: &[u64; 641], p: Partition, s: Slot, list: &mut [u
 {
     let f = tables::read::entry(t, p, s);
     if !f.present {
-        return Outcome::Refused(4);
+        return Err(Refusal::NoEntry);
     }
     let count = piece_count(board, f.start.0, f.end.0);
     if list.len() < count as usize {
-        return Outcome::Refused(17);
+        return Err(Refusal::ShortList);
     }
     let n = write_pieces(board, f.start.0, f.end.0, list);
-    Outcome::Done(n as u64, 0)
+    Ok((n as u64, 0))
 }
 
 // The pieces of a table that stands in an array: `pieces` without its length and its copy.
@@ -40,13 +40,13 @@ pub fn pieces_table(
     ensures { PiecesListed board t.now partition slot list.old result list.new }
 {
     if !is_sound(board, t, top) {
-        return Outcome::Refused(1);
+        return Err(Refusal::NotSound);
     }
     if partition > 15 {
-        return Outcome::Refused(4);
+        return Err(Refusal::NoEntry);
     }
     if slot > 31 {
-        return Outcome::Refused(4);
+        return Err(Refusal::NoEntry);
     }
     list_entry(
         board,
@@ -64,7 +64,7 @@ pub fn pieces(board: Board, t: &[u64], partition: u64, slot: u64, list: &mut [u6
     ensures { PiecesListed board t.now partition slot list.old result list.new }
 {
     if t.len() != 641 {
-        return Outcome::Refused(1);
+        return Err(Refusal::NotSound);
     }
     let mut a = [0u64; 641];
     tables::copies::copy_in(t, &mut a);

@@ -19,7 +19,7 @@ use Rattle.sound.specs.Laws.Sound.{few_all}
 use Rattle.sound.specs.Whole.{Right, Few}
 use Rattle.sound.proofs.Laws.List.{sound_means}
 use Rattle.sound.proofs.Laws.Whole.{sound_right}
-use Rattle.rules.specs.Rules.{Result, done, refused, serve, call_on, boot_on, words_after}
+use Rattle.rules.specs.Rules.{Effect, done, refused, serve, call_on, boot_on, words_after}
 use Rattle.rules.specs.Laws.Ran.{check_done}
 use Rattle.rules.specs.Laws.Calls.{call_as}
 use Rattle.rules.specs.Laws.Each.{serve_done, done_each, perform_at}
@@ -40,6 +40,8 @@ use Rattle.isolation.proofs.Laws.Pack.{pack_right}
 use Rattle.isolation.proofs.Laws.Boot.{boot_right}
 use Rattle.isolation.proofs.Laws.Few.{create_few, delete_few, prepare_few, collect_few, give_few, take_few, cut_few, merge_few, load_few, unload_few, switch_few, clear_few, pack_few, boot_few}
 use Rattle.isolation.specs.Whole.{Reads, after_all}
+use Rattle.words.specs.declared.Refusal.{Refusal}
+use Rattle.words.specs.declared.Refusal.TheVariants.{NotSound, BadWord}
 
 -- ── one call ──
 -- each service keeps a table right
@@ -101,10 +103,10 @@ module _ (b : Board) (l : List ℕ) (w : ℕ) (small : Words l) where
   -- what is done was asked of a sound table, which the words are those of
   pub served : {v x : ℕ} {t' : Table} → call_on b l w ≡ done v x t' → Canon l × Right (view l) × (serve b (view l) (fields_in call w) ≡ done v x t')
   served z =
-      let (q, y) = check_done 1 (sound b l) (sym (call_as b l w) ∙ z) in
+      let (q, y) = check_done NotSound (sound b l) (sym (call_as b l w) ∙ z) in
       let s = (sound_means b l).0 q in
       let c = sound_canon small s in
-      (c, sound_right c s, (check_done 2 (zeroed call w) y).1)
+      (c, sound_right c s, (check_done BadWord (zeroed call w) y).1)
 
   pub call_right : {v x : ℕ} {t' : Table} → call_on b l w ≡ done v x t' → Right t'
   call_right z = let (_, h, y) = served z in serve_right b h (fields_in call w) y
@@ -112,7 +114,7 @@ module _ (b : Board) (l : List ℕ) (w : ℕ) (small : Words l) where
   pub call_good : {v x : ℕ} {t' : Table} → call_on b l w ≡ done v x t' → Good b (encode t')
   call_good z =
       let (_, h, y) = served z in
-      let s = (sound_means b l).0 (check_done 1 (sound b l) (sym (call_as b l w) ∙ z)).0 in
+      let s = (sound_means b l).0 (check_done NotSound (sound b l) (sym (call_as b l w) ∙ z)).0 in
       right_good b (serve_right b h (fields_in call w) y) (serve_few b h (few_all s) (fields_in call w) y)
 
   pub call_sound : {v x : ℕ} {t' : Table} → call_on b l w ≡ done v x t' → Sound b (encode t')
@@ -123,7 +125,7 @@ module _ (b : Board) (l : List ℕ) (w : ℕ) (small : Words l) where
   reads_same e z = let (c, h, y) = served z in ap encode (serve_same b h (fields_in call w) e y) ∙ c.same
 
 -- a refused call leaves the words as they were
-pub refused_same : (b : Board) (l : List ℕ) (w : ℕ) {n : ℕ} → call_on b l w ≡ refused n → words_after l (call_on b l w) ≡ l
+pub refused_same : (b : Board) (l : List ℕ) (w : ℕ) {why : Refusal} → call_on b l w ≡ refused why → words_after l (call_on b l w) ≡ l
 unfolding words_after
 refused_same b l w z = rw z refl
 
@@ -139,9 +141,9 @@ pub next_good : {b : Board} {l : List ℕ} → Good b l → (w : ℕ) → Good b
 unfolding words_after
 next_good {b} {l} g w = one (call_on b l w) refl
   where
-    one : (r : Result) → call_on b l w ≡ r → Good b (words_after l r)
+    one : (r : Effect) → call_on b l w ≡ r → Good b (words_after l r)
     one (done v x t') z = call_good b l w g.small z
-    one (refused n) z = g
+    one (refused why) z = g
 
 pub after_good : {b : Board} {l : List ℕ} → Good b l → (ws : List ℕ) → Good b (after_all b l ws)
 unfolding after_all

@@ -1,4 +1,4 @@
--- The ladders of refusals: of boot and of each service the conditions in order, each with the number of the refusal that is due where it fails, then
+-- The ladders of refusals: of boot and of each service the conditions in order, each with the refusal that is due where it fails, then
 -- what is done; and that of a call.
 use Rattle.std.specs.Prelude.{◌≡◌, ◌⊎◌, ℕ, ◌+◌, ◌/◌, ◌^◌, ◌<◌, ◌≤◌, ◌*◌, List, length, false, Bool, ◌||◌, true, cond, eqb}
 use Rattle.tables.specs.State.{none, some, Entry, Area, K, Table}
@@ -6,7 +6,8 @@ use Rattle.tables.specs.Lines.{Clear, In}
 use Rattle.sound.specs.Properties.{Child}
 use Rattle.isolation.specs.Ladder.{Ladder, must, there, finish, least}
 use Rattle.tables.specs.Settle.{settle}
-use Rattle.rules.specs.Rules.{boot_k, create_k, remove, prepare_k, collect_k, give_k, take_k, unloaded, cut_k, merge_k, region_word, branch, pack_k, pack_region, Uses, uses}
+use Rattle.rules.specs.declared.Uses.{Uses}
+use Rattle.rules.specs.Rules.{boot_k, create_k, remove, prepare_k, collect_k, give_k, take_k, unloaded, cut_k, merge_k, region_word, branch, pack_k, pack_region, uses}
 use Rattle.words.specs.declared.Rights.{Rights}
 use Rattle.sound.specs.Sound.{Sub, OneGrant, Sound}
 use Rattle.shapes.specs.declared.Board.{Board}
@@ -20,6 +21,7 @@ use Rattle.words.specs.Kind.{fields_in, Zeroed}
 use Rattle.words.specs.Words.{call}
 use Rattle.words.specs.declared.call_word.CallFields.{CallFields}
 use Rattle.tables.specs.View.{view}
+use Rattle.words.specs.declared.Refusal.TheVariants.{NotSound, BadWord, WrongPartition, NoEntry, NotOpen, Given, WrongLine, NoneFree, TooShort, MoreRights, Apart, TwoGrants, InPieces, InUse, WrongRegion, LentWhole, ManyPieces}
 
 -- ── what more than one service asks ──
 -- 3: p is the caller or a child of it
@@ -34,16 +36,16 @@ pub record FreeSlot (k : K) (p n : ℕ) : Type 0 where
 -- 4, 5, 6: slot s of the caller has an entry, which is open (said as 'shares no line with an area': by S9 the same) and not given
 abbrev pub free_ladder : K → ℕ → (Entry → Ladder) → Ladder
 free_ladder k s c =
-    there 4 (k.slot k.current s) λ e.
-    must 5 (Clear k.area e)
-    (must 6 (e.given ≡ 0)
+    there NoEntry (k.slot k.current s) λ e.
+    must NotOpen (Clear k.area e)
+    (must Given (e.given ≡ 0)
     (c e))
 
 -- ── boot: the root is there alone, runs, and holds base to end ──
 abbrev pub boot_ladder : List ℕ → ℕ → ℕ → Ladder
 boot_ladder l base end =
-    must 1 (length l ≡ 641)
-    (must 7 (((base < end) × (base < 2 ^ 27)) × (end < 2 ^ 27))
+    must NotSound (length l ≡ 641)
+    (must WrongLine (((base < end) × (base < 2 ^ 27)) × (end < 2 ^ 27))
     (finish 0 0 (settle (boot_k base end) (λ p r. none))))
 
 -- ── 1 create: the absent number n becomes a child of the caller, with the area of entry e in its slot s ──
@@ -54,26 +56,26 @@ Absent k n = (n ≡ 0 → ⊥) × (k.area n 0 ≡ none)
 abbrev pub create_ladder : Table → ℕ → Ladder
 create_ladder t s =
     free_ladder t.k s λ e.
-    least 8 16 (Absent t.k) λ n.
-    must 9 (e.start + 16 ≤ e.stop)
-    (must 18 (e.whole ≡ false)
+    least NoneFree 16 (Absent t.k) λ n.
+    must TooShort (e.start + 16 ≤ e.stop)
+    (must LentWhole (e.whole ≡ false)
     (finish n 0 (settle (create_k t.k n e) t.region)))
 
 -- ── 2 delete: the record of p, a child of the caller without children, is zero; what the caller gave it is given to nobody ──
 abbrev pub delete_ladder : Table → ℕ → Ladder
 delete_ladder t p =
-    must 3 (Child t.k t.k.current p)
-    (must 15 ((q : ℕ) → Child t.k p q → ⊥)
+    must WrongPartition (Child t.k t.k.current p)
+    (must InUse ((q : ℕ) → Child t.k p q → ⊥)
     (finish 0 0 (remove t p (λ q. eqb q p))))
 
 -- ── 3 prepare: structure j of p, which is the caller or its child, gets the area of entry e in slot s of the caller ──
 abbrev pub prepare_ladder : Table → ℕ → ℕ → Ladder
 prepare_ladder t p s =
-    must 3 (OwnOrChild t.k p)
+    must WrongPartition (OwnOrChild t.k p)
     (free_ladder t.k s λ e.
-    least 8 4 (λ j. t.k.area p (1 + j) ≡ none) λ j.
-    must 9 (e.start + 16 ≤ e.stop)
-    (must 18 (e.whole ≡ false)
+    least NoneFree 4 (λ j. t.k.area p (1 + j) ≡ none) λ j.
+    must TooShort (e.start + 16 ≤ e.stop)
+    (must LentWhole (e.whole ≡ false)
     (finish j 0 (settle (prepare_k t.k p j e) t.region))))
 
 -- ── 4 collect: structure j of p, which has no entry, is absent ──
@@ -83,19 +85,19 @@ Empty k p j = (i : ℕ) → i < 8 → k.slot p (8 * j + i) ≡ none
 
 abbrev pub collect_ladder : Table → ℕ → ℕ → Ladder
 collect_ladder t p j =
-    must 3 (OwnOrChild t.k p)
-    (must 4 ((j < 4) × ((a : Area) × (t.k.area p (1 + j) ≡ some a)))
-    (must 15 (Empty t.k p j × ((p ≡ 0) × (j ≡ 0) → ⊥))
+    must WrongPartition (OwnOrChild t.k p)
+    (must NoEntry ((j < 4) × ((a : Area) × (t.k.area p (1 + j) ≡ some a)))
+    (must InUse (Empty t.k p j × ((p ≡ 0) × (j ≡ 0) → ⊥))
     (finish 0 0 (settle (collect_k t.k p j) t.region))))
 
 -- ── 5 give: slot s of the caller is given to its child c, whose free slot n gets the range with rights r, whole if w is set ──
 abbrev pub give_ladder : Table → ℕ → ℕ → Rights → Bool → Ladder
 give_ladder t c s r w =
-    must 3 (Child t.k t.k.current c)
+    must WrongPartition (Child t.k t.k.current c)
     (free_ladder t.k s λ e.
-    least 8 32 (FreeSlot t.k c) λ n.
-    must 10 (Sub r e.rights)
-    (must 18 (e.whole ≡ false)
+    least NoneFree 32 (FreeSlot t.k c) λ n.
+    must MoreRights (Sub r e.rights)
+    (must LentWhole (e.whole ≡ false)
     (finish n 0 (settle (give_k t.k c s n r w e) t.region))))
 
 -- ── 6 take: slot s of the caller, given to a child, is given to nobody; slot i of the child, of exactly that range, is emptied ──
@@ -109,18 +111,18 @@ pub record Returned (k : K) (e : Entry) (i : ℕ) (f : Entry) : Type 0 where
 
 abbrev pub take_ladder : Table → ℕ → Ladder
 take_ladder t s =
-    there 4 (t.k.slot t.k.current s) λ e.
-    must 6 (e.given ≡ 0 → ⊥)
-    (least 14 32 (λ i. (f : Entry) × Returned t.k e i f) λ i.
+    there NoEntry (t.k.slot t.k.current s) λ e.
+    must Given (e.given ≡ 0 → ⊥)
+    (least InPieces 32 (λ i. (f : Entry) × Returned t.k e i f) λ i.
     finish 0 0 (settle (take_k t.k s i e) t.region))
 
 -- ── 7 cut: slot s of the caller ends at l, its free slot n gets the rest ──
 abbrev pub cut_ladder : Table → ℕ → ℕ → Ladder
 cut_ladder t s l =
     free_ladder t.k s λ e.
-    must 7 ((e.start < l) × (l < e.stop))
-    (least 8 32 (FreeSlot t.k t.k.current) λ n.
-    must 18 (e.whole ≡ false)
+    must WrongLine ((e.start < l) × (l < e.stop))
+    (least NoneFree 32 (FreeSlot t.k t.k.current) λ n.
+    must LentWhole (e.whole ≡ false)
     (finish n 0 (settle (cut_k t.k s n l e) (unloaded t.region t.k.current (λ i. eqb i s)))))
 
 -- ── 8 merge: slot s of the caller ends where its slot u ended, slot u is emptied ──
@@ -130,12 +132,12 @@ MayJoin k e f = (k.current ≡ 0 → ⊥) → OneGrant k k.current e f
 
 abbrev pub merge_ladder : Table → ℕ → ℕ → Ladder
 merge_ladder t s u =
-    there 4 (t.k.slot t.k.current s) λ e.
-    there 4 (t.k.slot t.k.current u) λ f.
-    must 5 (Clear t.k.area e × Clear t.k.area f)
-    (must 6 ((e.given ≡ 0) × (f.given ≡ 0))
-    (must 11 (e.stop ≡ f.start)
-    (must 12 (MayJoin t.k e f)
+    there NoEntry (t.k.slot t.k.current s) λ e.
+    there NoEntry (t.k.slot t.k.current u) λ f.
+    must NotOpen (Clear t.k.area e × Clear t.k.area f)
+    (must Given ((e.given ≡ 0) × (f.given ≡ 0))
+    (must Apart (e.stop ≡ f.start)
+    (must TwoGrants (MayJoin t.k e f)
     (finish 0 0 (settle (merge_k t.k s u e f) (unloaded t.region t.k.current (λ i. eqb i s || eqb i u)))))))
 
 -- ── 9 load: region r of p, which is the caller or its child, names its slot s ──
@@ -145,32 +147,32 @@ NoOtherRegion t p s r = (q : ℕ) → (q ≡ r → ⊥) → t.region p q ≡ som
 
 abbrev pub load_ladder : Board → Table → ℕ → ℕ → ℕ → Ladder
 load_ladder b t p s r =
-    must 3 (OwnOrChild t.k p)
-    (there 4 (t.k.slot p s) λ e.
-    must 5 (Clear t.k.area e)
-    (must 16 ((r < 8) × NoOtherRegion t p s r)
-    (must 19 (loaded_pieces b t.k.slot (upd t.region p r (some s)) p ≤ 8)
+    must WrongPartition (OwnOrChild t.k p)
+    (there NoEntry (t.k.slot p s) λ e.
+    must NotOpen (Clear t.k.area e)
+    (must WrongRegion ((r < 8) × NoOtherRegion t p s r)
+    (must ManyPieces (loaded_pieces b t.k.slot (upd t.region p r (some s)) p ≤ 8)
     (finish 0 0 (settle t.k (upd t.region p r (some s)))))))
 
 -- ── 9 unload: region r of p is emptied ──
 abbrev pub unload_ladder : Table → ℕ → ℕ → Ladder
 unload_ladder t p r =
-    must 3 (OwnOrChild t.k p)
-    (must 16 (r < 8)
+    must WrongPartition (OwnOrChild t.k p)
+    (must WrongRegion (r < 8)
     (finish 0 0 (settle t.k (upd t.region p r none))))
 
 -- ── 11 read region: the word of the entry that region r of p names ──
 abbrev pub read_region_ladder : Table → ℕ → ℕ → Ladder
 read_region_ladder t p r =
-    must 3 (OwnOrChild t.k p)
-    (must 16 (r < 8)
+    must WrongPartition (OwnOrChild t.k p)
+    (must WrongRegion (r < 8)
     (finish 0 (region_word t p (t.region p r)) t))
 
 -- ── 12 find: the slot of p that holds line l, and its word ──
 abbrev pub find_ladder : Table → ℕ → ℕ → Ladder
 find_ladder t p l =
-    must 3 (OwnOrChild t.k p)
-    (least 7 32 (λ i. (e : Entry) × (t.k.slot p i ≡ some e) × In l e) λ i.
+    must WrongPartition (OwnOrChild t.k p)
+    (least WrongLine 32 (λ i. (e : Entry) × (t.k.slot p i ≡ some e) × In l e) λ i.
     finish i (slot_word (t.k.slot p i) (t.opened p i)) t)
 
 -- ── 13 switch: the caller's parent or a child of it runs ──
@@ -180,19 +182,19 @@ ParentOrChild k p = ((k.current ≡ 0 → ⊥) × (p ≡ k.parent k.current)) �
 
 abbrev pub switch_ladder : Table → ℕ → Ladder
 switch_ladder t p =
-    must 3 (ParentOrChild t.k p)
+    must WrongPartition (ParentOrChild t.k p)
     (finish 0 0 (settle (with_current t.k p) t.region))
 
 -- ── 14 clear out: the records of p, a child of the caller, and of every descendant of it are zero; what the caller gave to p is given to nobody ──
 abbrev pub clear_ladder : Table → ℕ → Ladder
 clear_ladder t p =
-    must 3 (Child t.k t.k.current p)
+    must WrongPartition (Child t.k t.k.current p)
     (finish (count 16 (branch t.k.parent p)) 0 (remove t p (branch t.k.parent p)))
 
 -- ── 15 pack: the entries of p move to the lowest usable slots in unchanged slot order, and its regions follow them ──
 abbrev pub pack_ladder : Table → ℕ → Ladder
 pack_ladder t p =
-    must 3 (OwnOrChild t.k p)
+    must WrongPartition (OwnOrChild t.k p)
     (finish (packed t p).moved 0 (settle (pack_k t p) (pack_region t p)))
 
 -- ── a call ──
@@ -238,11 +240,11 @@ numbered_ladder b n t f =
     (cond (eqb n 13) (switch_ladder t p)
     (cond (eqb n 14) (clear_ladder t p)
     (cond (eqb n 15) (pack_ladder t p)
-    (must 2 ⊥ (finish 0 0 t)))))))))))))))
+    (must BadWord ⊥ (finish 0 0 t)))))))))))))))
 
 abbrev pub serve_ladder : Board → Table → CallFields → Ladder
-serve_ladder b t f = must 2 (Known f) (numbered_ladder b f.service t f)
+serve_ladder b t f = must BadWord (Known f) (numbered_ladder b f.service t f)
 
 -- 1: a sound table; 2: zero bits that are zero, a service's number, unused fields that are zero; then the service's own
 abbrev pub call_ladder : Board → List ℕ → ℕ → Ladder
-call_ladder b l w = must 1 (Sound b l) (must 2 (Zeroed call w) (serve_ladder b (view l) (fields_in call w)))
+call_ladder b l w = must NotSound (Sound b l) (must BadWord (Zeroed call w) (serve_ladder b (view l) (fields_in call w)))

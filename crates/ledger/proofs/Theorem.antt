@@ -1,5 +1,5 @@
 -- DEMAND 3 (specs/Theorem): a ledger kept by hand from an accepted boot always equals the listing of holders, for each line, after any list of calls.
-use Rattle.std.specs.Prelude.{◌≡◌, refl, true, false, List, ℕ, ◌≤◌, ◌<◌, length}
+use Rattle.std.specs.Prelude.{◌≡◌, refl, true, false, List, ℕ, ◌≤◌, ◌<◌, length, Ok}
 use Rattle.std.proofs.Common.{ap, sym, arith}
 use mathlib.Core.Logic.Iff
 use Rattle.std.proofs.Math.Decide.{dec_lt}
@@ -8,7 +8,6 @@ use Rattle.shapes.specs.declared.Board.{Board}
 use Rattle.tables.specs.State.{Table}
 use Rattle.tables.specs.View.{view}
 use Rattle.tables.specs.Encode.{encode}
-use Rattle.tables.specs.declared.Outcome.TheVariants.{Done}
 use Rattle.sound.specs.Sound.{Sound}
 use Rattle.sound.specs.Laws.Core.{sound_core}
 use Rattle.sound.specs.Laws.Properties.{holder_present, held_range}
@@ -52,7 +51,7 @@ module _ {board : Board} {base end : ℕ} {g : Ledger} {t : List ℕ} (h : Sound
     answer = λ {m} a b c x.
         let e = number m a b in
         let i = in_memory_law (view t).k m (rw s.base_is a) (rw s.end_is b) in
-        holders_one x (listed_done ((sound_means board t).1 h) i c (record { outcome = ap (λ (n : ℕ). Done n (looks_of (view t).k m)) (sym e); bytes = refl }));
+        holders_one x (listed_done ((sound_means board t).1 h) i c (record { outcome = ap (λ (n : ℕ). Ok (n, looks_of (view t).k m)) (sym e); bytes = refl }));
     nobody = λ p m q. rw (s.base_is, s.end_is) at (held_range (sound_core t h) ((s.holders p m).0 q));
     outside = λ {m} n x. holders_one x (listed_outside ((sound_means board t).1 h) (not_in_memory m n));
   }

@@ -1,6 +1,6 @@
 -- The ledger of who holds which line, as a reader keeps it by hand from an accepted boot: by the call words and the answers. A call names an entry by its slot, so the
 -- reader is told the lines of that entry, start and end, as they were when the call came. Nothing else of a table is read.
-use Rattle.std.specs.Prelude.{Bool, cond, not, ◌&&◌, ◌||◌, List, [], ◌∷◌, ℕ, ◌+◌, ◌-◌, leb, ltb, eqb}
+use Rattle.std.specs.Prelude.{Bool, cond, not, ◌&&◌, ◌||◌, List, [], ◌∷◌, ℕ, ◌+◌, ◌-◌, leb, ltb, eqb, Ok, Err}
 use Rattle.loops.specs.Loops.{all}
 use Rattle.words.specs.Kind.{fields_in}
 use Rattle.words.specs.Words.{call}
@@ -10,11 +10,10 @@ use Rattle.tables.specs.State.{Opt, none, some, Entry}
 use Rattle.tables.specs.Update.{upd1}
 use Rattle.tables.specs.View.{view}
 use Rattle.tables.specs.Search.{lowest}
-use Rattle.tables.specs.declared.Outcome.{Outcome}
-use Rattle.tables.specs.declared.Outcome.TheVariants.{Done, Refused}
 use Rattle.rules.specs.Rules.{records_zero, branch, call_on, words_after}
 use Rattle.rules.specs.Ran.{outcome_of}
 use Rattle.rules.specs.Calls.{caller_of}
+use Rattle.tables.specs.Outcomes.{Outcome}
 
 -- whether partition p stands in it for line l; and the tree, which tells whose child one is and who goes with a partition that is cleared out
 pub record Ledger : Type 0 where
@@ -76,8 +75,8 @@ accepted g f caller v r =
 
 -- a refused call does nothing
 unfoldable pub event_of : Ledger → CallFields → ℕ → Outcome → Lines → Event
-event_of g f caller (Done v w) r = accepted g f caller v r
-event_of g f caller (Refused n) r = nothing
+event_of g f caller (Ok (v, w)) r = accepted g f caller v r
+event_of g f caller (Err why) r = nothing
 
 -- the reader's work for a call: its word, the caller and the outcome that it answered, and the lines of its entry
 unfoldable pub noted : ℕ → ℕ → Outcome → Lines → Ledger → Ledger

@@ -1,5 +1,5 @@
 -- S10, a region at a time: what the exits of the code give.
-use Rattle.std.specs.Prelude.{Bool, cond, not, ◌&&◌, ℕ, ◌^◌, ◌||◌}
+use Rattle.std.specs.Prelude.{Bool, cond, not, ◌&&◌, Option, Some, None, ℕ, ◌^◌, ◌||◌}
 use Rattle.std.specs.Int.Bits.{bit_or}
 use Rattle.loops.specs.Loops.{names}
 use Rattle.words.specs.declared.regions_word.Region.{Region}
@@ -17,9 +17,9 @@ is_open t p i = is_some (t.k.slot p i) && t.opened p i
 unfoldable pub slot_noted : ℕ → Region → ℕ
 slot_noted m x = cond x.loaded (bit_or m (2 ^ x.slot.0)) m
 
--- what a region weighs, where those before it name the slots of the mask: the pieces of what it names, or 9, which is too much, where S10 says something else of it
-unfoldable pub weight : Board → Table → ℕ → ℕ → Region → ℕ
-weight b t p m x = cond x.loaded (cond (is_open t p x.slot.0 && not (names m x.slot.0)) (entry_pieces b (t.k.slot p x.slot.0)) 9) 0
+-- what a region weighs, where those before it name the slots of the mask: the pieces of what it names, if S10 says nothing else of it
+unfoldable pub weight : Board → Table → ℕ → ℕ → Region → Option ℕ
+weight b t p m x = cond x.loaded (cond (is_open t p x.slot.0 && not (names m x.slot.0)) (Some (entry_pieces b (t.k.slot p x.slot.0))) None) (Some 0)
 
 -- one of the eight is loaded
 abbrev pub some_loaded : RegionsFields → Bool

@@ -38,11 +38,9 @@ pub fn loaded_pieces(board: Board, t: &[u64; 641], p: Partition, f: RegionsField
     ensures { result ≡ pieces_of board (view t.now) p.0 f }
 {
     let mut n = 0u32;
-    let mut r = 0u32;
-    while r < 8 {
+    for r in 0..8 {
         let x = regions::nth(f, r);
         n += region_pieces(board, t, p, x);
-        r += 1;
     }
     n
 }

@@ -1,13 +1,12 @@
-ghost use Rattle.std.specs.Prelude.{◌≡◌, ◌≤◌, ◌<◌};
+ghost use Rattle.std.specs.Prelude.{◌≡◌, ◌≤◌, ◌<◌, IfSome};
 ghost use Rattle.tables.specs.View.{view};
 ghost use Rattle.sound.specs.Clauses.{s10};
 ghost use Rattle.loaded.specs.Opening.{is_open, slot_noted, weight};
 
 use crate::limit::entry_pieces;
-use regionwords::regions_word::{first_region, later_regions};
 use shapes::Board;
 use tables::{masks, read};
-use words::regions_word::Region;
+use words::regions_word::{Region, first_region, later_regions};
 use words::{Partition, Slot};
 
 // slot i of p holds an entry that is open
@@ -33,21 +32,21 @@ fn noted(mask: u32, x: Region) -> u32
     masks::with_slot(mask, x.slot)
 }
 
-// The pieces of what a region names. 9, more than a partition may have, where that is not open, or one of the mask: a region before it names the same.
-fn region_weight(board: Board, t: &[u64; 641], p: Partition, mask: u32, x: Region) -> u32
+// The pieces of what a region names, unless that is not open, or one of the mask: a region before it names the same.
+fn region_weight(board: Board, t: &[u64; 641], p: Partition, mask: u32, x: Region) -> Option<u32>
     requires { (p.0 < 16) × (x.slot.0 < 32) }
-    ensures { (result ≡ weight board (view t.now) p.0 mask x) × (result ≤ 52) }
+    ensures { (result ≡ weight board (view t.now) p.0 mask x) × IfSome result (λ n. n ≤ 52) }
 {
     if !x.loaded {
-        return 0;
+        return Some(0);
     }
     if !is_open(t, p, x.slot) {
-        return 9;
+        return None;
     }
     if masks::has_slot(mask, x.slot) {
-        return 9;
+        return None;
     }
-    entry_pieces(board, t, p, x.slot)
+    Some(entry_pieces(board, t, p, x.slot))
 }
 
 // S10 of p: one walk over its regions, only as far as something is left of their word, for mostly none is loaded
@@ -60,7 +59,10 @@ pub fn regions_right(board: Board, t: &[u64; 641], p: Partition) -> bool
     let mut left = read::regions_word(t, p);
     while left > 0 {
         let x = first_region(left);
-        n += region_weight(board, t, p, mask, x);
+        let Some(pieces) = region_weight(board, t, p, mask, x) else {
+            return false;
+        };
+        n += pieces;
         mask = noted(mask, x);
         left = later_regions(left);
     }

@@ -18,25 +18,23 @@ fn backs(f: SlotFields, lo: Line, hi: Line) -> bool
     if f.given.0 != 0 {
         return false;
     }
-    if f.start.0 != lo.0 {
+    if f.start != lo {
         return false;
     }
-    f.end.0 == hi.0
+    f.end == hi
 }
 
-// the slot of q with such an entry, or 32
-pub fn equal_slot(t: &[u64; 641], q: Partition, lo: Line, hi: Line) -> u32
+// the slot of q with such an entry
+pub fn equal_slot(t: &[u64; 641], q: Partition, lo: Line, hi: Line) -> Option<Slot>
     requires { (q.0 < 16) × Shaped t.now }
     ensures { result ≡ equal_slot (view t.now).k q.0 (area_between lo.0 hi.0) }
 {
     let used = ordering::used::used_slots(t, q);
-    let mut i = 0u32;
-    while i < used {
+    for i in 0..used {
         let f = read::entry(t, q, Slot(i));
         if backs(f, lo, hi) {
-            return i;
+            return Some(Slot(i));
         }
-        i += 1;
     }
-    32
+    None
 }

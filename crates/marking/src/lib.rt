@@ -5,7 +5,7 @@ ghost use Rattle.tables.specs.View.{view};
 ghost use Rattle.tables.specs.Top.{Top};
 ghost use Rattle.shape.specs.AtOnce.{Shaped};
 ghost use Rattle.marking.specs.Backing.{area_between};
-ghost use Rattle.marking.specs.Marking.{Marks, MarksEither, MarkedTo, CanMark, MarkSays};
+ghost use Rattle.marking.specs.Marking.{is_now, Marks, MarksEither, MarkedTo, CanMark, MarkSays};
 // S8: each area marks the not-given entry that it equals, of its owner or of the owner's parent.
 pub mod backing;
 
@@ -14,21 +14,35 @@ use shape::is_rooted;
 use tables::{masks, read};
 use words::{Line, Partition, Slot};
 
-// The not-given entry of q that equals lo to hi is marked: 0 where it has none, 2 where it was marked before.
-fn mark_equal(t: &[u64; 641], q: Partition, lo: Line, hi: Line, mark: &mut [u32; 16]) -> u32
+// What came of the mark for an entry that equals an area: there is none, it is marked, or it was marked before.
+#[derive(Clone, Copy)]
+enum Mark {
+    Nobody,
+    Now,
+    Before,
+}
+
+// No derived ==: it compares with a constant in memory, which the library for Arm may not have (arm/known.awk).
+fn is_now(m: Mark) -> bool
+    ensures { result ≡ is_now m }
+{
+    matches!(m, Mark::Now)
+}
+
+// The not-given entry of q that equals lo to hi is marked.
+fn mark_equal(t: &[u64; 641], q: Partition, lo: Line, hi: Line, mark: &mut [u32; 16]) -> Mark
     requires { (q.0 < 16) × Shaped t.now × (length mark.old ≡ 16) }
     ensures { Marks (view t.now).k q.0 (area_between lo.0 hi.0) mark.old result mark.new }
 {
-    let i = equal_slot(t, q, lo, hi);
-    if i >= 32 {
-        return 0;
-    }
+    let Some(i) = equal_slot(t, q, lo, hi) else {
+        return Mark::Nobody;
+    };
     let k = q.0 as usize;
-    if masks::has_slot(mark[k], Slot(i)) {
-        return 2;
+    if masks::has_slot(mark[k], i) {
+        return Mark::Before;
     }
-    mark[k] = masks::with_slot(mark[k], Slot(i));
-    1
+    mark[k] = masks::with_slot(mark[k], i);
+    Mark::Now
 }
 
 // the header's area of p marks an entry of its parent
@@ -43,7 +57,7 @@ fn mark_header(t: &[u64; 641], p: Partition, mark: &mut [u32; 16]) -> bool
     if !h.present {
         return true;
     }
-    mark_equal(t, h.parent, h.start, h.end, mark) == 1
+    is_now(mark_equal(t, h.parent, h.start, h.end, mark))
 }
 
 // The not-given entry that equals lo to hi is marked: of `one`, or, where that has none, of `other`.
@@ -58,11 +72,11 @@ fn mark_either(
     requires { (one.0 < 16) × (other.0 < 16) × Shaped t.now × (length mark.old ≡ 16) }
     ensures { MarksEither (view t.now).k one.0 other.0 (area_between lo.0 hi.0) mark.old result mark.new }
 {
-    let found = mark_equal(t, one, lo, hi, mark);
-    if found != 0 {
-        return found == 1;
+    match mark_equal(t, one, lo, hi, mark) {
+        Mark::Nobody => is_now(mark_equal(t, other, lo, hi, mark)),
+        Mark::Now => true,
+        Mark::Before => false,
     }
-    mark_equal(t, other, lo, hi, mark) == 1
 }
 
 // The area of p's first structure marks an entry of p or of its parent. It is nearly always the parent's, which made p and gave it its first slots: so the parent is
@@ -113,12 +127,10 @@ fn mark_areas(t: &[u64; 641], p: Partition, mark: &mut [u32; 16]) -> bool
     if !mark_first(t, p, mark) {
         return false;
     }
-    let mut j = 2u32;
-    while j < 5 {
+    for j in 2..5 {
         if !mark_later(t, p, j, mark) {
             return false;
         }
-        j += 1;
     }
     true
 }
@@ -128,12 +140,10 @@ pub fn mark_all(t: &[u64; 641], top: u32, mark: &mut [u32; 16]) -> bool
     requires { Top t.now top × Shaped t.now × MarkedTo (view t.now).k 0 mark.old }
     ensures { MarkSays (view t.now).k 80 result mark.new }
 {
-    let mut p = 0u32;
-    while p < top {
+    for p in 0..top {
         if !mark_areas(t, Partition(p), mark) {
             return false;
         }
-        p += 1;
     }
     true
 }

@@ -30,7 +30,3 @@ zero_four b i = all 8 (λ q. eqb (quad_at b (i + 4 * q)) 0)
 -- .. and the 320 of a record
 unfoldable pub zero_forty : List ℕ → ℕ → Bool
 zero_forty b i = all 10 (λ g. zero_four b (i + 32 * g))
-
--- the 64 bytes of b from byte i on, eight words, are zero
-unfoldable pub zero_eight : List ℕ → ℕ → Bool
-zero_eight b i = all 16 (λ q. eqb (quad_at b (i + 4 * q)) 0)

@@ -47,10 +47,8 @@ fn zero_four(b: &[u8], i: usize) -> bool
     ensures { result ≡ zero_four b.now i }
 {
     let mut x = 0u32;
-    let mut q = 0usize;
-    while q < 8 {
+    for q in 0..8 {
         x |= quad(b, i + 4 * q);
-        q += 1;
     }
     x == 0
 }
@@ -62,10 +60,8 @@ fn zero_forty(b: &[u8], i: u32) -> bool
     ensures { result ≡ zero_forty b.now i }
 {
     let mut zero = true;
-    let mut j = i;
-    while j < i + 320 {
-        zero = zero & zero_four(b, j as usize);
-        j += 32;
+    for g in 0..10 {
+        zero &= zero_four(b, (i + 32 * g) as usize);
     }
     zero
 }
@@ -76,20 +72,16 @@ fn zero_end(b: &[u8]) -> u32
     requires { length b.now ≡ 5128 }
     ensures { ZeroEnd b.now (1 + 40 * result) }
 {
-    let mut p = 16u32;
-    let mut end = 5128u32;
-    while p > 0 {
-        let at = end - 320;
+    for p in (0..16u32).rev() {
+        let at = 8 + 320 * p;
         if b[at as usize] > 0 {
-            return p;
+            return p + 1;
         }
         if !zero_forty(b, at) {
-            return p;
+            return p + 1;
         }
-        p -= 1;
-        end = at;
     }
-    p
+    0
 }
 
 // Four words of the records, whose bytes r are, from their word k on. The loop is unrolled.
@@ -98,10 +90,8 @@ fn load_four(r: &[u8], k: usize, t: &mut [u64; 641])
     ensures { LoadedOn r.now k (k + 4) t.old t.new }
 {
     let i = 8 * k;
-    let mut o = 0usize;
-    while o < 4 {
+    for o in 0..4 {
         t[k + 1 + o] = word(r, i + 8 * o);
-        o += 1;
     }
 }
 
@@ -110,11 +100,8 @@ fn load_records(r: &[u8], top: u32, t: &mut [u64; 641])
     requires { (length r.now ≡ 5120) × (top ≤ 16) }
     ensures { LoadedOn r.now 0 (40 * top) t.old t.new }
 {
-    let end = 40 * top;
-    let mut k = 0u32;
-    while k < end {
-        load_four(r, k as usize, t);
-        k += 4;
+    for k in 0..10 * top {
+        load_four(r, (4 * k) as usize, t);
     }
 }
 
@@ -154,10 +141,8 @@ fn clear(b: &mut [u8], i: usize, end: usize)
     requires { (length b.old ≡ 5128) × (i ≤ end) × (end ≤ 5128) }
     ensures { Wrote (λ n. 0) b.old i end b.new }
 {
-    let mut n = i;
-    while n < end {
+    for n in i..end {
         b[n] = 0;
-        n += 1;
     }
 }
 
@@ -179,10 +164,8 @@ fn store_four(t: &[u64; 641], k: usize, b: &mut [u8])
     ensures { Wrote (byte_of t.now) b.old (8 * k) (8 * k + 32) b.new }
 {
     let i = 8 * k;
-    let mut o = 0usize;
-    while o < 4 {
+    for o in 0..4 {
         put(b, i + 8 * o, t[k + o]);
-        o += 1;
     }
 }
 
@@ -191,15 +174,13 @@ fn store_record(t: &[u64; 641], p: Partition, b: &mut [u8])
     requires { (length b.old ≡ 5128) × (p.0 < 16) × HeaderTells t.now × TellsAt b.old p.0 }
     ensures { Wrote (byte_of t.now) b.old (8 + 320 * p.0) (328 + 320 * p.0) b.new }
 {
-    let mut k = 1 + 40 * p.0;
-    if t[k as usize] == 0 {
+    let at = 1 + 40 * p.0;
+    if t[at as usize] == 0 {
         clear_record(p, b);
         return;
     }
-    let end = 41 + 40 * p.0;
-    while k < end {
-        store_four(t, k as usize, b);
-        k += 4;
+    for k in 0..10 {
+        store_four(t, (at + 4 * k) as usize, b);
     }
 }
 
@@ -209,14 +190,10 @@ pub fn store(t: &[u64; 641], changed: u32, b: &mut [u8])
     ensures { b.new ≡ bytes_of t.now }
 {
     put(b, 0, t[0]);
-    let mut p = 0u32;
-    let mut rest = changed;
-    while rest > 0 {
-        if rest % 2 == 1 {
+    for p in 0..16 {
+        if (changed >> p) % 2 == 1 {
             store_record(t, Partition(p), b);
         }
-        rest = rest / 2;
-        p += 1;
     }
 }
 

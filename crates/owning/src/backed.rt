@@ -14,7 +14,7 @@ fn has_equal(t: &[u64; 641], q: Partition, lo: Line, hi: Line) -> bool
     requires { (q.0 < 16) × Shaped t.now }
     ensures { result ≡ equals (view t.now).k q.0 (area_between lo.0 hi.0) }
 {
-    marking::backing::equal_slot(t, q, lo, hi) < 32
+    marking::backing::equal_slot(t, q, lo, hi).is_some()
 }
 
 // the header's area of p is an entry of its parent
@@ -59,12 +59,10 @@ pub fn areas_backed(t: &[u64; 641], p: Partition) -> bool
     if !header_backed(t, p) {
         return false;
     }
-    let mut j = 1u32;
-    while j < 5 {
+    for j in 1..5 {
         if !structure_backed(t, p, j) {
             return false;
         }
-        j += 1;
     }
     true
 }

@@ -47,12 +47,10 @@ fn later_off(t: &[u64; 641], m: u32, n: u32, lo: Line, hi: Line) -> bool
 fn none_later(t: &[u64; 641], m: u32, lo: Line, hi: Line) -> bool
     ensures { result ≡ all 80 (λ n. not (ltb m n) || apart ((view t.now).k.area (n / 5) (n % 5)) lo.0 hi.0) }
 {
-    let mut n = 0u32;
-    while n < 80 {
+    for n in 0..80 {
         if !later_off(t, m, n, lo, hi) {
             return false;
         }
-        n += 1;
     }
     true
 }
@@ -77,12 +75,10 @@ pub fn owned_at(t: &[u64; 641], p: Partition) -> bool
     if !backed::areas_backed(t, p) {
         return false;
     }
-    let mut j = 0u32;
-    while j < 5 {
+    for j in 0..5 {
         if !area_apart(t, p, j) {
             return false;
         }
-        j += 1;
     }
     true
 }

@@ -1,17 +1,15 @@
 -- A region's register pair on ARMv8-M, written from an entry and read back. The two registers are one word of 64 bits (`pair`), RBAR in its high half.
-use Rattle.std.specs.Prelude.{◌≡◌, Bool, true, false, cond, not, ◌&&◌, ℕ, ◌+◌, ◌-◌, ◌*◌, ◌/◌, ◌%◌, ◌^◌, ◌≤◌, ◌<◌, eqb, ltb, leb}
+use Rattle.std.specs.Prelude.{◌≡◌, Bool, true, false, cond, not, ◌&&◌, ℕ, ◌+◌, ◌-◌, ◌*◌, ◌/◌, ◌%◌, ◌^◌, ◌≤◌, ◌<◌, eqb, ltb, leb, Result, Ok, Err}
 use Rattle.words.specs.Kind.{fields_in, word_of, zeroed}
 use Rattle.words.specs.declared.Line.{Line}
 use Rattle.words.specs.declared.Rights.{Rights}
-use Rattle.words.specs.declared.Written.{Written}
-use Rattle.words.specs.declared.Written.TheVariants.{Word, Refused as NotWritten}
 use Rattle.tables.specs.State.{Opt, none, some, Entry, entry, range_of}
 use Rattle.tables.specs.Encode.{slot_word}
 use Rattle.pairs.specs.Word.{pair}
 use Rattle.pairs.specs.declared.pair_word.PairFields.{PairFields}
 use Rattle.pairs.specs.declared.Registers.{Registers}
-use Rattle.pairs.specs.declared.PairWritten.{PairWritten}
-use Rattle.pairs.specs.declared.PairWritten.TheVariants.{Pair, Refused}
+use Rattle.words.specs.declared.Refusal.{Refusal}
+use Rattle.words.specs.declared.Refusal.TheVariants.{WrongPair}
 
 -- ── readable entries ──
 -- with the read right, start below end, lines that there are
@@ -66,15 +64,15 @@ abbrev pub halves : ℕ → Registers
 halves w = record { rbar = w / 2 ^ 32; rlar = w % 2 ^ 32 }
 
 -- writing: the two registers, or 22
-unfoldable pub writes : Entry → PairWritten
-writes e = cond (readable e) (Pair (halves (pair_of e))) (Refused 22)
+unfoldable pub writes : Entry → Result Registers Refusal
+writes e = cond (readable e) (Ok (halves (pair_of e))) (Err WrongPair)
 
 -- reading: the entry's word, present and open, or 22
-unfoldable pub open_word : Opt Entry → Written
-open_word none = NotWritten 22
-open_word (some e) = Word (slot_word (some e) true)
+unfoldable pub open_word : Opt Entry → Result ℕ Refusal
+open_word none = Err WrongPair
+open_word (some e) = Ok (slot_word (some e) true)
 
-abbrev pub reads : ℕ → ℕ → Written
+abbrev pub reads : ℕ → ℕ → Result ℕ Refusal
 reads rbar rlar = open_word (entry_of_pair (one_word rbar rlar))
 
 -- ── what the code hands on ──
@@ -83,6 +81,6 @@ abbrev pub plain : Line → Line → Rights → Entry
 plain a b r = entry a.0 b.0 0 r false
 
 -- what the writer of the word answers, as two registers
-unfoldable pub parted : Written → PairWritten
-parted (Word w) = Pair (halves w)
-parted (NotWritten n) = Refused n
+unfoldable pub parted : Result ℕ Refusal → Result Registers Refusal
+parted (Ok w) = Ok (halves w)
+parted (Err why) = Err why

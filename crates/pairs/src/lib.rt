@@ -8,22 +8,14 @@ ghost use Rattle.pairs.specs.Pair.{one_word, halves, plain, parted, writes, read
 pub mod pair_word;
 
 use pair_word::PairFields;
-use tablewords::slot_word;
 use words::slot_word::SlotFields;
-use words::{Line, Partition, Rights, Written};
+use words::{Line, Packed, Partition, Refusal, Rights};
 
 // The two registers: base address and limit address.
 #[derive(Clone, Copy)]
 pub struct Registers {
     pub rbar: u32,
     pub rlar: u32,
-}
-
-// What writing answers: the two registers, or refused with the number of the refusal.
-#[derive(Clone, Copy)]
-pub enum PairWritten {
-    Pair(Registers),
-    Refused(u64),
 }
 
 // The two registers as one word, and back.
@@ -50,71 +42,69 @@ fn access(write: bool) -> u32
 }
 
 // What the writer of the word answers, as two registers.
-fn parts(word: Written) -> PairWritten
+fn parts(word: Result<u64, Refusal>) -> Result<Registers, Refusal>
     ensures { result ≡ parted word }
 {
-    match word {
-        Written::Word(w) => PairWritten::Pair(split(w)),
-        Written::Refused(n) => PairWritten::Refused(n),
-    }
+    Ok(split(word?))
 }
 
-// The registers of lines and rights: refused with 22 without the read right (and for no lines, or lines past the last).
-pub fn write_pair(start: Line, end: Line, rights: Rights) -> PairWritten
+// The registers of lines and rights: refused with WrongPair without the read right (and for no lines, or lines past the last).
+pub fn write_pair(start: Line, end: Line, rights: Rights) -> Result<Registers, Refusal>
     ensures { result ≡ writes (plain start end rights) }
 {
     let first = start.0;
     let after = end.0;
     if !rights.read {
-        return PairWritten::Refused(22);
+        return Err(Refusal::WrongPair);
     }
     if first >= after {
-        return PairWritten::Refused(22);
+        return Err(Refusal::WrongPair);
     }
     if after >= 0x800_0000 {
-        return PairWritten::Refused(22);
+        return Err(Refusal::WrongPair);
     }
     let reach = access(rights.write);
-    parts(pair_word::write(PairFields {
+    let f = PairFields {
         base: Line(first),
         access: reach,
         never: !rights.execute,
         limit: Line(after - 1),
         enabled: true,
-    }))
+    };
+    parts(f.write())
 }
 
 // No zero bit is set: shareability, attribute and the reserved bit are 0.
 fn is_clean(w: u64) -> bool
     ensures { result ≡ zeroed pair w }
 {
-    pair_word::zero_bits(w) == 0
+    PairFields::zero_bits(w) == 0
 }
 
-// The entry word that two registers tell, present and open, given to no one, not whole: refused with 22 where no readable entry writes them.
-pub fn read_pair(rbar: u32, rlar: u32) -> Written
+// The entry word that two registers tell, present and open, given to no one, not whole: refused with WrongPair where no readable entry writes them.
+pub fn read_pair(rbar: u32, rlar: u32) -> Result<u64, Refusal>
     ensures { result ≡ reads rbar rlar }
 {
     let w = join(rbar, rlar);
     if !is_clean(w) {
-        return Written::Refused(22);
+        return Err(Refusal::WrongPair);
     }
-    let f = pair_word::fields(w);
+    let f = PairFields::fields(w);
     let base = f.base.0;
     let limit = f.limit.0;
     if !f.enabled {
-        return Written::Refused(22);
+        return Err(Refusal::WrongPair);
     }
     if f.access % 2 != 1 {
-        return Written::Refused(22);
+        return Err(Refusal::WrongPair);
     }
     if base > limit {
-        return Written::Refused(22);
+        return Err(Refusal::WrongPair);
     }
     if limit >= 0x7ff_ffff {
-        return Written::Refused(22);
+        return Err(Refusal::WrongPair);
     }
-    slot_word::write(SlotFields {
+    let entry = SlotFields {
         present: true,
         opened: true,
         rights: Rights {
@@ -126,5 +116,6 @@ pub fn read_pair(rbar: u32, rlar: u32) -> Written
         start: Line(base),
         end: Line(limit + 1),
         whole: false,
-    })
+    };
+    entry.write()
 }

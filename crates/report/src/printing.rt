@@ -1,4 +1,4 @@
-ghost use Rattle.std.specs.Prelude.{◌≤◌, length, take, IfSome, OnOk};
+ghost use Rattle.std.specs.Prelude.{IfSome, OnOk};
 ghost use Rattle.std.specs.Io.KnownBytes.{Appends};
 ghost use Rattle.verdict.specs.Verdict.{image_verdict};
 ghost use Rattle.report.specs.Report.{printed_line};
@@ -6,15 +6,18 @@ ghost use Rattle.report.specs.Report.{printed_line};
 use shapes::Board;
 use std::io;
 use std::io::{Read, Write};
+use verdict::Verdict;
 
-// Writes the first n of these bytes.
-fn show<W: Write>(out: &mut W, all: &[u8], n: usize) -> io::Result<()>
-    ensures { n ≤ length all.now → OnOk result (Appends (W.contents out.old) (W.contents out.new) (take n all.now)) }
+// Writes the line that tells the verdict.
+#[tactic(auto, unfolding(crate::specs::Report::printed_line))]
+fn print<W: Write>(out: &mut W, v: Verdict) -> io::Result<()>
+    ensures { OnOk result (Appends (W.contents out.old) (W.contents out.new) (printed_line v)) }
 {
-    if n <= all.len() {
-        return out.write_all(&all[..n]);
+    match v {
+        Verdict::Accepted => writeln!(out, "sound"),
+        Verdict::Fails(n, p) => writeln!(out, "S{n} {}", p.0),
+        Verdict::Length => writeln!(out, "length"),
     }
-    Ok(())
 }
 
 // Reads an image and prints the verdict on it. What comes after the first byte too many is not read: the image has another length already.
@@ -23,7 +26,5 @@ pub fn judge<R: Read, W: Write>(board: Board, input: &mut R, out: &mut W) -> io:
 {
     let mut image = [0u8; 5129];
     let len = crate::read_full(input, &mut image)?;
-    let line = crate::of_verdict(verdict::of_image(board, &image[..len]));
-    let bytes = line.bytes;
-    show(out, &bytes, line.len)
+    print(out, verdict::of_image(board, &image[..len]))
 }

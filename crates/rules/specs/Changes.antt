@@ -1,18 +1,17 @@
 -- Whose record a call can change, told by its word and the table before it: bit p of a mask is partition p's.
-use Rattle.std.specs.Prelude.{Bool, cond, ◌||◌, List, ℕ, ◌^◌, eqb}
+use Rattle.std.specs.Prelude.{Bool, cond, ◌||◌, List, ℕ, ◌^◌, eqb, Result, Ok, Err}
 use Rattle.std.specs.Int.Bits.{bit_or}
 use Rattle.loops.specs.Loops.{map_of}
 use Rattle.words.specs.Kind.{reading}
 use Rattle.words.specs.Words.{call}
 use Rattle.words.specs.declared.call_word.CallFields.{CallFields}
-use Rattle.words.specs.declared.call_word.CallRead.{CallRead}
-use Rattle.words.specs.declared.call_word.CallRead.TheVariants.{Fields, Refused}
 use Rattle.shapes.specs.declared.Board.{Board}
 use Rattle.tables.specs.State.{Opt, none, some, K}
 use Rattle.tables.specs.Search.{given_in}
 use Rattle.tables.specs.View.{view}
 use Rattle.sound.specs.Clauses.{sound}
 use Rattle.rules.specs.Rules.{branch}
+use Rattle.words.specs.declared.Refusal.{Refusal}
 
 -- q is p or above it: it is the root, or p is in its branch
 unfoldable pub above : K → ℕ → ℕ → Bool
@@ -41,9 +40,9 @@ changed_by n k f =
     (cond (eqb n 11 || eqb n 12 || eqb n 13) 0 0xffff))))
 
 -- nobody's, where the word is refused
-unfoldable pub changed_of : K → CallRead → ℕ
-changed_of k (Fields f) = changed_by f.service k f
-changed_of k (Refused n) = 0
+unfoldable pub changed_of : K → Result CallFields Refusal → ℕ
+changed_of k (Ok f) = changed_by f.service k f
+changed_of k (Err n) = 0
 
 -- .. or the table
 unfoldable pub changed_after : Board → List ℕ → ℕ → ℕ

@@ -1,5 +1,6 @@
 pub mod Pack
 pub mod Rules
+pub mod Services
 pub mod Branch
 pub mod Ran
 pub mod Changes

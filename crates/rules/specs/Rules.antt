@@ -1,12 +1,10 @@
 -- The rules of boot and of the fourteen services, in 01's order and words: the checks with their numbers, then the effect and the values.
-use Rattle.std.specs.Prelude.{Bool, true, false, cond, not, ◌&&◌, ◌||◌, List, ℕ, ◌+◌, ◌*◌, ◌^◌, length, leb, ltb, eqb}
+use Rattle.std.specs.Prelude.{Bool, true, false, cond, not, ◌&&◌, ◌||◌, List, ℕ, ◌+◌, ◌*◌, ◌^◌, length, leb, ltb, eqb, Result, Ok, Err}
 use Rattle.loops.specs.Loops.{any, all, count, climb}
 use Rattle.words.specs.Kind.{reading}
 use Rattle.words.specs.Words.{call}
 use Rattle.words.specs.declared.Rights.{Rights}
 use Rattle.words.specs.declared.call_word.CallFields.{CallFields}
-use Rattle.words.specs.declared.call_word.CallRead.{CallRead}
-use Rattle.words.specs.declared.call_word.CallRead.TheVariants.{Fields, Refused}
 use Rattle.shapes.specs.declared.Board.{Board}
 use Rattle.tables.specs.State.{Opt, none, some, Entry, root_entry, given_to, ending_at, starting_at, range_of, Area, nowhere, K, Table}
 use Rattle.tables.specs.Update.{upd, upd1}
@@ -18,21 +16,24 @@ use Rattle.tables.specs.Settle.{keep, settle}
 use Rattle.sound.specs.Limit.{loaded_pieces}
 use Rattle.sound.specs.Clauses.{sound, has, long, within, one_grant}
 use Rattle.rules.specs.Pack.{packed}
+use Rattle.rules.specs.declared.Uses.{Uses}
+use Rattle.words.specs.declared.Refusal.{Refusal}
+use Rattle.words.specs.declared.Refusal.TheVariants.{NotSound, BadWord, WrongPartition, NoEntry, NotOpen, Given, WrongLine, NoneFree, TooShort, MoreRights, Apart, TwoGrants, InPieces, InUse, WrongRegion, LentWhole, ManyPieces}
 
--- done with its two values and the table after it, or refused with its number
-pub data Result : Type 0 where
-  done : ℕ → ℕ → Table → Result
-  refused : ℕ → Result
+-- how a call ends: done with its two values and the table after it, or refused
+pub data Effect : Type 0 where
+  done : ℕ → ℕ → Table → Effect
+  refused : Refusal → Effect
 
--- the next check, with its number
-unfoldable pub check : ℕ → Bool → Result → Result
-check n true r = r
-check n false r = refused n
+-- the next check, and why it refuses
+unfoldable pub check : Refusal → Bool → Effect → Effect
+check why true r = r
+check why false r = refused why
 
--- the next check, that there is a value, with its number
-unfoldable pub need : {A : Type 0} → ℕ → Opt A → (A → Result) → Result
-need n none f = refused n
-need n (some a) f = f a
+-- the next check, that there is a value
+unfoldable pub need : {A : Type 0} → Refusal → Opt A → (A → Effect) → Effect
+need why none f = refused why
+need why (some a) f = f a
 
 -- ── words of 01 ──
 -- P is the caller or a child of it
@@ -44,11 +45,11 @@ unfoldable pub parent_or_child : K → ℕ → Bool
 parent_or_child k p = (not (eqb k.current 0) && eqb p (k.parent k.current)) || child k k.current p
 
 -- slot S of the caller: 4 no entry, 5 not open, 6 given
-unfoldable pub free_entry : Table → ℕ → (Entry → Result) → Result
+unfoldable pub free_entry : Table → ℕ → (Entry → Effect) → Effect
 free_entry t s f =
-    need 4 (t.k.slot t.k.current s) λ e.
-    check 5 (t.opened t.k.current s)
-    (check 6 (eqb e.given 0)
+    need NoEntry (t.k.slot t.k.current s) λ e.
+    check NotOpen (t.opened t.k.current s)
+    (check Given (eqb e.given 0)
     (f e))
 
 abbrev pub area_of : Entry → Area
@@ -61,12 +62,12 @@ set_slot k p i x = with_slot k (upd k.slot p i x)
 abbrev pub create_k : K → ℕ → Entry → K
 create_k k n e = with_area k (upd1 k.parent n k.current) (upd k.area n 0 (some (area_of e)))
 
-unfoldable pub create : Table → ℕ → Result
+unfoldable pub create : Table → ℕ → Effect
 create t s =
     free_entry t s λ e.
-    need 8 (lowest 16 (absent_child t.k)) λ n.
-    check 9 (long (area_of e))
-    (check 18 (not e.whole)
+    need NoneFree (lowest 16 (absent_child t.k)) λ n.
+    check TooShort (long (area_of e))
+    (check LentWhole (not e.whole)
     (done n 0 (settle (create_k t.k n e) t.region)))
 
 -- ── 2 delete: P a child; 3 15; caller's given = P become 0, record P zero; 0, 0 ──
@@ -92,23 +93,23 @@ remove_k k p m = record {
 abbrev pub remove : Table → ℕ → (ℕ → Bool) → Table
 remove t p m = settle (remove_k t.k p m) (records_zero m (λ r. none) t.region)
 
-unfoldable pub delete : Table → ℕ → Result
+unfoldable pub delete : Table → ℕ → Effect
 delete t p =
-    check 3 (child t.k t.k.current p)
-    (check 15 (not (has_child t.k p))
+    check WrongPartition (child t.k t.k.current p)
+    (check InUse (not (has_child t.k p))
     (done 0 0 (remove t p (λ q. eqb q p))))
 
 -- ── 3 prepare: P own or child, S; 3 4 5 6 8 9 18; lowest absent structure of P gets area = entry S; its number, 0 ──
 abbrev pub prepare_k : K → ℕ → ℕ → Entry → K
 prepare_k k p j e = with_area k k.parent (upd k.area p (1 + j) (some (area_of e)))
 
-unfoldable pub prepare : Table → ℕ → ℕ → Result
+unfoldable pub prepare : Table → ℕ → ℕ → Effect
 prepare t p s =
-    check 3 (own_or_child t.k p)
+    check WrongPartition (own_or_child t.k p)
     (free_entry t s λ e.
-    need 8 (lowest 4 (no_structure t.k p)) λ j.
-    check 9 (long (area_of e))
-    (check 18 (not e.whole)
+    need NoneFree (lowest 4 (no_structure t.k p)) λ j.
+    check TooShort (long (area_of e))
+    (check LentWhole (not e.whole)
     (done j 0 (settle (prepare_k t.k p j e) t.region))))
 
 -- ── 4 collect: P own or child, T structure; 3 4 15; structure word zero; 0, 0 ──
@@ -119,24 +120,24 @@ collect_k k p j = with_area k k.parent (upd k.area p (1 + j) none)
 unfoldable pub vacant : K → ℕ → ℕ → Bool
 vacant k p j = all 8 (λ i. not (is_some (k.slot p (8 * j + i))))
 
-unfoldable pub collect : Table → ℕ → ℕ → Result
+unfoldable pub collect : Table → ℕ → ℕ → Effect
 collect t p j =
-    check 3 (own_or_child t.k p)
-    (check 4 (ltb j 4 && is_some (t.k.area p (1 + j)))
-    (check 15 (vacant t.k p j && not (eqb p 0 && eqb j 0))
+    check WrongPartition (own_or_child t.k p)
+    (check NoEntry (ltb j 4 && is_some (t.k.area p (1 + j)))
+    (check InUse (vacant t.k p j && not (eqb p 0 && eqb j 0))
     (done 0 0 (settle (collect_k t.k p j) t.region))))
 
 -- ── 5 give: P a child, S, R, W; 3 4 5 6 8 10 18; S given = P; lowest free slot of P gets the range with rights R, whole if W is set; that slot, 0 ──
 abbrev pub give_k : K → ℕ → ℕ → ℕ → Rights → Bool → Entry → K
 give_k k p s n r w e = set_slot (set_slot k k.current s (some (given_to e p))) p n (some (range_of e r w))
 
-unfoldable pub give : Table → ℕ → ℕ → Rights → Bool → Result
+unfoldable pub give : Table → ℕ → ℕ → Rights → Bool → Effect
 give t p s r w =
-    check 3 (child t.k t.k.current p)
+    check WrongPartition (child t.k t.k.current p)
     (free_entry t s λ e.
-    need 8 (lowest 32 (free t.k p)) λ n.
-    check 10 (within r e.rights)
-    (check 18 (not e.whole)
+    need NoneFree (lowest 32 (free t.k p)) λ n.
+    check MoreRights (within r e.rights)
+    (check LentWhole (not e.whole)
     (done n 0 (settle (give_k t.k p s n r w e) t.region))))
 
 -- ── 6 take: S; 4 6 14; child's entry zero, S given = 0; 0, 0 ──
@@ -147,11 +148,11 @@ returned t e i = has (λ f. eqb f.given 0 && eqb f.start e.start && eqb f.stop e
 abbrev pub take_k : K → ℕ → ℕ → Entry → K
 take_k k s i e = set_slot (set_slot k k.current s (some (given_to e 0))) e.given i none
 
-unfoldable pub take : Table → ℕ → Result
+unfoldable pub take : Table → ℕ → Effect
 take t s =
-    need 4 (t.k.slot t.k.current s) λ e.
-    check 6 (not (eqb e.given 0))
-    (need 14 (lowest 32 (returned t e)) λ i.
+    need NoEntry (t.k.slot t.k.current s) λ e.
+    check Given (not (eqb e.given 0))
+    (need InPieces (lowest 32 (returned t e)) λ i.
     done 0 0 (settle (take_k t.k s i e) t.region))
 
 -- no region of c names a slot of m: cut and merge unload the slots that they name, since their pieces change
@@ -162,26 +163,26 @@ unloaded region c m = upd1 region c (λ r. keep (λ i. not (m i)) (region c r))
 abbrev pub cut_k : K → ℕ → ℕ → ℕ → Entry → K
 cut_k k s n l e = set_slot (set_slot k k.current s (some (ending_at e l))) k.current n (some (starting_at e l))
 
-unfoldable pub cut : Table → ℕ → ℕ → Result
+unfoldable pub cut : Table → ℕ → ℕ → Effect
 cut t s l =
     free_entry t s λ e.
-    check 7 (ltb e.start l && ltb l e.stop)
-    (need 8 (lowest 32 (free t.k t.k.current)) λ n.
-    check 18 (not e.whole)
+    check WrongLine (ltb e.start l && ltb l e.stop)
+    (need NoneFree (lowest 32 (free t.k t.k.current)) λ n.
+    check LentWhole (not e.whole)
     (done n 0 (settle (cut_k t.k s n l e) (unloaded t.region t.k.current (λ i. eqb i s)))))
 
 -- ── 8 merge: S, T; 4 5 6 11 12; S ends where T ended, T zero; S and T unloaded; 0, 0 ──
 abbrev pub merge_k : K → ℕ → ℕ → Entry → Entry → K
 merge_k k s u e f = set_slot (set_slot k k.current s (some (ending_at e f.stop))) k.current u none
 
-unfoldable pub merge : Table → ℕ → ℕ → Result
+unfoldable pub merge : Table → ℕ → ℕ → Effect
 merge t s u =
-    need 4 (t.k.slot t.k.current s) λ e.
-    need 4 (t.k.slot t.k.current u) λ f.
-    check 5 (t.opened t.k.current s && t.opened t.k.current u)
-    (check 6 (eqb e.given 0 && eqb f.given 0)
-    (check 11 (eqb e.stop f.start)
-    (check 12 (eqb t.k.current 0 || one_grant t.k t.k.current e f)
+    need NoEntry (t.k.slot t.k.current s) λ e.
+    need NoEntry (t.k.slot t.k.current u) λ f.
+    check NotOpen (t.opened t.k.current s && t.opened t.k.current u)
+    (check Given (eqb e.given 0 && eqb f.given 0)
+    (check Apart (eqb e.stop f.start)
+    (check TwoGrants (eqb t.k.current 0 || one_grant t.k t.k.current e f)
     (done 0 0 (settle (merge_k t.k s u e f) (unloaded t.region t.k.current (λ i. eqb i s || eqb i u)))))))
 
 -- ── 9 with R = 0, load: P own or child, S of P, T region; 3 4 5 16 19; region T names S; 0, 0 ──
@@ -189,20 +190,20 @@ merge t s u =
 unfoldable pub elsewhere : Table → ℕ → ℕ → ℕ → Bool
 elsewhere t p s r = any 8 (λ q. not (eqb q r) && has (λ i. eqb i s) (t.region p q))
 
-unfoldable pub load : Board → Table → ℕ → ℕ → ℕ → Result
+unfoldable pub load : Board → Table → ℕ → ℕ → ℕ → Effect
 load b t p s r =
-    check 3 (own_or_child t.k p)
-    (need 4 (t.k.slot p s) λ e.
-    check 5 (t.opened p s)
-    (check 16 (ltb r 8 && not (elsewhere t p s r))
-    (check 19 (leb (loaded_pieces b t.k.slot (upd t.region p r (some s)) p) 8)
+    check WrongPartition (own_or_child t.k p)
+    (need NoEntry (t.k.slot p s) λ e.
+    check NotOpen (t.opened p s)
+    (check WrongRegion (ltb r 8 && not (elsewhere t p s r))
+    (check ManyPieces (leb (loaded_pieces b t.k.slot (upd t.region p r (some s)) p) 8)
     (done 0 0 (settle t.k (upd t.region p r (some s)))))))
 
 -- ── 9 with R = 1, unload: P own or child, T; 3 16; region T zero; 0, 0 ──
-unfoldable pub unload : Table → ℕ → ℕ → Result
+unfoldable pub unload : Table → ℕ → ℕ → Effect
 unload t p r =
-    check 3 (own_or_child t.k p)
-    (check 16 (ltb r 8)
+    check WrongPartition (own_or_child t.k p)
+    (check WrongRegion (ltb r 8)
     (done 0 0 (settle t.k (upd t.region p r none))))
 
 -- ── 11 read region: P own or child, T; 3 16; 0, entry word or 0 ──
@@ -210,23 +211,23 @@ unfoldable pub region_word : Table → ℕ → Opt ℕ → ℕ
 region_word t p none = 0
 region_word t p (some i) = slot_word (t.k.slot p i) (t.opened p i)
 
-unfoldable pub read_region : Table → ℕ → ℕ → Result
+unfoldable pub read_region : Table → ℕ → ℕ → Effect
 read_region t p r =
-    check 3 (own_or_child t.k p)
-    (check 16 (ltb r 8)
+    check WrongPartition (own_or_child t.k p)
+    (check WrongRegion (ltb r 8)
     (done 0 (region_word t p (t.region p r)) (settle t.k t.region)))
 
 -- ── 12 find: P own or child, L; 3 7; slot, entry word ──
-unfoldable pub find : Table → ℕ → ℕ → Result
+unfoldable pub find : Table → ℕ → ℕ → Effect
 find t p l =
-    check 3 (own_or_child t.k p)
-    (need 7 (look_for t.k l p).slot λ i.
+    check WrongPartition (own_or_child t.k p)
+    (need WrongLine (look_for t.k l p).slot λ i.
     done i (slot_word (t.k.slot p i) (t.opened p i)) (settle t.k t.region))
 
 -- ── 13 switch: P parent or child; 3; current = P; 0, 0 ──
-unfoldable pub switch : Table → ℕ → Result
+unfoldable pub switch : Table → ℕ → Effect
 switch t p =
-    check 3 (parent_or_child t.k p)
+    check WrongPartition (parent_or_child t.k p)
     (done 0 0 (settle (with_current t.k p) t.region))
 
 -- ── 14 clear out: P a child; 3; caller's given = P become 0, records of P and of every descendant zero; their number, 0 ──
@@ -234,9 +235,9 @@ switch t p =
 unfoldable pub branch : (ℕ → ℕ) → ℕ → ℕ → Bool
 branch parent p q = climb parent (λ n. false) false (λ r above. eqb r p || above) q 15
 
-unfoldable pub clear_out : Table → ℕ → Result
+unfoldable pub clear_out : Table → ℕ → Effect
 clear_out t p =
-    check 3 (child t.k t.k.current p)
+    check WrongPartition (child t.k t.k.current p)
     (done (count 16 (branch t.k.parent p)) 0 (remove t p (branch t.k.parent p)))
 
 -- ── 15 pack: P own or child; 3; entries to the lowest usable slots in unchanged slot order, regions follow them; entries moved, 0 ──
@@ -246,25 +247,16 @@ pack_k t p = with_slot t.k (upd1 t.k.slot p (packed t p).slot)
 abbrev pub pack_region : Table → ℕ → ℕ → ℕ → Opt ℕ
 pack_region t p = upd1 t.region p (packed t p).region
 
-unfoldable pub pack : Table → ℕ → Result
+unfoldable pub pack : Table → ℕ → Effect
 pack t p =
-    check 3 (own_or_child t.k p)
+    check WrongPartition (own_or_child t.k p)
     (done (packed t p).moved 0 (settle (pack_k t p) (pack_region t p)))
 
 -- ── a call word ──
 unfoldable pub no_rights : Rights → Bool
 no_rights r = not r.read && not r.write && not r.execute
 
--- the fields that a service uses: P, S, T, R, L, W
-pub record Uses : Type 0 where
-  pub p : Bool
-  pub s : Bool
-  pub u : Bool
-  pub r : Bool
-  pub l : Bool
-  pub w : Bool
-
--- those of the service of number n; another number is no service's
+-- the fields that the service of number n uses; another number is no service's
 unfoldable pub uses : ℕ → Opt Uses
 uses n =
     cond (eqb n 1) (some (record { p = false; s = true; u = false; r = false; l = false; w = false }))
@@ -298,7 +290,7 @@ unfoldable pub known : CallFields → Bool
 known f = (not (eqb f.service 9) || region_call f) && has (λ x. unused x f) (uses f.service)
 
 -- the service of number n, of such fields
-abbrev pub numbered : Board → ℕ → Table → CallFields → Result
+abbrev pub numbered : Board → ℕ → Table → CallFields → Effect
 numbered b n t f =
     let p = f.partition.0 in
     let s = f.slot.0 in
@@ -318,21 +310,21 @@ numbered b n t f =
     (cond (eqb n 13) (switch t p)
     (cond (eqb n 14) (clear_out t p)
     (cond (eqb n 15) (pack t p)
-    (refused 2))))))))))))))
+    (refused BadWord))))))))))))))
 
-unfoldable pub perform : Board → Table → CallFields → Result
+unfoldable pub perform : Board → Table → CallFields → Effect
 perform b t f = numbered b f.service t f
 
-unfoldable pub serve : Board → Table → CallFields → Result
-serve b t f = check 2 (known f) (perform b t f)
+unfoldable pub serve : Board → Table → CallFields → Effect
+serve b t f = check BadWord (known f) (perform b t f)
 
-unfoldable pub serve_read : Board → Table → CallRead → Result
-serve_read b t (Fields f) = serve b t f
-serve_read b t (Refused n) = refused n
+unfoldable pub serve_read : Board → Table → Result CallFields Refusal → Effect
+serve_read b t (Ok f) = serve b t f
+serve_read b t (Err why) = refused why
 
 -- the call of a word on the words of a table: 1 first, then 2, then the service
-unfoldable pub call_on : Board → List ℕ → ℕ → Result
-call_on b l w = cond (sound b l) (serve_read b (view l) (reading call w)) (refused 1)
+unfoldable pub call_on : Board → List ℕ → ℕ → Effect
+call_on b l w = cond (sound b l) (serve_read b (view l) (reading call w)) (refused NotSound)
 
 -- ── boot: base and end; 1 7; whole table rewritten ──
 abbrev pub boot_k : ℕ → ℕ → K
@@ -345,13 +337,13 @@ boot_k base end = record {
   slot = upd (λ p i. none) 0 0 (some (root_entry base end));
 }
 
-unfoldable pub boot_on : List ℕ → ℕ → ℕ → Result
+unfoldable pub boot_on : List ℕ → ℕ → ℕ → Effect
 boot_on l base end =
-    check 1 (eqb (length l) 641)
-    (check 7 (ltb base end && ltb base (2 ^ 27) && ltb end (2 ^ 27))
+    check NotSound (eqb (length l) 641)
+    (check WrongLine (ltb base end && ltb base (2 ^ 27) && ltb end (2 ^ 27))
     (done 0 0 (settle (boot_k base end) (λ p r. none))))
 
 -- the words after it: those of the table after it, or, refused, as they were
-unfoldable pub words_after : List ℕ → Result → List ℕ
+unfoldable pub words_after : List ℕ → Effect → List ℕ
 words_after l (done v w t) = encode t
-words_after l (refused n) = l
+words_after l (refused why) = l

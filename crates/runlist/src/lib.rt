@@ -5,12 +5,15 @@ ghost use Rattle.tables.specs.Top.{Top};
 ghost use Rattle.runs.specs.Marks.{run_at, MarksAt};
 ghost use Rattle.runlist.specs.Listing.{refusal, plan_of, marks_in};
 
-use otherwords::mark_word;
+use ordering::order::Order;
 use runs::Run;
 use shapes::Board;
 use tables::Outcome;
+use words::mark_word::MarkFields;
+use words::{Packed, Refusal};
 
 // What is settled before a record is written: how many runs are written, and the outcome.
+// No Result: who lists writes so many runs whatever the outcome is, none where it is refused, and would else take it apart twice.
 #[derive(Clone, Copy)]
 pub struct Plan {
     pub number: usize,
@@ -18,32 +21,31 @@ pub struct Plan {
 }
 
 // Refused: no run is written.
-fn refuse(why: u64) -> Plan
+fn refuse(why: Refusal) -> Plan
     ensures { result ≡ refusal why }
 {
     Plan {
         number: 0,
-        outcome: Outcome::Refused(why),
+        outcome: Err(why),
     }
 }
 
-// Refused: 1 not a sound table, 17 a list shorter than the runs. The marks of a sound table are left in place of its words in any case.
+// Refused: NotSound, or ShortList for a list shorter than the runs. The marks of a sound table are left in place of its words in any case.
 pub fn plan_of(board: Board, t: &mut [u64; 641], top: u32, size: usize) -> Plan
     requires { Top t.old top }
     ensures { (result ≡ plan_of board t.old size) × (t.new ≡ marks_in board t.old) }
 {
-    let mut order = [0u8; 512];
-    let mut counts = [0u32; 16];
-    if !decide::is_ordered(board, t, top, &mut order, &mut counts) {
-        return refuse(1);
+    let mut order = Order::none();
+    if !decide::is_ordered(board, t, top, &mut order) {
+        return refuse(Refusal::NotSound);
     }
-    let n = runs::walk::leave_marks(t, &order);
+    let n = runs::walk::leave_marks(t, &order.slots);
     if size < n {
-        return refuse(17);
+        return refuse(Refusal::ShortList);
     }
     Plan {
         number: n,
-        outcome: Outcome::Done(n as u64, 0),
+        outcome: Ok((n as u64, 0)),
     }
 }
 
@@ -52,8 +54,8 @@ pub fn run_at(marks: &[u64; 641], i: usize) -> Run
     requires { MarksAt marks.now i }
     ensures { result ≡ run_at marks.now i }
 {
-    let here = mark_word::fields(keeping::number(marks, i));
-    let next = mark_word::fields(keeping::number(marks, i + 1));
+    let here = MarkFields::fields(keeping::number(marks, i) as u64);
+    let next = MarkFields::fields(keeping::number(marks, i + 1) as u64);
     let start = here.line;
     let end = next.line;
     let deepest = here.holder;

@@ -1,13 +1,13 @@
 -- The runs of a table: each longest run of lines with the same holders, in rising order; and what is answered and left in the list where they are listed.
-use Rattle.std.specs.Prelude.{cond, List, [], ◌∷◌, ◌++◌, ◌≡◌, ℕ, zero, suc, ◌+◌, ◌-◌, ◌≤◌, ◌<◌, eqb, leb, length, drop, get_or}
+use Rattle.std.specs.Prelude.{cond, List, [], ◌∷◌, ◌++◌, ◌≡◌, ℕ, zero, suc, ◌+◌, ◌-◌, ◌≤◌, ◌<◌, eqb, leb, length, drop, get_or, Ok, Err}
 use Rattle.shapes.specs.declared.Board.{Board}
 use Rattle.tables.specs.State.{K}
 use Rattle.tables.specs.View.{view}
-use Rattle.tables.specs.declared.Outcome.{Outcome}
-use Rattle.tables.specs.declared.Outcome.TheVariants.{Done, Refused}
 use Rattle.sound.specs.Clauses.{sound}
 use Rattle.sound.specs.Holders.{deepest, trail, holders_of}
 use Rattle.runs.specs.declared.Run.{Run}
+use Rattle.tables.specs.Outcomes.{Outcome}
+use Rattle.words.specs.declared.Refusal.TheVariants.{NotSound, ShortList}
 
 -- the deepest holder of line l: it says who the holders are, for they are all on the way from it up to the root
 abbrev pub deepest_at : K → ℕ → ℕ
@@ -55,7 +55,7 @@ pub record Longest (k : K) (rs : List Run) : Type 0 where
 
 -- ── what is answered where they are listed, and the records after it ──
 unfoldable pub runs_outcome : Board → List ℕ → ℕ → Outcome
-runs_outcome b t size = cond (sound b t) (cond (leb (length (runs_of (view t).k)) size) (Done (length (runs_of (view t).k)) 0) (Refused 17)) (Refused 1)
+runs_outcome b t size = cond (sound b t) (cond (leb (length (runs_of (view t).k)) size) (Ok (length (runs_of (view t).k), 0)) (Err ShortList)) (Err NotSound)
 
 -- the first records are the runs, the rest stay
 abbrev pub runs_over : List Run → List Run → List Run

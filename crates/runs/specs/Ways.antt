@@ -1,22 +1,21 @@
 -- The way from the root down to the deepest holder of a line, kept for the lines after it.
-use Rattle.std.specs.Prelude.{◌≡◌, List, ℕ, ◌-◌, ◌^◌, ◌≤◌, ◌<◌, length, get_or}
+use Rattle.std.specs.Prelude.{◌≡◌, List, ℕ, ◌-◌, ◌^◌, ◌≤◌, ◌<◌, length, get_or, Result, Ok, Err}
 use Rattle.words.specs.Kinds.{line_in, holder_in}
-use Rattle.words.specs.declared.Written.{Written}
-use Rattle.words.specs.declared.Written.TheVariants.{Word, Refused}
 use Rattle.tables.specs.State.{K}
 use Rattle.runs.specs.declared.pieces.PieceEnd.{PieceEnd}
 use Rattle.runs.specs.Runs.{deepest_at}
 use Rattle.runs.specs.Pieces.{piece_end, Descent}
 use Rattle.runs.specs.Places.{Passed}
+use Rattle.words.specs.declared.Refusal.{Refusal}
 
 -- a mark's word is kept in 32 bits; a refusal keeps nothing
-abbrev pub Short : Written → Type 0
-Short (Word m) = m < 2 ^ 32
-Short (Refused why) = Unit {0}
+abbrev pub Short : Result ℕ Refusal → Type 0
+Short (Ok m) = m < 2 ^ 32
+Short (Err why) = Unit {0}
 
-abbrev pub word_written : Written → ℕ
-word_written (Word m) = m
-word_written (Refused why) = 0
+abbrev pub word_written : Result ℕ Refusal → ℕ
+word_written (Ok m) = m
+word_written (Err why) = 0
 
 -- a step of the way is a mark: the lowest end above it, and the partition
 abbrev pub low_at : List ℕ → ℕ → ℕ

@@ -2,19 +2,15 @@ ghost use Rattle.std.specs.Prelude.{◌≡◌, ◌<◌, ◌^◌};
 ghost use Rattle.words.specs.Kinds.{mark_for};
 ghost use Rattle.runs.specs.Ways.{Short, word_written};
 
-use otherwords::mark_word;
 use words::mark_word::MarkFields;
-use words::{Line, Partition, Written};
+use words::{Line, Packed, Partition, Refusal};
 
 // The word of a mark, in 32 bits. A refusal keeps nothing: no caller here meets one.
-fn short(word: Written) -> u32
+fn short(word: Result<u64, Refusal>) -> u32
     requires { Short word }
     ensures { result ≡ word_written word }
 {
-    match word {
-        Written::Word(m) => m as u32,
-        Written::Refused(_) => 0,
-    }
+    word.unwrap_or(0) as u32
 }
 
 // The mark of a line and a partition.
@@ -22,8 +18,5 @@ pub fn mark_of(line: Line, holder: Partition) -> u32
     requires { (line.0 < 2 ^ 27) × (holder.0 < 16) }
     ensures { result ≡ mark_for line.0 holder.0 }
 {
-    short(mark_word::write(MarkFields {
-        line: line,
-        holder: holder,
-    }))
+    short(MarkFields { line, holder }.write())
 }

@@ -8,8 +8,8 @@ ghost use Rattle.runs.specs.Ways.{Climbs, Climbed, Standing, Pieced};
 
 use crate::marks::mark_of;
 use ordering::order::entry_at;
-use otherwords::mark_word;
-use words::{Line, Partition};
+use words::mark_word::MarkFields;
+use words::{Line, Packed, Partition};
 
 // Whom a partition gave its entry that holds a line (0 is nobody), and where that entry ends.
 #[derive(Clone, Copy)]
@@ -32,8 +32,7 @@ fn hop_at(t: &[u64; 641], order: &[u8; 512], places: &mut [u32; 16], l: Line, p:
     ensures { Hopped (view t.now).k l.0 p.0 result × Passed (view t.now).k order.now l.0 places.new }
 {
     let at = p.0 as usize;
-    let mut a = places[at];
-    while a < 32 {
+    for a in places[at]..32 {
         let f = entry_at(t, p, order, a);
         if l.0 < f.end.0 {
             places[at] = a;
@@ -44,7 +43,6 @@ fn hop_at(t: &[u64; 641], order: &[u8; 512], places: &mut [u32; 16], l: Line, p:
                 end: end,
             };
         }
-        a += 1;
     }
     // not reached: one of the entries holds the line
     Hop { heir: p, end: l }
@@ -62,15 +60,13 @@ fn climb(way: &[u32; 16], depth: usize, l: Line) -> usize
     requires { Climbs way.now depth l.0 }
     ensures { Climbed way.now depth l.0 result }
 {
-    let mut d = depth;
-    while d > 0 {
-        let step = mark_word::fields(way[d]);
+    for d in (1..=depth).rev() {
+        let step = MarkFields::fields(way[d] as u64);
         if l.0 < step.line.0 {
             return d;
         }
-        d -= 1;
     }
-    d
+    0
 }
 
 // The piece that begins at the line: to the first end among the entries that hold it. All its lines have the same deepest holder.
@@ -85,11 +81,11 @@ pub fn piece_at(
     requires { Core (view t.now).k × AllInOrder (view t.now).k order.now × Standing (view t.now).k order.now l.0 depth places.old way.old }
     ensures { Pieced (view t.now).k order.now l.0 result places.new way.new }
 {
-    let mut d = climb(way, depth, l);
-    let step = mark_word::fields(way[d]);
+    let kept = climb(way, depth, l);
+    let step = MarkFields::fields(way[kept] as u64);
     let mut p = step.holder;
     let mut end = step.line;
-    while d < 15 {
+    for d in kept..15 {
         let h = hop_at(t, order, places, l, p);
         let e = h.end;
         end = lower(end, e);
@@ -102,12 +98,11 @@ pub fn piece_at(
             };
         }
         p = q;
-        d += 1;
-        way[d] = mark_of(end, q);
+        way[d + 1] = mark_of(end, q);
     }
     PieceEnd {
         end: end,
         deepest: p,
-        depth: d,
+        depth: 15,
     }
 }

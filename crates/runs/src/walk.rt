@@ -14,7 +14,7 @@ fn mark(marks: &mut [u32; 513], n: usize, last: Partition, start: Line, deepest:
     requires { (length marks.old ≡ 513) × (n ≤ 512) × (start.0 < 2 ^ 27) × (deepest.0 < 16) }
     ensures { Marked marks.old n last.0 start.0 deepest.0 result marks.new }
 {
-    if deepest.0 == last.0 {
+    if deepest == last {
         return n;
     }
     marks[n] = mark_of(start, deepest);

@@ -22,7 +22,7 @@ pub fn climb(t: &[u64; 641], p: Partition, steps: u32, way: &mut u64) -> bool
     climb(t, h.parent, steps - 1, way)
 }
 
-// Writes who stands on the way that the number tells, topmost first, and tells how many.
+// Writes who stands on the way that the number tells, topmost first, and tells how many: the loop ends where the number is used up, and no range tells where that is.
 pub fn write_way(way: u64, list: &mut [u8]) -> usize
     requires { 16 ≤ length list.old }
     ensures { WayWritten way list.old result list.new }

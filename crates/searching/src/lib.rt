@@ -8,7 +8,7 @@ ghost use Rattle.tables.specs.Answers.{found_of, looked_of, which_of, structure_
 // What a table is asked: who is present, whose child, which slot is free, where a line is held; and the way from a partition to the root.
 pub mod climb;
 
-use tables::{Found, Looked, Structure, Which};
+use tables::Looked;
 use words::{Line, Partition, Slot};
 
 // p is present
@@ -32,51 +32,45 @@ pub fn is_child(t: &[u64; 641], p: Partition, c: Partition) -> bool
     if c.0 == 0 {
         return false;
     }
-    h.parent.0 == p.0
+    h.parent == p
 }
 
 // some partition is a child of p
 pub fn has_child(t: &[u64; 641], p: Partition) -> bool
     ensures { result ≡ has_child (view t.now).k p.0 }
 {
-    let mut c = 0u32;
-    while c < 16 {
+    for c in 0..16 {
         if is_child(t, p, Partition(c)) {
             return true;
         }
-        c += 1;
     }
     false
 }
 
 // the lowest of 1 to 15 that is absent
-pub fn absent_partition(t: &[u64; 641]) -> Which
+pub fn absent_partition(t: &[u64; 641]) -> Option<Partition>
     ensures { result ≡ which_of (lowest 16 (absent_child (view t.now).k)) }
 {
-    let mut n = 1u32;
-    while n < 16 {
+    for n in 1..16 {
         if !is_present(t, Partition(n)) {
-            return Which::Number(Partition(n));
+            return Some(Partition(n));
         }
-        n += 1;
     }
-    Which::Nobody
+    None
 }
 
 // the lowest structure of p that is absent
-pub fn absent_structure(t: &[u64; 641], p: Partition) -> Structure
+pub fn absent_structure(t: &[u64; 641], p: Partition) -> Option<u32>
     requires { p.0 < 16 }
     ensures { result ≡ structure_of (lowest 4 (no_structure (view t.now).k p.0)) }
 {
-    let mut j = 0u32;
-    while j < 4 {
+    for j in 0..4 {
         let s = tables::read::structure(t, p, j);
         if !s.present {
-            return Structure::Index(j);
+            return Some(j);
         }
-        j += 1;
     }
-    Structure::Full
+    None
 }
 
 // 1 where slot i of p has no entry, 0 where it has one
@@ -99,10 +93,8 @@ fn free_byte(t: &[u64; 641], p: Partition, j: u32) -> u32
         return 0;
     }
     let mut byte = 0u32;
-    let mut i = 8 * j + 8;
-    while i > 8 * j {
-        byte = 2 * byte + empty_bit(t, p, Slot(i - 1));
-        i -= 1;
+    for i in (8 * j..8 * j + 8).rev() {
+        byte = 2 * byte + empty_bit(t, p, Slot(i));
     }
     byte
 }
@@ -121,15 +113,15 @@ fn free_map(t: &[u64; 641], p: Partition) -> u32
 
 // The lowest free slot of p is the count of the trailing zeros of that map: 0x00fa0000 ends in 17 zeros, so slot 17. Where no slot is free
 // the map is 0, and the count 32.
-pub fn free_slot(t: &[u64; 641], p: Partition) -> Found
+pub fn free_slot(t: &[u64; 641], p: Partition) -> Option<Slot>
     requires { p.0 < 16 }
     ensures { result ≡ found_of (lowest 32 (free (view t.now).k p.0)) }
 {
     let i = u32::trailing_zeros(free_map(t, p));
     if i == 32 {
-        return Found::Nothing;
+        return None;
     }
-    Found::At(Slot(i))
+    Some(Slot(i))
 }
 
 // slot i of p holds the line
@@ -153,19 +145,16 @@ pub fn holding_slot(t: &[u64; 641], p: Partition, l: Line) -> Looked
     requires { p.0 < 16 }
     ensures { result ≡ looked_of (look_for (view t.now).k l.0 p.0) }
 {
-    let mut s = 0u32;
-    while s < 32 {
-        let looked = s + 1;
+    for s in 0..32 {
         if holds_line(t, p, Slot(s), l) {
             return Looked {
-                found: Found::At(Slot(s)),
-                count: looked,
+                found: Some(Slot(s)),
+                count: s + 1,
             };
         }
-        s = looked;
     }
     Looked {
-        found: Found::Nothing,
+        found: None,
         count: 32,
     }
 }

@@ -9,7 +9,7 @@ use tables::Outcome;
 use words::header_word::HeaderFields;
 use words::slot_word::SlotFields;
 use words::structure_word::StructureFields;
-use words::{Line, Partition, Rights, Slot};
+use words::{Line, Partition, Refusal, Rights, Slot};
 
 // The root with its structure 0 and, in slot 0, an entry with all rights: it is open, since areas of 0, 0 have no line.
 fn put_root(t: &mut [u64; 641], base: Line, end: Line)
@@ -64,11 +64,11 @@ pub fn boot_table(t: &mut [u64; 641], base: u64, end: u64) -> Outcome
 {
     tables::sized(t);
     if base >= end {
-        return Outcome::Refused(7);
+        return Err(Refusal::WrongLine);
     }
     if end >= 0x800_0000 {
-        return Outcome::Refused(7);
+        return Err(Refusal::WrongLine);
     }
     put_root(t, Line(base as u32), Line(end as u32));
-    Outcome::Done(0, 0)
+    Ok((0, 0))
 }

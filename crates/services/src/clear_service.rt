@@ -9,7 +9,7 @@ ghost use Rattle.services.specs.ClearExits.{Cleared, Zero};
 
 use crate::who::up_from;
 use tables::Outcome;
-use words::Partition;
+use words::{Partition, Refusal};
 
 // Clears the branch of p; how many partitions that were. The record of p goes before its children are walked: whatever the
 // parents are, each call has a present record fewer.
@@ -29,12 +29,10 @@ fn clear_children(t: &mut [u64; 641], p: Partition) -> u64
     ensures { Cleared t.old p.0 (result + 1) t.new }
 {
     let mut n = 0u64;
-    let mut q = 0u32;
-    while q < 16 {
+    for q in 0..16 {
         if searching::is_child(t, p, Partition(q)) {
             n += clear_partition(t, Partition(q));
         }
-        q += 1;
     }
     n
 }
@@ -46,11 +44,11 @@ pub fn clear_out(t: &mut [u64; 641], p: Partition) -> Outcome
 {
     let c = tables::read::first(t).current;
     if !searching::is_child(t, c, p) {
-        return Outcome::Refused(3);
+        return Err(Refusal::WrongPartition);
     }
     let above = up_from(t, c);
     crate::delete_service::ungive(t, c, p);
     let n = clear_partition(t, p);
     settling::gone::settle_named(t, above);
-    Outcome::Done(n, 0)
+    Ok((n, 0))
 }

@@ -7,20 +7,18 @@ ghost use Rattle.rules.specs.Ran.{Ran};
 
 use crate::who::{own_or_child, up_from};
 use tables::Outcome;
-use words::{Partition, Slot};
+use words::{Partition, Refusal, Slot};
 
 // no slot of structure j of p is present
 fn vacant(t: &[u64; 641], p: Partition, j: u32) -> bool
     requires { (p.0 < 16) × (j < 4) }
     ensures { result ≡ vacant (view t.now).k p.0 j }
 {
-    let mut i = 0u32;
-    while i < 8 {
+    for i in 0..8 {
         let f = tables::read::entry(t, p, Slot(8 * j + i));
         if f.present {
             return false;
         }
-        i += 1;
     }
     true
 }
@@ -31,23 +29,23 @@ pub fn collect(t: &mut [u64; 641], p: Partition, j: u32) -> Outcome
     ensures { Ran (collect (view t.old) p.0 j) t.old result t.new }
 {
     if !own_or_child(t, p) {
-        return Outcome::Refused(3);
+        return Err(Refusal::WrongPartition);
     }
     if j >= 4 {
-        return Outcome::Refused(4);
+        return Err(Refusal::NoEntry);
     }
     let f = tables::read::structure(t, p, j);
     if !f.present {
-        return Outcome::Refused(4);
+        return Err(Refusal::NoEntry);
     }
     if !vacant(t, p, j) {
-        return Outcome::Refused(15);
+        return Err(Refusal::InUse);
     }
     if p.0 + j == 0 {
-        return Outcome::Refused(15);
+        return Err(Refusal::InUse);
     }
     let above = up_from(t, p);
     writing::clear_structure(t, p, j);
     settling::gone::settle_named(t, above);
-    Outcome::Done(0, 0)
+    Ok((0, 0))
 }

@@ -8,7 +8,7 @@ ghost use Rattle.services.specs.DeleteExits.{ungive_at, ungiven};
 
 use crate::who::up_from;
 use tables::Outcome;
-use words::{Partition, Slot};
+use words::{Partition, Refusal, Slot};
 
 // slot i of c is given to nobody where it was given to p
 fn ungive_slot(t: &mut [u64; 641], c: Partition, i: Slot, p: Partition)
@@ -19,7 +19,7 @@ fn ungive_slot(t: &mut [u64; 641], c: Partition, i: Slot, p: Partition)
     if !f.present {
         return;
     }
-    if f.given.0 != p.0 {
+    if f.given != p {
         return;
     }
     let nobody = Partition(0);
@@ -33,10 +33,8 @@ pub fn ungive(t: &mut [u64; 641], c: Partition, p: Partition)
     requires { Canon t.old × (c.0 < 16) }
     ensures { Is t.new (ungiven (view t.old) c.0 p.0) }
 {
-    let mut i = 0u32;
-    while i < 32 {
+    for i in 0..32 {
         ungive_slot(t, c, Slot(i), p);
-        i += 1;
     }
 }
 
@@ -47,14 +45,14 @@ pub fn delete(t: &mut [u64; 641], p: Partition) -> Outcome
 {
     let c = tables::read::first(t).current;
     if !searching::is_child(t, c, p) {
-        return Outcome::Refused(3);
+        return Err(Refusal::WrongPartition);
     }
     if searching::has_child(t, p) {
-        return Outcome::Refused(15);
+        return Err(Refusal::InUse);
     }
     let above = up_from(t, c);
     ungive(t, c, p);
     writing::clear_record(t, p);
     settling::gone::settle_named(t, above);
-    Outcome::Done(0, 0)
+    Ok((0, 0))
 }

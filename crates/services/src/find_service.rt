@@ -6,8 +6,8 @@ ghost use Rattle.rules.specs.Rules.{find};
 ghost use Rattle.rules.specs.Ran.{Ran};
 
 use crate::who::own_or_child;
-use tables::{Found, Outcome};
-use words::{Line, Partition};
+use tables::Outcome;
+use words::{Line, Partition, Refusal};
 
 // 12: the slot of p that holds the line, and its word. A right table is settled, so nothing is written.
 pub fn find(t: &[u64; 641], p: Partition, l: Line) -> Outcome
@@ -15,13 +15,10 @@ pub fn find(t: &[u64; 641], p: Partition, l: Line) -> Outcome
     ensures { Ran (find (view t.now) p.0 l.0) t.now result t.now }
 {
     if !own_or_child(t, p) {
-        return Outcome::Refused(3);
+        return Err(Refusal::WrongPartition);
     }
     let looked = searching::holding_slot(t, p, l);
-    let found = looked.found;
-    let Found::At(i) = found else {
-        return Outcome::Refused(7);
-    };
+    let i = looked.found.ok_or(Refusal::WrongLine)?;
     let w = tables::read::entry_word(t, p, i);
-    Outcome::Done(i.0 as u64, w)
+    Ok((i.0 as u64, w))
 }

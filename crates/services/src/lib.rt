@@ -17,6 +17,7 @@ pub mod switch_service;
 pub mod who;
 
 use tables::Outcome;
+use words::Refusal;
 
 // Writes a table anew, whatever it held: the root alone, which has base to end with all rights.
 // Refused: 1 not 641 words; 7 not base < end, or a number above the last line. A refusal changes no word.
@@ -24,11 +25,11 @@ pub fn boot(t: &mut [u64], base: u64, end: u64) -> Outcome
     ensures { Ran (boot_on t.old base end) t.old result t.new }
 {
     if t.len() != 641 {
-        return Outcome::Refused(1);
+        return Err(Refusal::NotSound);
     }
     let mut a = [0u64; 641];
     let booted = boot_service::boot_table(&mut a, base, end);
-    if let Outcome::Done(_, _) = booted {
+    if let Ok((_, _)) = booted {
         tables::copies::copy_out(&a, t);
     }
     booted

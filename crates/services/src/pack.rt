@@ -8,9 +8,9 @@ ghost use Rattle.writing.specs.CanWrite.{CanEntry};
 ghost use Rattle.services.specs.PackExits.{rename_at, renamed, moved_to, CanPack, Turned};
 
 use crate::who::own_or_child;
-use tables::{Found, Outcome};
+use tables::Outcome;
 use words::slot_word::SlotFields;
-use words::{Partition, Slot};
+use words::{Partition, Refusal, Slot};
 
 // region r of p names slot j where it named slot i
 fn rename_region(t: &mut [u64; 641], p: Partition, i: Slot, j: Slot, r: u32)
@@ -22,8 +22,7 @@ fn rename_region(t: &mut [u64; 641], p: Partition, i: Slot, j: Slot, r: u32)
     if !x.loaded {
         return;
     }
-    let named = x.slot;
-    if named.0 != i.0 {
+    if x.slot != i {
         return;
     }
     writing::put_region(t, p, r, j);
@@ -34,10 +33,8 @@ fn rename_regions(t: &mut [u64; 641], p: Partition, i: Slot, j: Slot)
     requires { Canon t.old × (p.0 < 16) × (j.0 < 32) }
     ensures { Is t.new (renamed (view t.old) p.0 i.0 j.0) }
 {
-    let mut r = 0u32;
-    while r < 8 {
+    for r in 0..8 {
         rename_region(t, p, i, j, r);
-        r += 1;
     }
 }
 
@@ -61,7 +58,7 @@ fn pack_slot(t: &mut [u64; 641], p: Partition, i: Slot, moved: u64) -> u64
         return moved;
     }
     let found = searching::free_slot(t, p);
-    let Found::At(j) = found else {
+    let Some(j) = found else {
         return moved;
     };
     if j.0 >= i.0 {
@@ -77,13 +74,11 @@ pub fn pack(t: &mut [u64; 641], p: Partition) -> Outcome
     ensures { Ran (pack (view t.old) p.0) t.old result t.new }
 {
     if !own_or_child(t, p) {
-        return Outcome::Refused(3);
+        return Err(Refusal::WrongPartition);
     }
     let mut moved = 0u64;
-    let mut i = 0u32;
-    while i < 32 {
+    for i in 0..32 {
         moved = pack_slot(t, p, Slot(i), moved);
-        i += 1;
     }
-    Outcome::Done(moved, 0)
+    Ok((moved, 0))
 }

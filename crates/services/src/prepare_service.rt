@@ -6,10 +6,10 @@ ghost use Rattle.rules.specs.Rules.{prepare};
 ghost use Rattle.rules.specs.Ran.{Ran};
 
 use crate::who::{own_or_child, up_from};
-use blocks::pick::{Picked, free_entry};
-use tables::{Outcome, Structure};
+use blocks::pick::free_entry;
+use tables::Outcome;
 use words::structure_word::StructureFields;
-use words::{Partition, Slot};
+use words::{Partition, Refusal, Slot};
 
 // 3: the lowest absent structure of p gets the area of entry s
 pub fn prepare(t: &mut [u64; 641], p: Partition, s: Slot) -> Outcome
@@ -17,32 +17,25 @@ pub fn prepare(t: &mut [u64; 641], p: Partition, s: Slot) -> Outcome
     ensures { Ran (prepare (view t.old) p.0 s.0) t.old result t.new }
 {
     if !own_or_child(t, p) {
-        return Outcome::Refused(3);
+        return Err(Refusal::WrongPartition);
     }
-    match free_entry(t, s) {
-        Picked::Refused(why) => Outcome::Refused(why),
-        Picked::Entry(e) => {
-            let start = e.start;
-            let end = e.end;
-            let which = searching::absent_structure(t, p);
-            let Structure::Index(j) = which else {
-                return Outcome::Refused(8);
-            };
-            if start.0 + 16 > end.0 {
-                return Outcome::Refused(9);
-            }
-            if e.whole {
-                return Outcome::Refused(18);
-            }
-            let above = up_from(t, tables::read::first(t).current);
-            let area = StructureFields {
-                present: true,
-                start,
-                end,
-            };
-            writing::put_structure(t, p, j, area);
-            settling::came::settle_named(t, above, start, end);
-            Outcome::Done(j as u64, 0)
-        }
+    let e = free_entry(t, s)?;
+    let start = e.start;
+    let end = e.end;
+    let j = searching::absent_structure(t, p).ok_or(Refusal::NoneFree)?;
+    if start.0 + 16 > end.0 {
+        return Err(Refusal::TooShort);
     }
+    if e.whole {
+        return Err(Refusal::LentWhole);
+    }
+    let above = up_from(t, tables::read::first(t).current);
+    let area = StructureFields {
+        present: true,
+        start,
+        end,
+    };
+    writing::put_structure(t, p, j, area);
+    settling::came::settle_named(t, above, start, end);
+    Ok((j as u64, 0))
 }

@@ -15,7 +15,7 @@ use shapes::Board;
 use tables::Outcome;
 use tables::regions::with_region;
 use words::regions_word::Region;
-use words::{Partition, Slot};
+use words::{Partition, Refusal, Slot};
 
 // region q of p is not region r, and names slot s
 fn in_another(t: &[u64; 641], p: Partition, s: Slot, r: u32, q: u32) -> bool
@@ -30,8 +30,7 @@ fn in_another(t: &[u64; 641], p: Partition, s: Slot, r: u32, q: u32) -> bool
     if !x.loaded {
         return false;
     }
-    let i = x.slot;
-    i.0 == s.0
+    x.slot == s
 }
 
 // slot s of p is in a region other than r
@@ -39,12 +38,10 @@ fn loaded_elsewhere(t: &[u64; 641], p: Partition, s: Slot, r: u32) -> bool
     requires { p.0 < 16 }
     ensures { result ≡ elsewhere (view t.now) p.0 s.0 r }
 {
-    let mut q = 0u32;
-    while q < 8 {
+    for q in 0..8 {
         if in_another(t, p, s, r, q) {
             return true;
         }
-        q += 1;
     }
     false
 }
@@ -71,26 +68,26 @@ pub fn load(board: Board, t: &mut [u64; 641], p: Partition, s: Slot, r: u32) -> 
     ensures { Ran (load board (view t.old) p.0 s.0 r) t.old result t.new }
 {
     if !own_or_child(t, p) {
-        return Outcome::Refused(3);
+        return Err(Refusal::WrongPartition);
     }
     let f = tables::read::entry(t, p, s);
     if !f.present {
-        return Outcome::Refused(4);
+        return Err(Refusal::NoEntry);
     }
     if !f.opened {
-        return Outcome::Refused(5);
+        return Err(Refusal::NotOpen);
     }
     if r > 7 {
-        return Outcome::Refused(16);
+        return Err(Refusal::WrongRegion);
     }
     if loaded_elsewhere(t, p, s, r) {
-        return Outcome::Refused(16);
+        return Err(Refusal::WrongRegion);
     }
     if pieces_after(board, t, p, s, r) > 8 {
-        return Outcome::Refused(19);
+        return Err(Refusal::ManyPieces);
     }
     writing::put_region(t, p, r, s);
-    Outcome::Done(0, 0)
+    Ok((0, 0))
 }
 
 // 9 with R = 1: region r of p names nothing; a right table stays settled
@@ -99,13 +96,13 @@ pub fn unload(t: &mut [u64; 641], p: Partition, r: u32) -> Outcome
     ensures { Ran (unload (view t.old) p.0 r) t.old result t.new }
 {
     if !own_or_child(t, p) {
-        return Outcome::Refused(3);
+        return Err(Refusal::WrongPartition);
     }
     if r > 7 {
-        return Outcome::Refused(16);
+        return Err(Refusal::WrongRegion);
     }
     writing::clear_region(t, p, r);
-    Outcome::Done(0, 0)
+    Ok((0, 0))
 }
 
 // 11: the word of the slot that region r of p names, or 0. A right table is settled, so nothing is written.
@@ -114,17 +111,17 @@ pub fn read_region(t: &[u64; 641], p: Partition, r: u32) -> Outcome
     ensures { Ran (read_region (view t.now) p.0 r) t.now result t.now }
 {
     if !own_or_child(t, p) {
-        return Outcome::Refused(3);
+        return Err(Refusal::WrongPartition);
     }
     if r > 7 {
-        return Outcome::Refused(16);
+        return Err(Refusal::WrongRegion);
     }
     let f = tables::read::regions(t, p);
     let x = tables::regions::nth(f, r);
     if !x.loaded {
-        return Outcome::Done(0, 0);
+        return Ok((0, 0));
     }
     let i = x.slot;
     let w = tables::read::entry_word(t, p, i);
-    Outcome::Done(0, w)
+    Ok((0, w))
 }

@@ -7,7 +7,7 @@ ghost use Rattle.rules.specs.Ran.{Ran};
 
 use crate::who::parent_or_child;
 use tables::Outcome;
-use words::Partition;
+use words::{Partition, Refusal};
 
 // 13: p is the caller from now on; a right table stays settled
 pub fn switch(t: &mut [u64; 641], p: Partition) -> Outcome
@@ -15,8 +15,8 @@ pub fn switch(t: &mut [u64; 641], p: Partition) -> Outcome
     ensures { Ran (switch (view t.old) p.0) t.old result t.new }
 {
     if !parent_or_child(t, p) {
-        return Outcome::Refused(3);
+        return Err(Refusal::WrongPartition);
     }
     writing::put_current(t, p);
-    Outcome::Done(0, 0)
+    Ok((0, 0))
 }

@@ -12,7 +12,7 @@ pub fn own_or_child(t: &[u64; 641], p: Partition) -> bool
     ensures { result ≡ own_or_child (view t.now).k p.0 }
 {
     let f = tables::read::first(t);
-    if p.0 == f.current.0 {
+    if p == f.current {
         return true;
     }
     searching::is_child(t, f.current, p)
@@ -28,7 +28,7 @@ pub fn parent_or_child(t: &[u64; 641], p: Partition) -> bool
         return searching::is_child(t, f.current, p);
     }
     let h = tables::read::header(t, f.current);
-    if p.0 == h.parent.0 {
+    if p == h.parent {
         return true;
     }
     searching::is_child(t, f.current, p)
@@ -41,15 +41,13 @@ pub fn up_from(t: &[u64; 641], p: Partition) -> u32
 {
     let mut mask = 1u32;
     let mut q = p.0;
-    let mut left = 15u32;
-    while left > 0 {
+    for _ in 0..15u32 {
         if q == 0 {
             return mask;
         }
         let h = tables::read::header(t, Partition(q));
         mask = mask | one_partition(Partition(q));
         q = h.parent.0;
-        left -= 1;
     }
     mask
 }

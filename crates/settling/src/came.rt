@@ -6,7 +6,7 @@ ghost use Rattle.settling.specs.Settled.{Came, FixedBut, SlotDone, RecordDone};
 
 use crate::{settle_regions, used_slots};
 use tables::{read, store};
-use words::{Line, Partition, Slot};
+use words::{Line, Packed, Partition, Slot};
 
 // An open entry in slot i of p that shares a line with lo to hi is closed, and no region is left on it.
 fn close_slot(t: &mut [u64; 641], p: Partition, i: Slot, lo: Line, hi: Line)
@@ -26,7 +26,7 @@ fn close_slot(t: &mut [u64; 641], p: Partition, i: Slot, lo: Line, hi: Line)
     let mut g = f;
     g.opened = false;
     let at = (9 + 40 * p.0 + i.0) as usize;
-    store(t, at, tablewords::slot_word::write(g));
+    store(t, at, g.write());
     settle_regions(t, p);
 }
 
@@ -36,10 +36,8 @@ fn close_slots(t: &mut [u64; 641], p: Partition, lo: Line, hi: Line)
     ensures { RecordDone (Came lo.0 hi.0) p.0 t.old t.new }
 {
     let n = used_slots(t, p);
-    let mut i = 0u32;
-    while i < n {
+    for i in 0..n {
         close_slot(t, p, Slot(i), lo, hi);
-        i += 1;
     }
 }
 
@@ -49,14 +47,10 @@ pub fn settle_named(t: &mut [u64; 641], mask: u32, lo: Line, hi: Line)
     requires { Canon t.old × Came lo.0 hi.0 (view t.old) × FixedBut mask t.old }
     ensures { t.new ≡ encode (settled (view t.old)) }
 {
-    let mut p = 0u32;
-    let mut rest = mask;
-    while rest > 0 {
-        if rest % 2 == 1 {
+    for p in 0..16 {
+        if (mask >> p) % 2 == 1 {
             close_slots(t, Partition(p), lo, hi);
         }
-        rest = rest / 2;
-        p += 1;
     }
 }
 

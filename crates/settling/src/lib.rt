@@ -14,22 +14,20 @@ pub mod gone;
 
 use tables::{read, store};
 use words::regions_word::{Region, RegionsFields};
-use words::{Partition, Slot};
+use words::{Packed, Partition, Slot};
 
 // So many slots of p can be in use: those up to the end of its last structure. An absent partition has none.
 pub fn used_slots(t: &[u64; 641], p: Partition) -> u32
     requires { p.0 < 16 }
     ensures { UsedEnd (view t.now).k p.0 result }
 {
-    let mut j = 4u32;
-    while j > 0 {
-        let s = read::structure(t, p, j - 1);
+    for j in (0..4).rev() {
+        let s = read::structure(t, p, j);
         if s.present {
-            return 8 * j;
+            return 8 * (j + 1);
         }
-        j -= 1;
     }
-    8 * j
+    0
 }
 
 // a region stays loaded where its slot is open, which an absent slot never is
@@ -74,5 +72,5 @@ pub fn settle_regions(t: &mut [u64; 641], p: Partition)
     ensures { Is t.new (keep_regions (view t.old) p.0) }
 {
     let at = (6 + 40 * p.0) as usize;
-    store(t, at, regionwords::regions_word::write(kept_regions(t, p)));
+    store(t, at, kept_regions(t, p).write());
 }

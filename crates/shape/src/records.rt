@@ -7,9 +7,8 @@ ghost use Rattle.sound.specs.Clauses.{is_nowhere, s1, s2_root, s2, blank_region,
 ghost use Rattle.shape.specs.Records.{area_test, header_test, structure_test, slots_test, HasStructure};
 
 use crate::is_rooted;
-use regionwords::regions_word::{first_region, later_regions};
 use tables::zeros;
-use words::regions_word::Region;
+use words::regions_word::{Region, first_region, later_regions};
 use words::{Line, Partition, Slot};
 
 // S1, and S3 of word 0
@@ -121,12 +120,10 @@ pub fn structures_sound(t: &[u64; 641], p: Partition) -> bool
     requires { p.0 < 16 }
     ensures { result ≡ all 4 (structure_test t.now (view t.now).k p.0) }
 {
-    let mut j = 0u32;
-    while j < 4 {
+    for j in 0..4 {
         if !structure_sound(t, p, j) {
             return false;
         }
-        j += 1;
     }
     true
 }
@@ -186,12 +183,10 @@ fn eight_sound(t: &[u64; 641], p: Partition, j: u32) -> bool
     requires { (p.0 < 16) × (j < 4) × HasStructure t.now p.0 j }
     ensures { result ≡ slots_test t.now (view t.now).k p.0 j }
 {
-    let mut o = 0u32;
-    while o < 8 {
+    for o in 0..8 {
         if !slot_sound(t, p, Slot(8 * j + o)) {
             return false;
         }
-        o += 1;
     }
     true
 }
@@ -213,12 +208,10 @@ pub fn slots_sound(t: &[u64; 641], p: Partition) -> bool
     requires { p.0 < 16 }
     ensures { result ≡ all 32 (s5_slot t.now (view t.now).k p.0) }
 {
-    let mut j = 0u32;
-    while j < 4 {
+    for j in 0..4 {
         if !structure_slots(t, p, j) {
             return false;
         }
-        j += 1;
     }
     true
 }

@@ -67,7 +67,7 @@ fn piece_word(start: u32, lines: u32) -> u64
     start as u64 * 0x1_0000_0000 + lines as u64
 }
 
-// The largest piece at start, then the largest at its end, and so on.
+// The largest piece at start, then the largest at its end, and so on: how many there are is known only at the end, so no range counts them.
 fn write_shaped(start: u32, end: u32, list: &mut [u64]) -> usize
     requires { CanList V7 start end list.old }
     ensures { ShapesListed (pieces_for V7 start end) list.old result list.new }

@@ -1,11 +1,12 @@
-ghost use Rattle.std.specs.Prelude.{◌≡◌, ◌||◌, ◌<◌, eqb};
+ghost use Rattle.std.specs.Prelude.{◌≡◌, ◌<◌};
 ghost use Rattle.tables.specs.View.{view};
 ghost use Rattle.tables.specs.Search.{lowest, absent_child};
 ghost use Rattle.rules.specs.Changes.{next_in};
-ghost use Rattle.sheet.specs.Touched.{touched_of_caller, touched, Named};
+ghost use Rattle.sheet.specs.Touched.{touched, Named};
 
-use tables::Which;
-use words::{Partition, Slot};
+use rules::Service;
+use words::call_word::CallFields;
+use words::{Packed, Partition};
 
 // Whose two words a call can change: one partition's; those of p and of all above it; of who is gone, and of the caller and all above it.
 #[derive(Clone, Copy)]
@@ -20,59 +21,25 @@ pub enum Whose {
 fn next_child(t: &[u64; 641]) -> Partition
     ensures { (result.0 ≡ next_in (lowest 16 (absent_child (view t.now).k))) × (result.0 < 16) }
 {
-    let found = searching::absent_partition(t);
-    match found {
-        Which::Number(n) => n,
-        Which::Nobody => Partition(0),
-    }
-}
-
-// n is one of two numbers
-fn is_either(n: u32, a: u32, b: u32) -> bool
-    ensures { result ≡ eqb n a || eqb n b }
-{
-    if n == a {
-        return true;
-    }
-    n == b
-}
-
-// .. whose words a service changes that names no partition
-fn touched_of_caller(t: &[u64; 641], service: u32, i: Slot) -> Whose
-    requires { i.0 < 32 }
-    ensures { (result ≡ touched_of_caller service (view t.now).k i.0) × Named result }
-{
-    if service == 1 {
-        let child = next_child(t);
-        return Whose::Up(child);
-    }
-    let first = tables::read::first(t);
-    let caller = first.current;
-    if service == 6 {
-        let child = searching::given_to(t, caller, i);
-        return Whose::One(child);
-    }
-    if is_either(service, 7, 8) {
-        return Whose::One(caller);
-    }
-    Whose::Nobody
+    searching::absent_partition(t).unwrap_or(Partition(0))
 }
 
 // Whose two words a call of the word changes at most, of this table.
 pub fn touched(t: &[u64; 641], word: u64) -> Whose
     ensures { (result ≡ touched (view t.now).k word) × Named result }
 {
-    let f = otherwords::call_word::fields(word);
-    let service = f.service;
-    let named = f.partition;
-    if is_either(service, 2, 14) {
-        return Whose::Gone;
+    let f = CallFields::fields(word);
+    let Ok(service) = Service::try_from(f.service) else {
+        return Whose::Nobody;
+    };
+    let caller = tables::read::first(t).current;
+    match service {
+        Service::Create => Whose::Up(next_child(t)),
+        Service::Delete | Service::ClearOut => Whose::Gone,
+        Service::Prepare | Service::Collect => Whose::Up(f.partition),
+        Service::Give | Service::Pack => Whose::One(f.partition),
+        Service::Take => Whose::One(searching::given_to(t, caller, f.slot)),
+        Service::Cut | Service::Merge => Whose::One(caller),
+        Service::Region | Service::ReadRegion | Service::Find | Service::Switch => Whose::Nobody,
     }
-    if is_either(service, 3, 4) {
-        return Whose::Up(named);
-    }
-    if is_either(service, 5, 15) {
-        return Whose::One(named);
-    }
-    touched_of_caller(t, service, f.slot)
 }

@@ -10,7 +10,8 @@ ghost use Rattle.sheet.specs.declared.calls.Whose.TheVariants.{Gone};
 
 use crate::calls::Whose;
 use summing::pairs;
-use words::Partition;
+use words::masks_word::MasksFields;
+use words::{Packed, Partition};
 
 // Puts the two words of p afresh; its children stay as the sheet has them.
 fn put_again(t: &[u64; 641], p: Partition, sheet: &mut [u8])
@@ -18,7 +19,7 @@ fn put_again(t: &[u64; 641], p: Partition, sheet: &mut [u8])
     ensures { sheet.new ≡ kept_pair (view t.now) p.0 sheet.old }
 {
     let at = (16 * p.0) as usize;
-    let old = otherwords::masks_word::fields(memory::word(sheet, at));
+    let old = MasksFields::fields(memory::word(sheet, at));
     crate::put_pair(t, p, old.children, sheet);
 }
 
@@ -28,8 +29,7 @@ fn climb_pairs(t: &[u64; 641], masks: &[u32; 16], p: Partition, sheet: &mut [u8]
     ensures { sheet.new ≡ put_those (above (view t.now).k p.0) (view t.now) sheet.old }
 {
     let mut q = p.0;
-    let mut left = 16u32;
-    while left > 0 {
+    for _ in 0..16u32 {
         let children = pairs::mask_of(masks, Partition(q));
         crate::put_pair(t, Partition(q), children, sheet);
         if q == 0 {
@@ -37,7 +37,6 @@ fn climb_pairs(t: &[u64; 641], masks: &[u32; 16], p: Partition, sheet: &mut [u8]
         }
         let h = tables::read::header(t, Partition(q));
         q = h.parent.0;
-        left -= 1;
     }
 }
 
@@ -66,12 +65,10 @@ fn zero_absent(t: &[u64; 641], sheet: &mut [u8])
     requires { length sheet.old ≡ 256 }
     ensures { sheet.new ≡ put_those (absent (view t.now).k) (view t.now) sheet.old }
 {
-    let mut p = 0u32;
-    while p < 16 {
+    for p in 0..16 {
         if !searching::is_present(t, Partition(p)) {
             zero_pair(p, sheet);
         }
-        p += 1;
     }
 }
 

@@ -30,11 +30,9 @@ fn put_pairs(t: &[u64; 641], masks: &[u32; 16], sheet: &mut [u8])
     requires { ChildrenTo (view t.now).k 16 masks.now × (length sheet.old ≡ 256) × Right (view t.now) }
     ensures { sheet.new ≡ sheet_bytes (sheet_of (view t.now)) }
 {
-    let mut p = 0u32;
-    while p < 16 {
+    for p in 0..16 {
         let children = pairs::mask_of(masks, Partition(p));
         put_pair(t, Partition(p), children, sheet);
-        p += 1;
     }
 }
 

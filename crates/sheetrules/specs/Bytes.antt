@@ -3,7 +3,7 @@ use Rattle.std.specs.Prelude.{Bool, cond, ◌&&◌, List, [], ℕ, ◌+◌, ◌*
 use Rattle.loops.specs.Loops.{tab}
 use Rattle.memory.specs.Bytes.{word_at, byte_of, put_word}
 use Rattle.tables.specs.State.{Table}
-use Rattle.rules.specs.Rules.{Result, done, refused}
+use Rattle.rules.specs.Rules.{Effect, done, refused}
 use Rattle.sheetrules.specs.Sheet.{masks_word, lines_word, sheet_of}
 
 -- the words that are handed over as bytes; another number of bytes is no sheet
@@ -15,9 +15,9 @@ unfoldable pub sheet_bytes : List ℕ → List ℕ
 sheet_bytes s = tab 256 (byte_of s)
 
 -- the bytes after a boot or a call: those of the sheet after it, or, refused, as they were
-unfoldable pub sheet_bytes_after : List ℕ → Result → List ℕ
+unfoldable pub sheet_bytes_after : List ℕ → Effect → List ℕ
 sheet_bytes_after b (done v w t) = sheet_bytes (sheet_of t)
-sheet_bytes_after b (refused n) = b
+sheet_bytes_after b (refused why) = b
 
 -- x and y are the words of p in the bytes b
 unfoldable pub pair_is : List ℕ → ℕ → ℕ → ℕ → Bool

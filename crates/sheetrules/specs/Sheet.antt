@@ -10,7 +10,8 @@ use Rattle.tables.specs.State.{Opt, none, some, Entry, K, Table}
 use Rattle.tables.specs.View.{view}
 use Rattle.tables.specs.Search.{is_some, present, child}
 use Rattle.sound.specs.Clauses.{sound}
-use Rattle.rules.specs.Rules.{Result, check, serve_read, boot_on}
+use Rattle.rules.specs.Rules.{Effect, check, serve_read, boot_on}
+use Rattle.words.specs.declared.Refusal.TheVariants.{NotSound, WrongSheet}
 
 -- ── what the sheet says of partition p ──
 -- slot i of p is occupied; structure j of p is present
@@ -67,9 +68,9 @@ unfoldable pub matches : List ℕ → Table → Bool
 matches s t = eqb (length s) 32 && all 32 (λ n. eqb (get_or s n 0) (sheet_word t n))
 
 -- a call of word w on the words l beside the sheet s: "20, next after 1"
-unfoldable pub call_sheet_on : Board → List ℕ → List ℕ → ℕ → Result
-call_sheet_on b l s w = check 1 (sound b l) (check 20 (matches s (view l)) (serve_read b (view l) (reading call w)))
+unfoldable pub call_sheet_on : Board → List ℕ → List ℕ → ℕ → Effect
+call_sheet_on b l s w = check NotSound (sound b l) (check WrongSheet (matches s (view l)) (serve_read b (view l) (reading call w)))
 
 -- a boot: "from any content", so of the sheet only its length counts
-unfoldable pub boot_sheet_on : List ℕ → List ℕ → ℕ → ℕ → Result
-boot_sheet_on l s base end = check 1 (eqb (length l) 641) (check 20 (eqb (length s) 32) (boot_on l base end))
+unfoldable pub boot_sheet_on : List ℕ → List ℕ → ℕ → ℕ → Effect
+boot_sheet_on l s base end = check NotSound (eqb (length l) 641) (check WrongSheet (eqb (length s) 32) (boot_on l base end))

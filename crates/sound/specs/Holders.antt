@@ -1,13 +1,13 @@
 -- Who holds a line: root first, each the parent of the next.
-use Rattle.std.specs.Prelude.{◌≡◌, Bool, cond, ◌&&◌, List, [], ◌∷◌, length, leb, ltb, eqb, ℕ, zero, suc, ◌+◌}
+use Rattle.std.specs.Prelude.{◌≡◌, Bool, cond, ◌&&◌, List, [], ◌∷◌, length, leb, ltb, eqb, ℕ, zero, suc, ◌+◌, Ok, Err}
 use Rattle.shapes.specs.declared.Board.{Board}
 use Rattle.tables.specs.State.{Opt, none, some, Entry, K}
 use Rattle.tables.specs.View.{view}
 use Rattle.tables.specs.Search.{look_for}
 use Rattle.tables.specs.WayUp.{way_up, names_over}
-use Rattle.tables.specs.declared.Outcome.{Outcome}
-use Rattle.tables.specs.declared.Outcome.TheVariants.{Done, Refused}
 use Rattle.sound.specs.Clauses.{sound}
+use Rattle.tables.specs.Outcomes.{Outcome}
+use Rattle.words.specs.declared.Refusal.TheVariants.{NotSound, WrongLine, ShortList}
 
 -- whom an entry is given to; 0 is nobody
 unfoldable pub receiver : Opt Entry → ℕ
@@ -49,7 +49,7 @@ in_memory k l = leb k.base l && ltb l k.stop
 
 unfoldable pub holders_outcome : Board → List ℕ → ℕ → ℕ → Outcome
 holders_outcome b t l size =
-    cond (sound b t) (cond (in_memory (view t).k l) (cond (leb 16 size) (Done (length (holders_of (view t).k l)) (looks_of (view t).k l)) (Refused 17)) (Refused 7)) (Refused 1)
+    cond (sound b t) (cond (in_memory (view t).k l) (cond (leb 16 size) (Ok ((length (holders_of (view t).k l)), (looks_of (view t).k l))) (Err ShortList)) (Err WrongLine)) (Err NotSound)
 
 unfoldable pub holders_bytes : Board → List ℕ → ℕ → List ℕ → List ℕ
 holders_bytes b t l bytes =
@@ -57,7 +57,7 @@ holders_bytes b t l bytes =
 
 -- the holders of line l, written
 pub record Writes (k : K) (l : ℕ) (before : List ℕ) (r : Outcome) (after : List ℕ) : Type 0 where
-  pub outcome : r ≡ Done (length (holders_of k l)) (looks_of k l)
+  pub outcome : r ≡ Ok ((length (holders_of k l)), (looks_of k l))
   pub bytes : after ≡ names_over (holders_of k l) before
 
 -- what holders promises: its outcome, and every byte of the list

@@ -1,22 +1,21 @@
 -- What the walk over the slots of a partition has gathered, from the last slot down, and the walk over the headers; and the two words that come of it.
-use Rattle.std.specs.Prelude.{◌≡◌, cond, List, ℕ, ◌+◌, ◌*◌, ◌≤◌, ◌<◌, length, get_or}
+use Rattle.std.specs.Prelude.{◌≡◌, cond, List, ℕ, ◌+◌, ◌*◌, ◌≤◌, ◌<◌, length, get_or, Result, Ok, Err}
 use Rattle.loops.specs.Loops.{sum, map_of}
 use Rattle.loops.specs.Laws.Map.{Mapping}
 use Rattle.words.specs.Kind.{word_of}
 use Rattle.words.specs.Words.{masks}
-use Rattle.words.specs.declared.Written.{Written}
-use Rattle.words.specs.declared.Written.TheVariants.{Word, Refused}
 use Rattle.tables.specs.State.{some, Entry, K, Table}
 use Rattle.tables.specs.Search.{present, child}
 use Rattle.sound.specs.Whole.{Right}
 use Rattle.sheetrules.specs.Sheet.{occupied, structured, held_at, opened_at, lines_word}
 use Rattle.summing.specs.declared.sums.Sums.{Sums}
 use Rattle.summing.specs.declared.pairs.Pair.{Pair}
+use Rattle.words.specs.declared.Refusal.{Refusal}
 
 -- the word that was written
-abbrev pub word_in : Written → ℕ
-word_in (Word w) = w
-word_in (Refused n) = 0
+abbrev pub word_in : Result ℕ Refusal → ℕ
+word_in (Ok w) = w
+word_in (Err why) = 0
 
 -- At i, x is the sum of f from i up to 32, and at most a line less than 2^27 each was added.
 pub record Ending (f : ℕ → ℕ) (i x : ℕ) : Type 0 where

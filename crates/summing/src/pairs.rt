@@ -9,7 +9,7 @@ ghost use Rattle.summing.specs.Sums.{masks_with, word_in, Adding, mask_of, Child
 use crate::sums::Sums;
 use words::lines_word::LinesFields;
 use words::masks_word::MasksFields;
-use words::{Partition, Written};
+use words::{Packed, Partition, Refusal};
 
 // The two words of a partition.
 #[derive(Clone, Copy)]
@@ -40,11 +40,9 @@ pub fn children(t: &[u64; 641], masks: &mut [u32; 16])
     ensures { ChildrenTo (view t.now).k 16 masks.new }
 {
     let mut bit = 1u32;
-    let mut c = 0u32;
-    while c < 16 {
+    for c in 0..16 {
         note_child(t, Partition(c), bit, masks);
         bit = 2 * bit;
-        c += 1;
     }
 }
 
@@ -72,22 +70,17 @@ fn structures(t: &[u64; 641], p: Partition) -> u32
     ensures { result ≡ map_of 4 (structured (view t.now).k p.0) }
 {
     let mut mask = 0u32;
-    let mut j = 4u32;
-    while j > 0 {
-        mask = 2 * mask + structure_bit(t, p, j - 1);
-        j -= 1;
+    for j in (0..4).rev() {
+        mask = 2 * mask + structure_bit(t, p, j);
     }
     mask
 }
 
 // The word; a refusal, which no caller meets, is none.
-fn word_in(w: Written) -> u64
+fn word_in(w: Result<u64, Refusal>) -> u64
     ensures { result ≡ word_in w }
 {
-    match w {
-        Written::Word(x) => x,
-        Written::Refused(_) => 0,
-    }
+    w.unwrap_or(0)
 }
 
 // The two words of p, which is present, from what was gathered of its slots and the mask of its children.
@@ -95,15 +88,17 @@ pub fn words_from(t: &[u64; 641], p: Partition, children: u32, x: Sums) -> Pair
     requires { (p.0 < 16) × (children < 2 ^ 16) × (present (view t.now).k p.0 ≡ true) × Adding (view t.now) p.0 0 x }
     ensures { WordsIfRight (view t.now) p.0 children result }
 {
-    let masks = otherwords::masks_word::write(MasksFields {
+    let masks = MasksFields {
         children,
         slots: x.slots,
         structures: structures(t, p),
-    });
-    let lines = otherwords::lines_word::write(LinesFields {
+    }
+    .write();
+    let lines = LinesFields {
         held: x.held,
         opened: x.opened,
-    });
+    }
+    .write();
     Pair {
         masks: word_in(masks),
         lines: word_in(lines),

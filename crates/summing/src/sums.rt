@@ -35,12 +35,12 @@ fn open_lines(f: SlotFields) -> u32
     lines(f)
 }
 
-// Slots from i on are in; slot i - 1 joins them. Most slots have no entry, which one test tells.
-pub fn add_slot(t: &[u64; 641], p: Partition, i: u32, x: Sums) -> Sums
-    requires { (p.0 < 16) × (0 < i) × Adding (view t.now) p.0 i x × Ranged (view t.now) p.0 (i - 1) }
-    ensures { Adding (view t.now) p.0 (i - 1) result }
+// The slots above s are in; s joins them. Most slots have no entry, which one test tells.
+pub fn add_slot(t: &[u64; 641], p: Partition, s: Slot, x: Sums) -> Sums
+    requires { (p.0 < 16) × Adding (view t.now) p.0 (s.0 + 1) x × Ranged (view t.now) p.0 s.0 }
+    ensures { Adding (view t.now) p.0 s.0 result }
 {
-    let f = read::entry(t, p, Slot(i - 1));
+    let f = read::entry(t, p, s);
     let slots = 2 * x.slots;
     if !f.present {
         return Sums {
@@ -70,10 +70,8 @@ fn add_structure(t: &[u64; 641], p: Partition, j: u32, x: Sums) -> Sums
         };
     }
     let mut sums = x;
-    let mut i = 8 * j + 8;
-    while i > 8 * j {
-        sums = add_slot(t, p, i, sums);
-        i -= 1;
+    for i in (8 * j..8 * j + 8).rev() {
+        sums = add_slot(t, p, Slot(i), sums);
     }
     sums
 }
@@ -88,10 +86,8 @@ pub fn gather(t: &[u64; 641], p: Partition) -> Sums
         held: 0,
         opened: 0,
     };
-    let mut j = 4u32;
-    while j > 0 {
-        x = add_structure(t, p, j - 1, x);
-        j -= 1;
+    for j in (0..4).rev() {
+        x = add_structure(t, p, j, x);
     }
     x
 }

@@ -8,13 +8,13 @@ use words::header_word::HeaderFields;
 use words::regions_word::RegionsFields;
 use words::slot_word::SlotFields;
 use words::structure_word::StructureFields;
-use words::{Partition, Slot};
+use words::{Packed, Partition, Slot};
 
 // base, end and current
 pub fn first(t: &[u64; 641]) -> FirstFields
     ensures { SeenFirst t.now result }
 {
-    tablewords::first_word::fields(t[0])
+    FirstFields::fields(t[0])
 }
 
 pub fn header(t: &[u64; 641], p: Partition) -> HeaderFields
@@ -22,7 +22,7 @@ pub fn header(t: &[u64; 641], p: Partition) -> HeaderFields
     ensures { SeenHeader t.now p.0 result }
 {
     let at = (1 + 40 * p.0) as usize;
-    tablewords::header_word::fields(t[at])
+    HeaderFields::fields(t[at])
 }
 
 pub fn structure(t: &[u64; 641], p: Partition, j: u32) -> StructureFields
@@ -30,7 +30,7 @@ pub fn structure(t: &[u64; 641], p: Partition, j: u32) -> StructureFields
     ensures { SeenStructure t.now p.0 j result }
 {
     let at = (2 + 40 * p.0 + j) as usize;
-    tablewords::structure_word::fields(t[at])
+    StructureFields::fields(t[at])
 }
 
 pub fn regions(t: &[u64; 641], p: Partition) -> RegionsFields
@@ -38,7 +38,7 @@ pub fn regions(t: &[u64; 641], p: Partition) -> RegionsFields
     ensures { SeenRegions t.now p.0 result }
 {
     let at = (6 + 40 * p.0) as usize;
-    regionwords::regions_word::fields(t[at])
+    RegionsFields::fields(t[at])
 }
 
 // their word, for who walks it to where none is left
@@ -55,7 +55,7 @@ pub fn entry(t: &[u64; 641], p: Partition, i: Slot) -> SlotFields
     ensures { Seen t.now p.0 i.0 result }
 {
     let at = (9 + 40 * p.0 + i.0) as usize;
-    tablewords::slot_word::fields(t[at])
+    SlotFields::fields(t[at])
 }
 
 // the word of a slot, as find and read region answer it

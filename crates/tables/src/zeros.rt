@@ -5,7 +5,11 @@ ghost use Rattle.words.specs.Words.{first, header, structure, regions};
 ghost use Rattle.tables.specs.View.{first_word, record_word, area_word_at, regions_word_at, slot_word_at};
 ghost use Rattle.tables.specs.ZeroRecord.{zero_blanks};
 
-use words::{Partition, Slot};
+use words::first_word::FirstFields;
+use words::header_word::HeaderFields;
+use words::regions_word::no_zero_bit;
+use words::structure_word::StructureFields;
+use words::{Packed, Partition, Slot};
 
 // What soundness asks of words beside their fields: that no zero bit is set (a slot has none), or that the whole word is zero.
 
@@ -22,7 +26,7 @@ fn word(t: &[u64; 641], p: Partition, o: u32) -> u64
 pub fn first_bits(t: &[u64; 641]) -> bool
     ensures { result ≡ zeroed first (first_word t.now) }
 {
-    tablewords::first_word::zero_bits(t[0]) == 0
+    FirstFields::zero_bits(t[0]) == 0
 }
 
 // .. in that of p's header
@@ -30,7 +34,7 @@ pub fn header_bits(t: &[u64; 641], p: Partition) -> bool
     requires { p.0 < 16 }
     ensures { result ≡ zeroed header (area_word_at t.now p.0 0) }
 {
-    tablewords::header_word::zero_bits(word(t, p, 0)) == 0
+    HeaderFields::zero_bits(word(t, p, 0)) == 0
 }
 
 // .. in that of structure j
@@ -38,7 +42,7 @@ pub fn structure_bits(t: &[u64; 641], p: Partition, j: u32) -> bool
     requires { (p.0 < 16) × (j < 4) }
     ensures { result ≡ zeroed structure (area_word_at t.now p.0 (1 + j)) }
 {
-    tablewords::structure_word::zero_bits(word(t, p, 1 + j)) == 0
+    StructureFields::zero_bits(word(t, p, 1 + j)) == 0
 }
 
 // .. in that of the regions
@@ -46,7 +50,7 @@ pub fn regions_bits(t: &[u64; 641], p: Partition) -> bool
     requires { p.0 < 16 }
     ensures { result ≡ zeroed regions (regions_word_at t.now p.0) }
 {
-    regionwords::regions_word::no_zero_bit(word(t, p, 5))
+    no_zero_bit(word(t, p, 5))
 }
 
 // the word of structure j is zero
@@ -80,10 +84,8 @@ pub fn slot_words(t: &[u64; 641], p: Partition, j: u32) -> bool
 {
     let at = (9 + 40 * p.0 + 8 * j) as usize;
     let mut x = 0u64;
-    let mut o = 0usize;
-    while o < 8 {
+    for o in 0..8 {
         x |= t[at + o];
-        o += 1;
     }
     x == 0
 }

@@ -1,5 +1,5 @@
 -- The verdict clause by clause: what each stage of the code finds.
-use Rattle.std.specs.Prelude.{◌≡◌, Bool, true, cond, List, ℕ, ◌≤◌, ◌<◌, ltb}
+use Rattle.std.specs.Prelude.{◌≡◌, Bool, true, List, ℕ, ◌≤◌, ◌<◌, Option, Some, None}
 use Rattle.std.specs.Bool.{beq}
 use Rattle.loops.specs.Loops.{seek}
 use Rattle.shapes.specs.declared.Board.{Board}
@@ -7,21 +7,17 @@ use Rattle.tables.specs.State.{Table}
 use Rattle.tables.specs.View.{view}
 use Rattle.tables.specs.Search.{present}
 use Rattle.tables.specs.Settle.{open_at}
+use Rattle.settling.specs.declared.areas.Areas.{Areas}
 use Rattle.settling.specs.Areas.{AreasOf}
 use Rattle.sound.specs.Sound.{Lower}
 use Rattle.sound.specs.Clauses.{s7}
 use Rattle.ordering.specs.Order.{Orders}
 use Rattle.decide.specs.Local.{grants_open}
-use Rattle.verdict.specs.declared.Verdict.{Verdict}
-use Rattle.verdict.specs.declared.Verdict.TheVariants.{Accepted}
-use Rattle.verdict.specs.Verdict.{fails_at, failing}
+use Rattle.verdict.specs.Verdict.{fails_at}
 
--- the lowest of the first n tests that fails; n where none does
-unfoldable pub lowest_of : Board → List ℕ → ℕ → ℕ
-lowest_of b l n = seek (fails_at b l) (λ m. m) n n
-
-unfoldable pub said_of : ℕ → Verdict
-said_of m = cond (ltb m 176) (failing m) Accepted
+-- the lowest of the first n tests that fails, if one does
+unfoldable pub lowest_of : Board → List ℕ → ℕ → Option ℕ
+lowest_of b l n = seek (fails_at b l) (λ m. Some m) None n
 
 -- clause n is looked at: those below it hold at every partition
 pub record Reached (b : Board) (l : List ℕ) (n : ℕ) : Type 0 where
@@ -29,11 +25,11 @@ pub record Reached (b : Board) (l : List ℕ) (n : ℕ) : Type 0 where
   pub to : n < 12
   pub lower : Lower b l n
 
--- S1 to S6 hold; the entries of each partition stand in order in o, and the areas of the table in s and e
-pub record Sorted (b : Board) (l o c : List ℕ) (n : ℕ) (s e : List ℕ) : Type 0 where
+-- S1 to S6 hold; the entries of each partition stand in order in o, and the areas of the table in g
+pub record Sorted (b : Board) (l o c : List ℕ) (g : Areas) : Type 0 where
   pub reached : Reached b l 7
   pub orders : Orders (view l).k o c
-  pub areas : AreasOf (view l).k n s e
+  pub areas : AreasOf (view l).k g
 
 -- ── S9 and S11 of one partition ──
 -- slot i of p is open exactly as S9 says

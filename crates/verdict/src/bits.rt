@@ -13,12 +13,10 @@ fn structures_clean(t: &[u64; 641], p: Partition) -> bool
     requires { p.0 < 16 }
     ensures { result ≡ all 4 (λ j. zeroed structure (area_word_at t.now p.0 (1 + j))) }
 {
-    let mut j = 0u32;
-    while j < 4 {
+    for j in 0..4 {
         if !zeros::structure_bits(t, p, j) {
             return false;
         }
-        j += 1;
     }
     true
 }

@@ -38,11 +38,11 @@ fn apart_at(t: &[u64; 641], p: Partition) -> bool
     requires { (p.0 < 16) × Shaped t.now }
     ensures { result ≡ s6 (view t.now).k p.0 }
 {
-    let mut order = [0u8; 512];
-    ordering::arrange::arrange_record(t, p, &mut order) <= 32
+    let mut slots = [0u8; 512];
+    ordering::arrange::arrange_record(t, p, &mut slots).is_some()
 }
 
-// Clause n at p, of S1 to S6; the clauses below it hold.
+// Clause n at p, of S1 to S6; the clauses below it hold. No closures: its number is part of the answer, and each clause takes other arguments.
 fn holds(board: Board, t: &[u64; 641], n: u32, p: Partition) -> bool
     requires { (p.0 < 16) × (n < 7) × Reached board t.now n }
     ensures { result ≡ clause_at board t.now n p.0 }
@@ -65,16 +65,14 @@ fn holds(board: Board, t: &[u64; 641], n: u32, p: Partition) -> bool
     apart_at(t, p)
 }
 
-// The lowest of these tests that fails; 96 where none does.
-pub fn lowest(board: Board, t: &[u64; 641]) -> u32
+// The lowest of the first 96 tests that fails.
+pub fn lowest(board: Board, t: &[u64; 641]) -> Option<u32>
     ensures { result ≡ lowest_of board t.now 96 }
 {
-    let mut m = 0u32;
-    while m < 96 {
+    for m in 0..96 {
         if !holds(board, t, 1 + m / 16, Partition(m % 16)) {
-            return m;
+            return Some(m);
         }
-        m += 1;
     }
-    m
+    None
 }

@@ -7,13 +7,14 @@ ghost use Rattle.ordering.specs.Order.{Orders};
 ghost use Rattle.verdict.specs.Stages.{open_slot, Before11, lowest_of, Reached, Sorted};
 
 use covering::covers;
-use settling::areas::clear_of;
+use ordering::order::Order;
+use settling::areas::Areas;
 use shapes::Board;
 use words::{Partition, Slot};
 
 // S7 at p
-fn exact_at(t: &[u64; 641], p: Partition, order: &[u8; 512], counts: &[u32; 16]) -> bool
-    requires { (p.0 < 16) × Shaped t.now × Orders (view t.now).k order.now counts.now }
+fn exact_at(t: &[u64; 641], p: Partition, order: &Order) -> bool
+    requires { (p.0 < 16) × Shaped t.now × Orders (view t.now).k order.now.slots order.now.counts }
     ensures { result ≡ s7 (view t.now) p.0 }
 {
     if !searching::is_present(t, p) {
@@ -22,106 +23,74 @@ fn exact_at(t: &[u64; 641], p: Partition, order: &[u8; 512], counts: &[u32; 16])
     if !covering::given::given_each(t, p) {
         return false;
     }
-    covers(false, t, p, order, counts)
+    covers(false, t, p, order)
 }
 
 // slot i of p is open exactly if it is clear of the areas
-fn open_slot(t: &[u64; 641], p: Partition, i: Slot, n: usize, s: &[u32; 80], e: &[u32; 80]) -> bool
-    requires { (p.0 < 16) × (i.0 < 32) × Shaped t.now × AreasOf (view t.now).k n s.now e.now }
+fn open_slot(t: &[u64; 641], p: Partition, i: Slot, areas: &Areas) -> bool
+    requires { (p.0 < 16) × (i.0 < 32) × Shaped t.now × AreasOf (view t.now).k areas.now }
     ensures { result ≡ open_slot (view t.now) p.0 i.0 }
 {
     let f = tables::read::entry(t, p, i);
     if !f.present {
         return true;
     }
-    f.opened == clear_of(n, s, e, f.start, f.end)
+    f.opened == areas.is_clear_of(f.start, f.end)
 }
 
 // S9 at p
-fn opens_at(t: &[u64; 641], p: Partition, n: usize, s: &[u32; 80], e: &[u32; 80]) -> bool
-    requires { (p.0 < 16) × Shaped t.now × AreasOf (view t.now).k n s.now e.now }
+fn opens_at(t: &[u64; 641], p: Partition, areas: &Areas) -> bool
+    requires { (p.0 < 16) × Shaped t.now × AreasOf (view t.now).k areas.now }
     ensures { result ≡ s9 (view t.now) p.0 }
 {
-    let mut i = 0u32;
-    while i < 32 {
-        if !open_slot(t, p, Slot(i), n, s, e) {
+    for i in 0..32 {
+        if !open_slot(t, p, Slot(i), areas) {
             return false;
         }
-        i += 1;
     }
     true
 }
 
 // S11 at p, where S7 and S9 hold
-fn rights_at(t: &[u64; 641], p: Partition, order: &[u8; 512], counts: &[u32; 16]) -> bool
-    requires { (p.0 < 16) × Shaped t.now × Orders (view t.now).k order.now counts.now × Before11 (view t.now) p.0 }
+fn rights_at(t: &[u64; 641], p: Partition, order: &Order) -> bool
+    requires { (p.0 < 16) × Shaped t.now × Orders (view t.now).k order.now.slots order.now.counts × Before11 (view t.now) p.0 }
     ensures { result ≡ s11 (view t.now).k p.0 }
 {
     if !searching::is_present(t, p) {
         return true;
     }
-    covers(true, t, p, order, counts)
+    covers(true, t, p, order)
 }
 
-// Clause k at p, of S7 to S11; the clauses below it hold.
-fn holds(
-    board: Board,
-    t: &[u64; 641],
-    k: u32,
-    p: Partition,
-    order: &[u8; 512],
-    counts: &[u32; 16],
-    n: usize,
-    s: &[u32; 80],
-    e: &[u32; 80],
-) -> bool
-    requires { (p.0 < 16) × (7 ≤ k) × Reached board t.now k × Sorted board t.now order.now counts.now n s.now e.now }
+// Clause k at p, of S7 to S11; the clauses below it hold. No closures: its number is part of the answer, and each clause takes other arguments.
+fn holds(board: Board, t: &[u64; 641], k: u32, p: Partition, order: &Order, areas: &Areas) -> bool
+    requires { (p.0 < 16) × (7 ≤ k) × Reached board t.now k × Sorted board t.now order.now.slots order.now.counts areas.now }
     ensures { result ≡ clause_at board t.now k p.0 }
 {
     if k <= 7 {
-        return exact_at(t, p, order, counts);
+        return exact_at(t, p, order);
     }
     if k <= 8 {
         return owning::owned_at(t, p);
     }
     if k <= 9 {
-        return opens_at(t, p, n, s, e);
+        return opens_at(t, p, areas);
     }
     if k <= 10 {
         return loaded::opening::regions_right(board, t, p);
     }
-    rights_at(t, p, order, counts)
+    rights_at(t, p, order)
 }
 
-// The lowest of all tests that fails, where none of S1 to S6 does; 176 where none does.
-pub fn lowest(
-    board: Board,
-    t: &[u64; 641],
-    order: &[u8; 512],
-    counts: &[u32; 16],
-    n: usize,
-    s: &[u32; 80],
-    e: &[u32; 80],
-) -> u32
-    requires { Sorted board t.now order.now counts.now n s.now e.now }
+// The lowest of all tests that fails, where none of S1 to S6 does.
+pub fn lowest(board: Board, t: &[u64; 641], order: &Order, areas: &Areas) -> Option<u32>
+    requires { Sorted board t.now order.now.slots order.now.counts areas.now }
     ensures { result ≡ lowest_of board t.now 176 }
 {
-    let mut m = 96u32;
-    while m < 176 {
-        if !holds(
-            board,
-            t,
-            1 + m / 16,
-            Partition(m % 16),
-            order,
-            counts,
-            n,
-            s,
-            e,
-        ) {
-            return m;
+    for m in 96..176 {
+        if !holds(board, t, 1 + m / 16, Partition(m % 16), order, areas) {
+            return Some(m);
         }
-        m += 1;
     }
-    m
+    None
 }

@@ -1,14 +1,15 @@
 #![tactic(auto)]
 
 ghost use Rattle.std.specs.Prelude.{◌≡◌};
-ghost use Rattle.verdict.specs.Verdict.{verdict, image_verdict};
-ghost use Rattle.verdict.specs.Stages.{said_of};
+ghost use Rattle.verdict.specs.Verdict.{failing, verdict, image_verdict};
 
 // The lowest clause that a table fails, and the lowest partition where it fails.
 mod bits;
 mod early;
 mod late;
 
+use ordering::order::Order;
+use settling::areas::Areas;
 use shapes::Board;
 use words::Partition;
 
@@ -20,13 +21,11 @@ pub enum Verdict {
     Length,
 }
 
-// by the number of the lowest test that fails, of 176
-fn said(m: u32) -> Verdict
-    ensures { result ≡ said_of m }
+// by the number of the lowest test that fails
+#[tactic(auto, unfolding(crate::specs::Verdict::failing))]
+fn failing(m: u32) -> Verdict
+    ensures { result ≡ failing m }
 {
-    if m >= 176 {
-        return Verdict::Accepted;
-    }
     Verdict::Fails(1 + m / 16, Partition(m % 16))
 }
 
@@ -34,17 +33,17 @@ fn said(m: u32) -> Verdict
 pub fn of_table(board: Board, t: &[u64; 641]) -> Verdict
     ensures { result ≡ verdict board t.now }
 {
-    let first = early::lowest(board, t);
-    if first < 96 {
-        return said(first);
+    if let Some(m) = early::lowest(board, t) {
+        return failing(m);
     }
-    let mut order = [0u8; 512];
-    let mut counts = [0u32; 16];
-    ordering::arrange::arrange(t, 16, &mut order, &mut counts);
-    let mut s = [0u32; 80];
-    let mut e = [0u32; 80];
-    let n = settling::areas::gather_areas(t, 16, &mut s, &mut e);
-    said(late::lowest(board, t, &order, &counts, n, &s, &e))
+    let mut order = Order::none();
+    order.arrange(t, 16);
+    let mut areas = Areas::none();
+    areas.gather(t, 16);
+    match late::lowest(board, t, &order, &areas) {
+        Some(m) => failing(m),
+        None => Verdict::Accepted,
+    }
 }
 
 // .. of the bytes of an image

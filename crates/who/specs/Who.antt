@@ -1,5 +1,5 @@
 -- What an item of the machine form says of a table.
-use Rattle.std.specs.Prelude.{Bool, false, cond, List, [], ◌∷◌, ℕ, length, eqb, leb}
+use Rattle.std.specs.Prelude.{Bool, false, cond, List, [], ◌∷◌, ℕ, length, eqb, leb, Option, Some, None}
 use Rattle.loops.specs.Loops.{bit_of, any}
 use Rattle.shapes.specs.declared.Board.{Board}
 use Rattle.shapes.specs.Pieces.{pieces_for}
@@ -7,6 +7,8 @@ use Rattle.tables.specs.State.{Opt, none, some, Entry, Area, K, Table}
 use Rattle.tables.specs.Search.{look_for}
 use Rattle.tables.specs.Settle.{meets}
 use Rattle.sound.specs.Clauses.{has}
+use Rattle.who.specs.declared.facts.CanWrite.{CanWrite}
+use Rattle.who.specs.declared.facts.CanWrite.TheVariants.{Closed, NoRight, ManyPieces, IfLoaded, IfCurrent, Now}
 use Rattle.who.specs.declared.facts.Place.{Place}
 
 -- entry: partition, slot, start, end, read, write, execute, open, given, whole, and how many pieces it needs on the board
@@ -21,9 +23,23 @@ names_it t p s r = has (λ i. eqb i s) (t.region p r)
 
 -- can: whether p can write into its entry e, in slot s. 0: it is closed. 1: it has no write right. 2: it has more pieces than can be loaded.
 -- 3: it can, if it loads it. 4: it has it loaded, and can when it is current. 5: .. and is current.
-unfoldable pub can_write : Board → Table → ℕ → ℕ → Entry → Bool → ℕ
+abbrev pub can_number : CanWrite → ℕ
+can_number Closed = 0
+can_number NoRight = 1
+can_number ManyPieces = 2
+can_number IfLoaded = 3
+can_number IfCurrent = 4
+can_number Now = 5
+
+unfoldable pub can_write : Board → Table → ℕ → ℕ → Entry → Bool → CanWrite
 can_write b t p s e o =
-    cond o (cond e.rights.write (cond (any 8 (names_it t p s)) (cond (eqb t.k.current p) 5 4) (cond (leb (length (pieces_for b e.start e.stop)) 8) 3 2)) 1) 0
+    cond
+    o
+    (cond
+    e.rights.write
+    (cond (any 8 (names_it t p s)) (cond (eqb t.k.current p) Now IfCurrent) (cond (leb (length (pieces_for b e.start e.stop)) 8) IfLoaded ManyPieces))
+    NoRight)
+    Closed
 
 -- shut: an area, or none, shares a line with a to b
 unfoldable pub shared : Opt Area → ℕ → ℕ → Bool
@@ -35,10 +51,10 @@ unfoldable pub entry_end : ℕ → Opt Entry → ℕ
 entry_end l none = l
 entry_end l (some e) = e.stop
 
-unfoldable pub place_in : K → ℕ → ℕ → Opt ℕ → Place
-place_in k p l none = record { slot = record { 0 = 32 }; end = record { 0 = l } }
-place_in k p l (some i) = record { slot = record { 0 = i }; end = record { 0 = entry_end l (k.slot p i) } }
+unfoldable pub place_in : K → ℕ → ℕ → Opt ℕ → Option Place
+place_in k p l none = None
+place_in k p l (some i) = Some (record { slot = record { 0 = i }; end = record { 0 = entry_end l (k.slot p i) } })
 
 -- .. by the search that find makes
-unfoldable pub place_of : K → ℕ → ℕ → Place
+unfoldable pub place_of : K → ℕ → ℕ → Option Place
 place_of k p l = place_in k p l (look_for k l p).slot

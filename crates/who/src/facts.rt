@@ -1,12 +1,11 @@
 ghost use Rattle.std.specs.Prelude.{◌≡◌, ◌<◌, ◌^◌};
 ghost use Rattle.loops.specs.Loops.{any};
 ghost use Rattle.tables.specs.View.{view, entry_of};
-ghost use Rattle.who.specs.Who.{entry_numbers, names_it, can_write, shared, place_of};
+ghost use Rattle.who.specs.Who.{entry_numbers, names_it, can_number, can_write, shared, place_of};
 
 use shapes::Board;
-use tables::Found;
 use words::slot_word::SlotFields;
-use words::{Line, Partition, Slot, bit};
+use words::{Line, Partition, Slot};
 
 // The numbers of the entry that stands in slot s of p.
 pub fn entry(board: Board, p: Partition, s: Slot, f: SlotFields) -> [u32; 11]
@@ -19,12 +18,12 @@ pub fn entry(board: Board, p: Partition, s: Slot, f: SlotFields) -> [u32; 11]
         s.0,
         f.start.0,
         f.end.0,
-        bit(f.rights.read),
-        bit(f.rights.write),
-        bit(f.rights.execute),
-        bit(f.opened),
+        u32::from(f.rights.read),
+        u32::from(f.rights.write),
+        u32::from(f.rights.execute),
+        u32::from(f.opened),
         f.given.0,
-        bit(f.whole),
+        u32::from(f.whole),
         pieces,
     ]
 }
@@ -39,8 +38,7 @@ pub fn names(t: &[u64; 641], p: Partition, s: Slot, r: u32) -> bool
     if !x.loaded {
         return false;
     }
-    let i = x.slot;
-    i.0 == s.0
+    x.slot == s
 }
 
 // .. one of them does
@@ -48,38 +46,56 @@ fn loaded(t: &[u64; 641], p: Partition, s: Slot) -> bool
     requires { p.0 < 16 }
     ensures { result ≡ any 8 (names_it (view t.now) p.0 s.0) }
 {
-    let mut r = 0u32;
-    while r < 8 {
+    for r in 0..8 {
         if names(t, p, s, r) {
             return true;
         }
-        r += 1;
     }
     false
 }
 
-// Whether p can write into the entry that stands in its slot s: 0 to 5, as `can_write` tells.
-pub fn can(board: Board, t: &[u64; 641], p: Partition, s: Slot, f: SlotFields) -> u32
+// Whether a partition can write into an entry that it has, as the table stands.
+#[derive(Clone, Copy, Debug, PartialEq, Eq)]
+pub enum CanWrite {
+    Closed = 0,
+    NoRight = 1,
+    ManyPieces = 2,
+    IfLoaded = 3,
+    IfCurrent = 4,
+    Now = 5,
+}
+
+// The number that is printed.
+impl From<CanWrite> for u32 {
+    ghost from_gives = { λ can n. n ≡ can_number can };
+
+    fn from(can: CanWrite) -> u32 {
+        can as u32
+    }
+}
+
+// Whether p can write into the entry that stands in its slot s.
+pub fn can(board: Board, t: &[u64; 641], p: Partition, s: Slot, f: SlotFields) -> CanWrite
     requires { (p.0 < 16) × (f.end.0 < 2 ^ 27) }
     ensures { result ≡ can_write board (view t.now) p.0 s.0 (entry_of f) f.opened }
 {
     if !f.opened {
-        return 0;
+        return CanWrite::Closed;
     }
     if !f.rights.write {
-        return 1;
+        return CanWrite::NoRight;
     }
     if !loaded(t, p, s) {
         if shapes::pieces::piece_count(board, f.start.0, f.end.0) > 8 {
-            return 2;
+            return CanWrite::ManyPieces;
         }
-        return 3;
+        return CanWrite::IfLoaded;
     }
     let first = tables::read::first(t);
-    if first.current.0 != p.0 {
-        return 4;
+    if first.current != p {
+        return CanWrite::IfCurrent;
     }
-    5
+    CanWrite::Now
 }
 
 // area j of q shares a line with lo to hi
@@ -110,23 +126,17 @@ pub struct Place {
     pub end: Line,
 }
 
-// By the search that find makes. Where no entry of p holds the line: slot 32, which is none, and the line.
-pub fn place_of(t: &[u64; 641], p: Partition, l: Line) -> Place
+// By the search that find makes; None where no entry of p holds the line.
+pub fn place_of(t: &[u64; 641], p: Partition, l: Line) -> Option<Place>
     requires { p.0 < 16 }
     ensures { result ≡ place_of (view t.now).k p.0 l.0 }
 {
     let looked = searching::holding_slot(t, p, l);
     let found = looked.found;
-    let Found::At(s) = found else {
-        return Place {
-            slot: Slot(32),
-            end: l,
-        };
+    let Some(s) = found else {
+        return None;
     };
     let f = tables::read::entry(t, p, s);
-    let end = f.end;
-    if f.present {
-        return Place { slot: s, end: end };
-    }
-    Place { slot: s, end: l }
+    let end = if f.present { f.end } else { l };
+    Some(Place { slot: s, end })
 }

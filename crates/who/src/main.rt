@@ -11,7 +11,7 @@ use std::io::Write;
 use verdict::Verdict;
 
 // A question is the number of a line; this one, which no line has, asks for all of them.
-const ALL: u64 = 0xffff_ffff_ffff_ffff;
+const ALL: u64 = u64::MAX;
 
 fn tell<W: Write>(out: &mut W, board: Board, image: &[u8], question: u64) -> io::Result<()> {
     if image.len() != 5128 {
@@ -40,10 +40,10 @@ fn main(rt: HostRuntime) -> io::Result<()> {
     let said = verdict::of_image(board, &image[..len]);
     match said {
         Verdict::Accepted => {
-            out.write_all(b"sound\n")?;
-            tell(&mut out, board, &image[..len], memory::word(&question, 0))
+            writeln!(out, "sound")?;
+            tell(&mut out, board, &image[..len], u64::from_be_bytes(question))
         }
-        Verdict::Fails(n, p) => says::item(&mut out, b"fails", &[n, p.0]),
-        Verdict::Length => out.write_all(b"length\n"),
+        Verdict::Fails(n, p) => says::item(&mut out, "fails", &[n, p.0]),
+        Verdict::Length => writeln!(out, "length"),
     }
 }

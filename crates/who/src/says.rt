@@ -1,4 +1,4 @@
-ghost use Rattle.std.specs.Prelude.{◌<◌, ◌∷◌, [], OnOk, decimal};
+ghost use Rattle.std.specs.Prelude.{◌<◌, OnOk};
 ghost use Rattle.std.specs.Io.KnownBytes.{Appends};
 ghost use Rattle.who.specs.Items.{item_line};
 
@@ -9,34 +9,20 @@ use std::io::Write;
 use tables::Outcome;
 use words::{Line, Partition, Slot};
 
-fn byte<W: Write>(out: &mut W, b: u8) -> io::Result<()>
-    ensures { OnOk result (Appends (W.contents out.old) (W.contents out.new) (b ∷ [])) }
-{
-    out.write_all(&[b])
-}
-
-// A space, and a number.
-fn number<W: Write>(out: &mut W, n: u32) -> io::Result<()>
-    ensures { OnOk result (Appends (W.contents out.old) (W.contents out.new) (32 ∷ decimal n)) }
-{
-    byte(out, b' ')?;
-    write!(out, "{n}")
-}
-
 // A word, and numbers.
-pub fn item<W: Write>(out: &mut W, kind: &[u8], numbers: &[u32]) -> io::Result<()>
+pub fn item<W: Write>(out: &mut W, kind: &str, numbers: &[u32]) -> io::Result<()>
     ensures { OnOk result (Appends (W.contents out.old) (W.contents out.new) (item_line kind.now numbers.now)) }
 {
-    out.write_all(kind)?;
+    write!(out, "{kind}")?;
     for n in numbers {
-        number(out, *n)?;
+        write!(out, " {n}")?;
     }
-    byte(out, b'\n')
+    writeln!(out)
 }
 
 pub fn memory<W: Write>(out: &mut W, t: &[u64; 641]) -> io::Result<()> {
     let f = tables::read::first(t);
-    item(out, b"memory", &[f.base.0, f.end.0, f.current.0])
+    item(out, "memory", &[f.base.0, f.end.0, f.current.0])
 }
 
 // Area n of the 80 closes the entry in slot s of p, of lo to hi, if they share a line.
@@ -54,7 +40,7 @@ fn shut<W: Write>(
     let q = Partition(n / 5);
     let j = n % 5;
     if crate::facts::shares(t, q, j, lo, hi) {
-        return item(out, b"shut", &[p.0, s.0, q.0, j]);
+        return item(out, "shut", &[p.0, s.0, q.0, j]);
     }
     Ok(())
 }
@@ -78,7 +64,7 @@ fn region<W: Write>(out: &mut W, t: &[u64; 641], p: Partition, s: Slot, r: u32) 
     requires { (p.0 < 16) × (r < 8) }
 {
     if crate::facts::names(t, p, s, r) {
-        return item(out, b"region", &[p.0, s.0, r]);
+        return item(out, "region", &[p.0, s.0, r]);
     }
     Ok(())
 }
@@ -107,9 +93,9 @@ fn entry<W: Write>(
         return Ok(());
     }
     let numbers = crate::facts::entry(board, p, s, f);
-    item(out, b"entry", &numbers)?;
+    item(out, "entry", &numbers)?;
     let can = crate::facts::can(board, t, p, s, f);
-    item(out, b"can", &[p.0, s.0, can])?;
+    item(out, "can", &[p.0, s.0, u32::from(can)])?;
     regions(out, t, p, s)?;
     if !f.opened {
         return shuts(out, t, p, s, f.start, f.end);
@@ -132,7 +118,7 @@ fn area<W: Write>(out: &mut W, t: &[u64; 641], p: Partition, j: u32) -> io::Resu
 {
     let f = settling::areas::area(t, p, j);
     if f.start.0 < f.end.0 {
-        return item(out, b"area", &[p.0, j, f.start.0, f.end.0]);
+        return item(out, "area", &[p.0, j, f.start.0, f.end.0]);
     }
     Ok(())
 }
@@ -154,7 +140,7 @@ fn partition<W: Write>(out: &mut W, board: Board, t: &[u64; 641], p: Partition) 
     if !h.present {
         return Ok(());
     }
-    item(out, b"partition", &[p.0, h.parent.0])?;
+    item(out, "partition", &[p.0, h.parent.0])?;
     areas(out, t, p)?;
     entries(out, board, t, p)
 }
@@ -170,8 +156,10 @@ pub fn partitions<W: Write>(out: &mut W, board: Board, t: &[u64; 641]) -> io::Re
 fn holder<W: Write>(out: &mut W, t: &[u64; 641], p: Partition, l: Line) -> io::Result<Line>
     requires { p.0 < 16 }
 {
-    let place = crate::facts::place_of(t, p, l);
-    item(out, b"holder", &[p.0, place.slot.0])?;
+    let Some(place) = crate::facts::place_of(t, p, l) else {
+        return Ok(l);
+    };
+    item(out, "holder", &[p.0, place.slot.0])?;
     Ok(place.end)
 }
 
@@ -179,7 +167,7 @@ fn holder<W: Write>(out: &mut W, t: &[u64; 641], p: Partition, l: Line) -> io::R
 fn listed(name: u8) -> Partition
     ensures { result.0 < 16 }
 {
-    Partition(name as u32 % 16)
+    Partition(u32::from(name) % 16)
 }
 
 // The first n of the list, root first. Answers where the last one's entry ends: of all these it ends first.
@@ -191,28 +179,30 @@ fn holders<W: Write>(
     l: Line,
 ) -> io::Result<Line> {
     let mut end = l;
-    for i in 0..16usize {
-        if i as u64 >= n {
-            return Ok(end);
-        }
-        end = holder(out, t, listed(list[i]), l)?;
+    for name in list.iter().take(n as usize) {
+        end = holder(out, t, listed(*name), l)?;
     }
     Ok(end)
 }
 
-// The line and its holders, if it is a line of the memory. Answers up to which line the same entries hold; 0 if it is none.
-pub fn at<W: Write>(out: &mut W, board: Board, t: &[u64; 641], line: u64) -> io::Result<Line> {
-    if line > 0x7ff_ffff {
-        return Ok(Line(0));
-    }
+// The line and its holders, if it is a line of the memory. Answers up to which line the same entries hold.
+pub fn at<W: Write>(
+    out: &mut W,
+    board: Board,
+    t: &[u64; 641],
+    line: u64,
+) -> io::Result<Option<Line>> {
+    let Ok(l) = u32::try_from(line) else {
+        return Ok(None);
+    };
     let mut list = [0u8; 16];
     let outcome = holders::holders_table(board, t, 16, line, &mut list);
-    let Outcome::Done(n, _) = outcome else {
-        return Ok(Line(0));
+    let Ok((n, _)) = outcome else {
+        return Ok(None);
     };
-    let l = line as u32;
-    item(out, b"at", &[l])?;
-    holders(out, t, &list, n, Line(l))
+    item(out, "at", &[l])?;
+    let end = holders(out, t, &list, n, Line(l))?;
+    Ok(Some(end))
 }
 
 // A run, and in it each line from which on other entries hold.
@@ -223,10 +213,12 @@ fn run<W: Write>(
     start: Line,
     end: Line,
 ) -> io::Result<()> {
-    item(out, b"run", &[start.0, end.0])?;
+    item(out, "run", &[start.0, end.0])?;
     let mut l = start.0;
     while l < end.0 {
-        let next = at(out, board, t, l as u64)?;
+        let Some(next) = at(out, board, t, u64::from(l))? else {
+            return Ok(());
+        };
         if next.0 <= l {
             return Ok(());
         }
@@ -239,8 +231,7 @@ fn run<W: Write>(
 pub fn runs<W: Write>(out: &mut W, board: Board, t: &[u64; 641]) -> io::Result<()> {
     let mut marks = *t;
     let plan = runlist::plan_of(board, &mut marks, 16, 512);
-    let number = plan.number;
-    for i in 0..number {
+    for i in 0..plan.number {
         let r = runlist::run_at(&marks, i);
         run(out, board, t, r.start, r.end)?;
     }

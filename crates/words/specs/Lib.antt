@@ -3,5 +3,8 @@ pub mod Kind
 pub mod Words
 pub mod Kinds
 pub mod Fields
+pub mod Half
+pub mod Later
 pub mod Printed
+pub mod Refusals
 pub mod Laws

@@ -16,7 +16,7 @@ use words::header_word::HeaderFields;
 use words::regions_word::Region;
 use words::slot_word::SlotFields;
 use words::structure_word::StructureFields;
-use words::{Line, Partition, Slot};
+use words::{Line, Packed, Partition, Slot};
 
 // slot i of p holds the entry f
 pub fn put_entry(t: &mut [u64; 641], p: Partition, i: Slot, f: SlotFields)
@@ -24,7 +24,7 @@ pub fn put_entry(t: &mut [u64; 641], p: Partition, i: Slot, f: SlotFields)
     ensures { Is t.new (put_slot (view t.old) p.0 i.0 (some (entry_of f)) f.opened) }
 {
     let at = (9 + 40 * p.0 + i.0) as usize;
-    store(t, at, tablewords::slot_word::write(f));
+    store(t, at, f.write());
 }
 
 // slot i of p is free
@@ -41,7 +41,7 @@ pub fn put_header(t: &mut [u64; 641], p: Partition, f: HeaderFields)
     ensures { Is t.new (put_header (view t.old) p.0 f.parent.0 (some (span f.start f.end))) }
 {
     let at = (1 + 40 * p.0) as usize;
-    store(t, at, tablewords::header_word::write(f));
+    store(t, at, f.write());
 }
 
 // structure j of p
@@ -50,7 +50,7 @@ pub fn put_structure(t: &mut [u64; 641], p: Partition, j: u32, f: StructureField
     ensures { Is t.new (put_structure (view t.old) p.0 j (some (span f.start f.end))) }
 {
     let at = (2 + 40 * p.0 + j) as usize;
-    store(t, at, tablewords::structure_word::write(f));
+    store(t, at, f.write());
 }
 
 // structure j of p is absent
@@ -72,7 +72,7 @@ pub fn put_region(t: &mut [u64; 641], p: Partition, r: u32, slot: Slot)
         r,
         Region { loaded: true, slot },
     );
-    store(t, at, regionwords::regions_word::write(f));
+    store(t, at, f.write());
 }
 
 // region r of p names nothing
@@ -89,7 +89,7 @@ pub fn clear_region(t: &mut [u64; 641], p: Partition, r: u32)
             slot: Slot(0),
         },
     );
-    store(t, at, regionwords::regions_word::write(f));
+    store(t, at, f.write());
 }
 
 // c is current
@@ -99,7 +99,7 @@ pub fn put_current(t: &mut [u64; 641], c: Partition)
 {
     let mut f = tables::read::first(t);
     f.current = c;
-    store(t, 0, tablewords::first_word::write(f));
+    store(t, 0, f.write());
 }
 
 // the 40 words of p are zero
@@ -107,10 +107,8 @@ pub fn clear_record(t: &mut [u64; 641], p: Partition)
     requires { CanRecord t.old p.0 }
     ensures { Is t.new (clear_record (view t.old) p.0) }
 {
-    let mut o = 0u32;
-    while o < 40 {
+    for o in 0..40 {
         t[(1 + 40 * p.0 + o) as usize] = 0;
-        o += 1;
     }
 }
 
@@ -120,13 +118,10 @@ pub fn empty_table(t: &mut [u64; 641], base: Line, end: Line)
     ensures { Is t.new (empty_table base.0 end.0) }
 {
     *t = [0u64; 641];
-    store(
-        t,
-        0,
-        tablewords::first_word::write(FirstFields {
-            base,
-            end,
-            current: Partition(0),
-        }),
-    );
+    let f = FirstFields {
+        base,
+        end,
+        current: Partition(0),
+    };
+    store(t, 0, f.write());
 }

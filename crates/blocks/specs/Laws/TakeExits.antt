@@ -1,5 +1,5 @@
 -- Take, exit by exit: which slot of the child was returned, the number of each refusal, and, done, that only the child's regions are left to settle.
-use Rattle.std.specs.Prelude.{◌≡◌, true, false, List, ℕ}
+use Rattle.std.specs.Prelude.{◌≡◌, true, false, List, ℕ, Ok, Err}
 use Rattle.std.proofs.Math.Path.{refl}
 use Rattle.std.proofs.Common.{sym, subst, ◌∙◌}
 use borrow.Author.Tests.{eq-eqb, ne_eqb}
@@ -13,7 +13,6 @@ use Rattle.tables.specs.Laws.Seen.{entry_none, entry_there}
 use Rattle.tables.specs.Search.{lowest}
 use Rattle.tables.specs.Settle.{settled}
 use Rattle.tables.specs.Kept.{keep_regions}
-use Rattle.tables.specs.declared.Outcome.TheVariants.{Done, Refused}
 use Rattle.sound.specs.Clauses.{has}
 use Rattle.sound.specs.Laws.Settled.{Settled, entry_clear, put_settled, empty_words, right_settled}
 use Rattle.rules.specs.Rules.{returned, take}
@@ -23,6 +22,7 @@ use Rattle.blocks.specs.Laws.Pick.{at_caller}
 use Rattle.writing.specs.CanWrite.{CanEntry}
 use Rattle.blocks.specs.Laws.FreeExits.{can_put}
 use Rattle.blocks.specs.TakeExits.{taken_back, CanTake}
+use Rattle.words.specs.declared.Refusal.TheVariants.{NoEntry, Given, InPieces}
 
 -- ── slot i of the child that e is given to, whose entry f was read ──
 module _ {l : List ℕ} {i : ℕ} (e : SlotFields) {f : SlotFields} (v : Seen l e.given.0 i f) where
@@ -51,23 +51,23 @@ module _ {l : List ℕ} {i : ℕ} (e : SlotFields) {f : SlotFields} (v : Seen l 
 
 -- ── the checks before 14, of the caller's entry f that was read ──
 module _ {l : List ℕ} {c s : ℕ} {f : SlotFields} (now : (view l).k.current ≡ c) (v : Seen l c s f) where
-  pub take_none : f.present ≡ false → Ran (take (view l) s) l (Refused 4) l
+  pub take_none : f.present ≡ false → Ran (take (view l) s) l (Err NoEntry) l
   unfolding take
-  take_none q = ran_refused (missing 4 _ (entry_none (at_caller now v) q))
+  take_none q = ran_refused (missing NoEntry _ (entry_none (at_caller now v) q))
 
-  pub take_not_given : f.present ≡ true → f.given.0 ≡ 0 → Ran (take (view l) s) l (Refused 6) l
+  pub take_not_given : f.present ≡ true → f.given.0 ≡ 0 → Ran (take (view l) s) l (Err Given) l
   unfolding take
-  take_not_given q g = ran_refused (there 4 _ _ (entry_there (at_caller now v) q) (fail 6 _ (rw (eq-eqb f.given.0 0 g) refl)))
+  take_not_given q g = ran_refused (there NoEntry _ _ (entry_there (at_caller now v) q) (fail Given _ (rw (eq-eqb f.given.0 0 g) refl)))
 
 -- ── take: they pass ──
 module _ {l : List ℕ} {c s : ℕ} {f : SlotFields} (h : CanTake l c s f) where
   pub can_take : CanEntry l c s f
   can_take = can_put h.canon h.caller h.in_i h.seen h.present
 
-  pub take_kept : lowest 32 (returned (view l) (entry_of f)) ≡ none → Ran (take (view l) s) l (Refused 14) l
+  pub take_kept : lowest 32 (returned (view l) (entry_of f)) ≡ none → Ran (take (view l) s) l (Err InPieces) l
   unfolding take
   take_kept z =
-      ran_refused (there 4 _ _ (entry_there (at_caller h.now h.seen) h.present) (pass 6 (rw (ne_eqb f.given.0 0 h.is_given) refl) (missing 14 _ z)))
+      ran_refused (there NoEntry _ _ (entry_there (at_caller h.now h.seen) h.present) (pass Given (rw (ne_eqb f.given.0 0 h.is_given) refl) (missing InPieces _ z)))
 
   -- the caller's entry has its range and is as open as before
   own_settled : Settled (put_slot (view l) c s (some (given_to (entry_of f) 0)) f.opened)
@@ -75,8 +75,8 @@ module _ {l : List ℕ} {c s : ℕ} {f : SlotFields} (h : CanTake l c s f) where
       let was = right_settled h.right in
       put_settled was c s (given_to (entry_of f) 0) f.opened (entry_clear was {e = entry_of f} (entry_there h.seen h.present) ∙ h.seen.opened) (λ q. sym h.seen.opened ∙ q)
 
-  pub take_exit_done : {i : ℕ} {m r : List ℕ} → lowest 32 (returned (view l) (entry_of f)) ≡ some i → Is m (taken_back (view l) c s i f) → Is r (keep_regions (view m) f.given.0) → Ran (take (view l) s) l (Done 0 0) r
+  pub take_exit_done : {i : ℕ} {m r : List ℕ} → lowest 32 (returned (view l) (entry_of f)) ≡ some i → Is m (taken_back (view l) c s i f) → Is r (keep_regions (view m) f.given.0) → Ran (take (view l) s) l (Ok (0, 0)) r
   unfolding take
   take_exit_done {i} {r = r} z put kept =
-      ran_done (there 4 _ _ (entry_there (at_caller h.now h.seen) h.present) (pass 6 (rw (ne_eqb f.given.0 0 h.is_given) refl) (there 14 _ i z refl)))
+      ran_done (there NoEntry _ _ (entry_there (at_caller h.now h.seen) h.present) (pass Given (rw (ne_eqb f.given.0 0 h.is_given) refl) (there InPieces _ i z refl)))
       (subst (λ (c : ℕ). r ≡ encode (settled (taken_back (view l) c s i f))) (sym h.now) (empty_words own_settled f.given.0 i put kept))

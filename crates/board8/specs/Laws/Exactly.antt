@@ -1,11 +1,9 @@
 -- Writing gives 1, 4 and 22 by 02's conditions and no other, and reading back gives 22 exactly where no readable entry writes the pair.
-use Rattle.std.specs.Prelude.{◌≡◌, Bool, List, ℕ, ◌/◌, ◌+◌, ◌^◌, ◌<◌}
+use Rattle.std.specs.Prelude.{◌≡◌, Bool, List, ℕ, ◌/◌, ◌+◌, ◌^◌, ◌<◌, Result, Ok, Err}
 use Rattle.std.proofs.Math.Path.{refl, ap, sym}
 use Rattle.std.proofs.Common.{◌∙◌}
 use Rattle.std.proofs.Math.Bool.{true, false, cond}
 use native.Mathlib.Omega.{arith}
-use Rattle.words.specs.declared.Written.{Written}
-use Rattle.words.specs.declared.Written.TheVariants.{Word, Refused as NotRead}
 use Rattle.shapes.specs.declared.Board.TheVariants.{V8}
 use Rattle.tables.specs.State.{Opt, none, some, Entry}
 use Rattle.tables.specs.Laws.State.{same, some_inj, not_none, never_some}
@@ -18,13 +16,14 @@ use Rattle.sound.specs.Laws.Core.{sound_core}
 use Rattle.sound.proofs.Laws.List.{sound_means}
 use Rattle.face.specs.Face.{handed}
 use Rattle.pairs.specs.Pair.{Readable, pair_of, entry_of_pair, one_word, halves, writes, open_word, reads}
+use Rattle.pairs.specs.declared.Registers.{Registers}
 use Rattle.pairs.specs.Exactly.{registers}
 use Rattle.pairs.proofs.Laws.Exits.{writes_done, writes_unread}
 use Rattle.pairs.proofs.Laws.Exactly.{pairs}
-use Rattle.pairs.specs.declared.PairWritten.{PairWritten}
-use Rattle.pairs.specs.declared.PairWritten.TheVariants.{Pair, Refused}
 use Rattle.board8.specs.Regions.{entry_pair, pair_on, write_answer, rbar_after, rlar_after, WriteLent, read_answer, entry_after, ReadLent}
 use Rattle.board8.specs.Exactly.{Reading, RegionPair}
+use Rattle.words.specs.declared.Refusal.{Refusal}
+use Rattle.words.specs.declared.Refusal.TheVariants.{WrongPair}
 
 -- ── an entry of a sound table ──
 module _ (l : List ℕ) (p s : ℕ) (ok : sound V8 l ≡ true) where
@@ -52,10 +51,10 @@ module _ (l : List ℕ) (p s : ℕ) (ok : sound V8 l ≡ true) where
         go false q small = not_none none refl q
 
 -- ── writing ──
-answer_zero : (o : PairWritten) → (write_answer o ≡ 0 → ⊥) → (before : ℕ) → (rbar_after before o ≡ before) × (rlar_after before o ≡ before)
+answer_zero : (o : Result Registers Refusal) → (write_answer o ≡ 0 → ⊥) → (before : ℕ) → (rbar_after before o ≡ before) × (rlar_after before o ≡ before)
 unfolding write_answer rbar_after rlar_after
-answer_zero (Pair both) h before = absurd (h refl)
-answer_zero (Refused m) h before = (refl, refl)
+answer_zero (Ok both) h before = absurd (h refl)
+answer_zero (Err why) h before = (refl, refl)
 
 module _ (bytes : List ℕ) (p s rbar rlar : ℕ) {r rbar' rlar' : ℕ} (lent : WriteLent bytes p s rbar rlar r rbar' rlar') where
   on_sound : sound V8 (handed bytes) ≡ true → pair_on bytes p s ≡ entry_pair ((view (handed bytes)).k.slot p s)
@@ -85,14 +84,14 @@ module _ (bytes : List ℕ) (p s rbar rlar : ℕ) {r rbar' rlar' : ℕ} (lent : 
     unfolding write_answer
     unread q = lent.answer ∙ ap write_answer (pair_is_law ∙ sym (writes_unread e q))
 
-    written : e.rights.read ≡ true → Readable e × (r ≡ 0) × (writes e ≡ Pair (registers rbar' rlar'))
+    written : e.rights.read ≡ true → Readable e × (r ≡ 0) × (writes e ≡ Ok (registers rbar' rlar'))
     unfolding write_answer rbar_after rlar_after
     written q =
         let h : Readable e = record { read = q; rising = rising (handed bytes) p s ok e at; below = below (handed bytes) p s ok e at } in
         let w = writes_done e h in
         let a : rbar' ≡ (halves (pair_of e)).rbar = lent.base ∙ ap (rbar_after rbar) (pair_is_law ∙ w) in
         let b : rlar' ≡ (halves (pair_of e)).rlar = lent.limit ∙ ap (rlar_after rlar) (pair_is_law ∙ w) in
-        (h, lent.answer ∙ ap write_answer (pair_is_law ∙ w), w ∙ λ i. Pair (record { rbar = sym a i; rlar = sym b i }))
+        (h, lent.answer ∙ ap write_answer (pair_is_law ∙ w), w ∙ λ i. Ok (record { rbar = sym a i; rlar = sym b i }))
 
   stays : (r ≡ 0 → ⊥) → (rbar' ≡ rbar) × (rlar' ≡ rlar)
   stays n =
@@ -100,16 +99,16 @@ module _ (bytes : List ℕ) (p s rbar rlar : ℕ) {r rbar' rlar' : ℕ} (lent : 
       (lent.base ∙ (answer_zero (pair_on bytes p s) h rbar).0, lent.limit ∙ (answer_zero (pair_on bytes p s) h rlar).1)
 
 -- ── reading back ──
--- the one number of a refusal is 22
-one_number : (o : Opt Entry) (n : ℕ) → open_word o ≡ NotRead n → n ≡ 22
+-- the one refusal
+one_refusal : (o : Opt Entry) (why : Refusal) → open_word o ≡ Err why → why ≡ WrongPair
 unfolding open_word
-one_number none n q = cc
-one_number (some e) n q = absurd (let z : ◌≡◌ {A = ℕ} 0 1 = cc in omega arith)
+one_refusal none why q = cc
+one_refusal (some e) why q = absurd (let z : ◌≡◌ {A = ℕ} 0 1 = cc in omega arith)
 
 module _ (rbar rlar word : ℕ) {r word' : ℕ} (h : rbar < 2 ^ 32) (k : rlar < 2 ^ 32) (lent : ReadLent rbar rlar word r word') where
-  either : (o : Written) → reads rbar rlar ≡ o → Reading rbar rlar word r word'
+  either : (o : Result ℕ Refusal) → reads rbar rlar ≡ o → Reading rbar rlar word r word'
   unfolding read_answer entry_after
-  either (Word w) q =
+  either (Ok w) q =
       let z : r ≡ 0 = lent.answer ∙ ap read_answer q in
       let (e, y, g, o, x, v) = pairs.only rbar rlar w h k q in
       record {
@@ -117,8 +116,8 @@ module _ (rbar rlar word : ℕ) {r word' : ℕ} (h : rbar < 2 ^ 32) (k : rlar < 
         stays = λ u. absurd (omega (arith, z, u));
         told = λ n. (z, (e, y, g, o, lent.word ∙ ap (entry_after word) q ∙ x, v));
       }
-  either (NotRead n) q =
-      let u : reads rbar rlar ≡ NotRead 22 = q ∙ ap NotRead (one_number (entry_of_pair (one_word rbar rlar)) n q) in
+  either (Err why) q =
+      let u : reads rbar rlar ≡ Err WrongPair = q ∙ ap Err (one_refusal (entry_of_pair (one_word rbar rlar)) why q) in
       record {
         refused = (λ z. (pairs.unwritten rbar rlar h k).0 u, λ z. lent.answer ∙ ap read_answer u);
         stays = λ z. lent.word ∙ ap (entry_after word) u;

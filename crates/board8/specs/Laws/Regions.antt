@@ -1,9 +1,7 @@
 -- Each exit of the code leaves the answer and the numbers that are lent as they should be; and two results are equal.
-use Rattle.std.specs.Prelude.{◌≡◌, true, false, List, ℕ, ◌<◌, length}
+use Rattle.std.specs.Prelude.{◌≡◌, true, false, List, ℕ, ◌<◌, length, Result, Ok, Err}
 use Rattle.std.proofs.Math.Path.{refl, sym}
 use Rattle.std.proofs.Common.{ap, ◌∙◌}
-use Rattle.words.specs.declared.Written.{Written}
-use Rattle.words.specs.declared.Written.TheVariants.{Word, Refused as NotRead}
 use Rattle.words.specs.declared.slot_word.SlotFields.{SlotFields}
 use Rattle.shapes.specs.declared.Board.TheVariants.{V8}
 use Rattle.memory.specs.Bytes.{words_of}
@@ -17,9 +15,10 @@ use Rattle.face.specs.Face.{handed}
 use Rattle.face.specs.Laws.Face.{handed_is, handed_unsound}
 use Rattle.pairs.specs.Pair.{writes, readable, reads, plain}
 use Rattle.pairs.specs.declared.Registers.{Registers}
-use Rattle.pairs.specs.declared.PairWritten.{PairWritten}
-use Rattle.pairs.specs.declared.PairWritten.TheVariants.{Pair, Refused}
 use Rattle.board8.specs.Regions.{entry_pair, pair_on, write_answer, rbar_after, rlar_after, WriteLent, read_answer, entry_after, ReadLent}
+use Rattle.words.specs.declared.Refusal.{Refusal}
+use Rattle.words.specs.Refusals.{number_of}
+use Rattle.words.specs.declared.Refusal.TheVariants.{NotSound, NoEntry}
 
 -- two results are equal: the answer, and what is lent
 pub write_lent_one : {table : List ℕ} {p s a b r r' x y x' y' : ℕ} → WriteLent table p s a b r x y → WriteLent table p s a b r' x' y' → (r ≡ r') × (x ≡ x') × (y ≡ y')
@@ -30,12 +29,12 @@ read_lent_one x y = (x.answer ∙ sym y.answer, x.word ∙ sym y.word)
 
 -- ── what stands in a slot ──
 -- nothing past 16 partitions of 32 slots
-pub no_slot : (l : List ℕ) (p s : ℕ) → (p < 16 → s < 32 → ⊥) → Refused 4 ≡ entry_pair ((view l).k.slot p s)
+pub no_slot : (l : List ℕ) (p s : ℕ) → (p < 16 → s < 32 → ⊥) → Err NoEntry ≡ entry_pair ((view l).k.slot p s)
 unfolding entry_pair
 no_slot l p s n = rw (never_some ((view l).k.slot p s) (λ e u. let h = slot_bounds l p s e u in n h.0 h.1)) refl
 
 module _ {l : List ℕ} {p i : ℕ} {f : SlotFields} (seen : Seen l p i f) where
-  pub no_entry_pair : f.present ≡ false → Refused 4 ≡ entry_pair ((view l).k.slot p i)
+  pub no_entry_pair : f.present ≡ false → Err NoEntry ≡ entry_pair ((view l).k.slot p i)
   unfolding entry_pair entry_in
   no_entry_pair q = rw (seen.slot, q) refl
 
@@ -46,38 +45,38 @@ module _ {l : List ℕ} {p i : ℕ} {f : SlotFields} (seen : Seen l p i f) where
 
 -- ── a table in bytes ──
 module _ (b : List ℕ) (p s : ℕ) where
-  pub pair_unsound : sound V8 (handed b) ≡ false → Refused 1 ≡ pair_on b p s
+  pub pair_unsound : sound V8 (handed b) ≡ false → Err NotSound ≡ pair_on b p s
   unfolding pair_on
   pair_unsound q = rw q refl
 
-  pub other_length : (length b ≡ 5128 → ⊥) → Refused 1 ≡ pair_on b p s
+  pub other_length : (length b ≡ 5128 → ⊥) → Err NotSound ≡ pair_on b p s
   other_length h = pair_unsound (handed_unsound b h V8)
 
   module _ (size : length b ≡ 5128) {a : List ℕ} (load : a ≡ words_of b) where
-    pub unsound_words : sound V8 a ≡ false → Refused 1 ≡ pair_on b p s
+    pub unsound_words : sound V8 a ≡ false → Err NotSound ≡ pair_on b p s
     unsound_words q = pair_unsound (ap (sound V8) (sym (load ∙ handed_is b size)) ∙ q)
 
-    pub sound_words : {r : PairWritten} → sound V8 a ≡ true → r ≡ entry_pair ((view a).k.slot p s) → r ≡ pair_on b p s
+    pub sound_words : {r : Result Registers Refusal} → sound V8 a ≡ true → r ≡ entry_pair ((view a).k.slot p s) → r ≡ pair_on b p s
     unfolding pair_on
     sound_words q e =
         let z : a ≡ handed b = load ∙ handed_is b size in
         rw (← z, q) e
 
 -- ── what is lent ──
-module _ (table : List ℕ) (p s rbar rlar : ℕ) {o : PairWritten} (e : o ≡ pair_on table p s) where
-  pub write_lent : (both : Registers) → o ≡ Pair both → WriteLent table p s rbar rlar 0 both.rbar both.rlar
+module _ (table : List ℕ) (p s rbar rlar : ℕ) {o : Result Registers Refusal} (e : o ≡ pair_on table p s) where
+  pub write_lent : (both : Registers) → o ≡ Ok both → WriteLent table p s rbar rlar 0 both.rbar both.rlar
   unfolding write_answer rbar_after rlar_after
   write_lent both q = let z = sym e ∙ q in record { answer = rw z refl; base = rw z refl; limit = rw z refl }
 
-  pub write_lent_not : (n : ℕ) → o ≡ Refused n → WriteLent table p s rbar rlar n rbar rlar
+  pub write_lent_not : (why : Refusal) {n : ℕ} → n ≡ number_of why → o ≡ Err why → WriteLent table p s rbar rlar n rbar rlar
   unfolding write_answer rbar_after rlar_after
-  write_lent_not n q = let z = sym e ∙ q in record { answer = rw z refl; base = rw z refl; limit = rw z refl }
+  write_lent_not why k q = let z = sym e ∙ q in record { answer = k ∙ rw z refl; base = rw z refl; limit = rw z refl }
 
-module _ (rbar rlar entry : ℕ) {o : Written} (e : o ≡ reads rbar rlar) where
-  pub read_lent : (w : ℕ) → o ≡ Word w → ReadLent rbar rlar entry 0 w
+module _ (rbar rlar entry : ℕ) {o : Result ℕ Refusal} (e : o ≡ reads rbar rlar) where
+  pub read_lent : (w : ℕ) → o ≡ Ok w → ReadLent rbar rlar entry 0 w
   unfolding read_answer entry_after
   read_lent w q = let z = sym e ∙ q in record { answer = rw z refl; word = rw z refl }
 
-  pub read_lent_not : (n : ℕ) → o ≡ NotRead n → ReadLent rbar rlar entry n entry
+  pub read_lent_not : (why : Refusal) {n : ℕ} → n ≡ number_of why → o ≡ Err why → ReadLent rbar rlar entry n entry
   unfolding read_answer entry_after
-  read_lent_not n q = let z = sym e ∙ q in record { answer = rw z refl; word = rw z refl }
+  read_lent_not why k q = let z = sym e ∙ q in record { answer = k ∙ rw z refl; word = rw z refl }

@@ -1,55 +1,60 @@
 -- src/lib.rt, changed_by: result ≡ changed_by f.service (view t.now).k f
 use mathlib.Core.Path.{refl, ap, ap₂, sym, ◌∙◌}
+use Rattle.std.proofs.Common.{⊎_elim}
 use Prim.Native.Nat.{ℕ, ◌^◌}
 use lib.Bits.{bit_or}
 use Rattle.tables.specs.Search.{given_in}
 use Rattle.tables.specs.View.{view}
+use Rattle.rules.specs.declared.Service.TheVariants.{Create, Delete, Prepare, Collect, Give, Take, Cut, Merge, Region, ReadRegion, Find, Switch, ClearOut, Pack}
 use Rattle.rules.specs.Changes.{changed_by}
-use Rattle.rules.specs.Laws.Calls.{changed_at, changed_all}
+use Rattle.rules.specs.Laws.Calls.{changed_at, changed_none}
 use Rattle.calls.proofs.changed_by.Goals as goal
 
-pub returns-in-5 : goal.returns-in-5
-unfolding changed_by
-returns-in-5 c =
-    changed_at (view c.args.t.now).k c.args.f 5 c.in-5.is
-    (ap₂ bit_or (c.one_partition.ensures ∙ ap (λ (n : ℕ). 2 ^ n) (sym c.requires.0)) c.one_partition-in-5.ensures)
+pub returns-in_default : goal.returns-in_default
+returns-in_default c = changed_none _ _ c.in_default.ensures.1
 
-pub returns-in-6 : goal.returns-in-6
+pub returns-in-Give : goal.returns-in-Give
 unfolding changed_by
-returns-in-6 c =
+returns-in-Give c =
+    changed_at (view c.args.t.now).k c.args.f Give c.in-Ok.ensures c.in-Give.is
+    (ap₂ bit_or (c.one_partition.ensures ∙ ap (λ (n : ℕ). 2 ^ n) (sym c.requires.0)) c.one_partition-in-Give.ensures)
+
+pub returns-in-Take : goal.returns-in-Take
+unfolding changed_by
+returns-in-Take c =
     let own = sym c.requires.0 in
     let given = c.given_to-child.ensures.0 ∙ ap (λ (n : ℕ). given_in ((view c.args.t.now).k.slot n c.args.f.slot.0)) own in
-    changed_at (view c.args.t.now).k c.args.f 6 c.in-6.is
-    (ap₂ bit_or (c.one_partition-in-6.ensures ∙ ap (λ (n : ℕ). 2 ^ n) own) (c.one_partition-in-6-2.ensures ∙ ap (λ (n : ℕ). 2 ^ n) given))
+    changed_at (view c.args.t.now).k c.args.f Take c.in-Ok.ensures c.in-Take.is
+    (ap₂ bit_or (c.one_partition-in-Take.ensures ∙ ap (λ (n : ℕ). 2 ^ n) own) (c.one_partition-in-Take-2.ensures ∙ ap (λ (n : ℕ). 2 ^ n) given))
 
-pub returns-in-7 : goal.returns-in-7
+pub returns-in-Cut : goal.returns-in-Cut
 unfolding changed_by
-returns-in-7 c = changed_at (view c.args.t.now).k c.args.f 7 c.in-7.is (c.one_partition-in-7.ensures ∙ ap (λ (n : ℕ). 2 ^ n) (sym c.requires.0))
+returns-in-Cut c =
+    let named = c.in-Ok.ensures in
+    let own = c.one_partition-in-Cut.ensures ∙ ap (λ (n : ℕ). 2 ^ n) (sym c.requires.0) in
+    ⊎_elim (λ e. changed_at (view c.args.t.now).k c.args.f Cut named e own) (λ e. changed_at (view c.args.t.now).k c.args.f Merge named e own) c.in-Cut.is
 
-pub returns-in-8 : goal.returns-in-8
+pub returns-in-Region : goal.returns-in-Region
 unfolding changed_by
-returns-in-8 c = changed_at (view c.args.t.now).k c.args.f 8 c.in-8.is (c.one_partition-in-8.ensures ∙ ap (λ (n : ℕ). 2 ^ n) (sym c.requires.0))
+returns-in-Region c =
+    let named = c.in-Ok.ensures in
+    let p = c.one_partition-in-Region.ensures in
+    ⊎_elim (λ e. changed_at (view c.args.t.now).k c.args.f Region named e p) (λ e. changed_at (view c.args.t.now).k c.args.f Pack named e p) c.in-Region.is
 
-pub returns-in-9 : goal.returns-in-9
+pub returns-in-ReadRegion : goal.returns-in-ReadRegion
 unfolding changed_by
-returns-in-9 c = changed_at (view c.args.t.now).k c.args.f 9 c.in-9.is c.one_partition-in-9.ensures
+returns-in-ReadRegion c =
+    let named = c.in-Ok.ensures in
+    let k = (view c.args.t.now).k in
+    ⊎_elim (λ e. changed_at k c.args.f ReadRegion named e refl)
+    (⊎_elim (λ e. changed_at k c.args.f Find named e refl) (λ e. changed_at k c.args.f Switch named e refl)) c.in-ReadRegion.is
 
-pub returns-in-11 : goal.returns-in-11
+pub returns-in-Create : goal.returns-in-Create
 unfolding changed_by
-returns-in-11 c = changed_at (view c.args.t.now).k c.args.f 11 c.in-11.is refl
-
-pub returns-in-12 : goal.returns-in-12
-unfolding changed_by
-returns-in-12 c = changed_at (view c.args.t.now).k c.args.f 12 c.in-12.is refl
-
-pub returns-in-13 : goal.returns-in-13
-unfolding changed_by
-returns-in-13 c = changed_at (view c.args.t.now).k c.args.f 13 c.in-13.is refl
-
-pub returns-in-15 : goal.returns-in-15
-unfolding changed_by
-returns-in-15 c = changed_at (view c.args.t.now).k c.args.f 15 c.in-15.is c.one_partition-in-15.ensures
-
-pub returns-in_default : goal.returns-in_default
-unfolding changed_by
-returns-in_default c = changed_all (view c.args.t.now).k c.args.f c.in_default.in_default-own.rest
+returns-in-Create c =
+    let named = c.in-Ok.ensures in
+    let k = (view c.args.t.now).k in
+    ⊎_elim (λ e. changed_at k c.args.f Create named e refl)
+    (⊎_elim (λ e. changed_at k c.args.f Delete named e refl)
+    (⊎_elim (λ e. changed_at k c.args.f Prepare named e refl)
+    (⊎_elim (λ e. changed_at k c.args.f Collect named e refl) (λ e. changed_at k c.args.f ClearOut named e refl)))) c.in-Create.is

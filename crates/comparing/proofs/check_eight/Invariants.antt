@@ -6,6 +6,3 @@ use Rattle.comparing.proofs.check_eight.Given as goal
 
 abbrev pub invariant-loop-i : goal.invariant-loop-i
 invariant-loop-i l = SlotsFrom l.t l.p.0 l.j l.i × Adding (view l.t) l.p.0 l.i l.sums
-
-abbrev pub decreases-loop-i : goal.decreases-loop-i
-decreases-loop-i l = l.i

@@ -7,6 +7,3 @@ use Rattle.comparing.proofs.check_slots.Given as goal
 
 abbrev pub invariant-loop-j : goal.invariant-loop-j
 invariant-loop-j l = StructuresFrom l.t l.p.0 l.j × Adding (view l.t) l.p.0 (8 * l.j) l.sums
-
-abbrev pub decreases-loop-j : goal.decreases-loop-j
-decreases-loop-j l = l.j

@@ -17,8 +17,8 @@ returns-then-s c = c.check_eight.ensures
 pub returns-then-not-slot_words : goal.returns-then-not-slot_words
 returns-then-not-slot_words c = checked_refused (c.slot_words.ensures ∙ slots_absent _ _ _ (ap is_some c.structure-s.ensures.area ∙ structure_some _ ∙ c.if-s.false)) (ap not c.if-not-slot_words.true)
 
-pub overflow_mul-sums : goal.overflow_mul-sums
-overflow_mul-sums c = record { fits = absent_room _ c.requires.2 }
+pub overflow_mul-result : goal.overflow_mul-result
+overflow_mul-result c = record { fits = absent_room _ c.requires.2 }
 
 pub returns : goal.returns
 returns c = checked_passed (c.slot_words.ensures ∙ slots_absent _ _ _ (ap is_some c.structure-s.ensures.area ∙ structure_some _ ∙ c.if-s.false)) (ap not c.if-not-slot_words.false) (add_empty _ c.requires.2 (words_empty _ _ _ (sym c.slot_words.ensures ∙ c.if-not-slot_words.false)))

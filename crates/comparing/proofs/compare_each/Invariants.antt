@@ -1,5 +1,4 @@
 -- src/lib.rt, compare_each: ComparedTo sheet.now t.now 16 (all 16 (shape_at t.now)) result same.new
-use Prim.Native.Nat.{◌-◌}
 use Rattle.loops.specs.Laws.Every.{Passing}
 use Rattle.shape.specs.AtOnce.{shape_at}
 use Rattle.comparing.specs.Once.{SameTo}
@@ -7,6 +6,3 @@ use Rattle.comparing.proofs.compare_each.Given as goal
 
 abbrev pub invariant-loop-p : goal.invariant-loop-p
 invariant-loop-p l = Passing (shape_at l.t) 16 l.p × SameTo l.sheet l.t l.p l.same
-
-abbrev pub decreases-loop-p : goal.decreases-loop-p
-decreases-loop-p l = 16 - l.p

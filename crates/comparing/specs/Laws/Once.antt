@@ -1,5 +1,5 @@
 -- The pass that decides S1 to S5 and compares the sheet: its exits. What it says of the pairs counts where the table is right.
-use Rattle.std.specs.Prelude.{◌≡◌, refl, Bool, true, false, not, ◌&&◌, List, ℕ, ◌+◌, ◌-◌, ◌*◌, ◌/◌, ◌≤◌, ◌<◌, ltb, eqb, length}
+use Rattle.std.specs.Prelude.{◌≡◌, refl, Bool, true, false, not, ◌&&◌, List, ℕ, ◌+◌, ◌-◌, ◌*◌, ◌/◌, ◌≤◌, ◌<◌, ltb, eqb, length, Some, None}
 use Rattle.std.proofs.Math.Path.{sym}
 use Rattle.std.proofs.Common.{subst, ◌∙◌, ltb-true, eqb-true}
 use Rattle.std.proofs.lemmas.Bool.{false≢true, not-true, not-false}
@@ -22,7 +22,6 @@ use Rattle.sheetrules.specs.Bytes.{handed_sheet, pair_is, pair_matches}
 use Rattle.comparing.specs.Once.{SlotsChecked, SameTo, ComparedTo}
 use Rattle.sheetrules.specs.Laws.Bytes.{sheet_pairs}
 use Rattle.summing.specs.declared.sums.Sums.{Sums}
-use Rattle.comparing.specs.declared.Checked.{Checked}
 
 -- ── slots ──
 -- a slot that S5 lets pass
@@ -30,23 +29,21 @@ pub slot_ranged : (l : List ℕ) (p i : ℕ) → s5_slot l (view l).k p i ≡ tr
 unfolding s5_slot when
 slot_ranged l p i q = record { ends = λ e u. ltb-true e.start e.stop (and_says (is_some ((view l).k.area p (1 + i / 8))) (ltb e.start e.stop) (rw u at q)).1 }
 
-module _ {l : List ℕ} {p i : ℕ} {x : Sums} {a b : Bool} (e : a ≡ b) where
+module _ {l : List ℕ} {p i : ℕ} {a b : Bool} (e : a ≡ b) where
   -- a test that failed; one that passed
-  pub checked_refused : not a ≡ true → SlotsChecked l p i b (record { sound = false; sums = x })
-  checked_refused n = record { says = sym (not-true a n) ∙ e; sums = λ q. absurd (false≢true q) }
+  pub checked_refused : not a ≡ true → SlotsChecked l p i b None
+  checked_refused n = record { says = sym (not-true a n) ∙ e; sums = tt }
 
-  pub checked_passed : not a ≡ false → Adding (view l) p i x → SlotsChecked l p i b (record { sound = true; sums = x })
-  checked_passed n h = record { says = sym (not-false a n) ∙ e; sums = λ q. h }
+  pub checked_passed : {x : Sums} → not a ≡ false → Adding (view l) p i x → SlotsChecked l p i b (Some x)
+  checked_passed n h = record { says = sym (not-false a n) ∙ e; sums = h }
 
 -- one test failed, so all together fail; and the walk has ended
-pub checked_fails : {l : List ℕ} {p i j : ℕ} {a b : Bool} {y : Checked} → SlotsChecked l p i a y → not y.sound ≡ true → (a ≡ false → b ≡ false) → SlotsChecked l p j b y
-checked_fails {y = y} h n k =
-    let z = not-true y.sound n in
-    record { says = z ∙ sym (k (sym h.says ∙ z)); sums = λ q. absurd (false≢true (sym z ∙ q)) }
+pub checked_fails : {l : List ℕ} {p i : ℕ} {a b : Bool} → false ≡ a → (a ≡ false → b ≡ false) → SlotsChecked l p i b None
+checked_fails h k = record { says = sym (k (sym h)); sums = tt }
 
 -- all passed
-pub checked_all : {l : List ℕ} {p i : ℕ} {b : Bool} {x : Sums} → b ≡ true → Adding (view l) p i x → SlotsChecked l p i b (record { sound = true; sums = x })
-checked_all q h = record { says = sym q; sums = λ _. h }
+pub checked_all : {l : List ℕ} {p i : ℕ} {b : Bool} {x : Sums} → b ≡ true → Adding (view l) p i x → SlotsChecked l p i b (Some x)
+checked_all q h = record { says = sym q; sums = h }
 
 -- slot i - 1 is one of structure j
 pub structure_of_law : {l : List ℕ} {p j : ℕ} (i : ℕ) → HasStructure l p j → (i - 1) / 8 ≡ j → HasStructure l p ((i - 1) / 8)

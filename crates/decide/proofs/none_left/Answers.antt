@@ -1,4 +1,4 @@
--- src/lib.rt, none_left: result ≡ none_left counts.now next.now p.0
+-- src/lib.rt, none_left: result ≡ none_left order.now.counts next.now p.0
 use mathlib.Core.Path.{refl}
 use borrow.Author.Tests.{eq-eqb, ne_eqb}
 use Rattle.decide.specs.Walk.{none_left}

@@ -1,4 +1,4 @@
--- src/lib.rt, order_told: Decided board t.now result order.new counts.new
+-- src/lib.rt, order_told: Decided board t.now result order.new.slots order.new.counts
 use Rattle.decide.specs.Laws.Decide.{failed, passed, parts_formed, formed_first, formed_shaped, not_sound}
 use Rattle.decide.specs.Laws.Decided.{not_marked, decided}
 use Rattle.marking.specs.Laws.Marking.{no_marks}
@@ -7,13 +7,13 @@ use mathlib.Core.Bool.{not}
 use Rattle.decide.proofs.order_told.Goals as goal
 
 pub is_formed-requires : goal.is_formed-requires
-is_formed-requires c = let asked = c.requires in (asked.0, asked.1)
+is_formed-requires c = c.requires
 
 pub returns-then-not-is_formed : goal.returns-then-not-is_formed
 returns-then-not-is_formed c = not_sound _ _ (λ h. failed c.is_formed.ensures (ap not c.if-not-is_formed.true) (parts_formed _ _ h))
 
 pub arrange-requires : goal.arrange-requires
-arrange-requires c = let asked = c.requires in (asked.0, formed_shaped _ (passed c.is_formed.ensures (ap not c.if-not-is_formed.false)), asked.2, asked.3)
+arrange-requires c = (c.requires.0, formed_shaped _ (passed c.is_formed.ensures (ap not c.if-not-is_formed.false)))
 
 pub returns-then-not-arrange : goal.returns-then-not-arrange
 returns-then-not-arrange c = not_sound _ _ (λ h. failed c.arrange.ensures.says (ap not c.if-not-arrange.true) h.s6)

@@ -9,7 +9,7 @@ pub returns-then-not-is_present : goal.returns-then-not-is_present
 returns-then-not-is_present c = left_absent _ _ _ (sym c.is_present.ensures ∙ c.if-not-is_present.true)
 
 pub none_left-requires : goal.none_left-requires
-none_left-requires c = let h = c.requires in (h.0, h.1.size_c, h.1.size_x)
+none_left-requires c = let h = c.requires in (h.0, h.1.size_x)
 
 pub returns-then-not-none_left : goal.returns-then-not-none_left
 returns-then-not-none_left c =

@@ -1,5 +1,5 @@
 -- Holders and runs: each number of theirs exactly under its condition, for every table; and what they list.
-use Rattle.std.specs.Prelude.{◌≡◌, Bool, cond, ◌↔◌, ℕ, suc, ◌-◌, ◌≤◌, ◌<◌, leb}
+use Rattle.std.specs.Prelude.{◌≡◌, Bool, cond, ◌↔◌, ℕ, suc, ◌-◌, ◌≤◌, ◌<◌, leb, Ok, Err}
 use Rattle.std.proofs.Math.Path.{refl}
 use Rattle.std.proofs.Common.{sym, ◌∙◌, arith, leb-true, le-leb}
 use Rattle.std.proofs.Math.Bool.{true, false, false≢true}
@@ -12,8 +12,8 @@ use Rattle.tables.specs.View.{view}
 use Rattle.tables.specs.Lines.{Holds}
 use Rattle.tables.specs.Search.{lowest, holds_at, looked_at, look_for}
 use Rattle.tables.specs.Laws.Search.{lowest_some, lowest_none}
-use Rattle.tables.specs.declared.Outcome.TheVariants.{Done, Refused}
 use Rattle.tables.specs.WayUp.{names_over}
+use Rattle.tables.specs.Outcomes.{Outcome}
 use Rattle.sound.specs.Sound.{Sound}
 use Rattle.sound.specs.Laws.Core.{sound_core}
 use Rattle.sound.specs.Clauses.{sound}
@@ -22,7 +22,7 @@ use Rattle.sound.proofs.Laws.List.{sound_means}
 use Rattle.sound.proofs.Laws.MeansEntries.{holds_means}
 use Rattle.sound.proofs.Laws.Looks.{looks_few}
 use Rattle.sound.specs.Holders.{holders_of, looks_of, in_memory, holders_outcome, holders_bytes}
-use Rattle.rules.specs.Rules.{Result, done, refused, check}
+use Rattle.rules.specs.Rules.{Effect, done, refused, check}
 use Rattle.rules.specs.Ran.{outcome_of}
 use Rattle.isolation.specs.Ladder.{Answers, finished, Ends}
 use Rattle.isolation.specs.Laws.Ladder.{ends, check_answers}
@@ -34,6 +34,7 @@ use Rattle.ledger.specs.Lists.{Lists, nth_name}
 use Rattle.ledger.specs.Laws.Lists.{lists_same, one_list}
 use Rattle.ledger.specs.Laws.Listing.{holders_list}
 use Rattle.demands.specs.Demands.{holders_ladder, LooksAt, found, not_found, LooksSummed, LongestRuns, TableRuns, runs_ladder}
+use Rattle.words.specs.declared.Refusal.TheVariants.{NotSound, WrongLine, ShortList}
 
 -- ── the runs, where the holders' lists are known ──
 module _ {Holder : ℕ → ℕ → Type 0} {up : ℕ → ℕ} (k : K) (range : k.base < k.stop)
@@ -110,17 +111,17 @@ module _ (t : List ℕ) (m : ℕ) where
   holders_looked = record { words = λ p. (look_for (view t).k m p).count; looks = looks_at; sum_is = refl; few = looks_few (view t).k m }
 
 -- what a list is afterwards: written when done, as before when refused
-abbrev pub leaves : {A : Type 0} → A → A → Result → A
+abbrev pub leaves : {A : Type 0} → A → A → Effect → A
 leaves before written (done v w t) = written
-leaves before written (refused n) = before
+leaves before written (refused why) = before
 
 -- ── holders: 1, 7, 17 ──
 module _ (board : Board) (t : List ℕ) (m : ℕ) (list : List ℕ) where
-  abbrev pub holders_result : Result
+  abbrev pub holders_result : Effect
   holders_result =
-      check 1 (sound board t)
-      (check 7 (in_memory (view t).k m)
-      (check 17 (leb 16 (length list))
+      check NotSound (sound board t)
+      (check WrongLine (in_memory (view t).k m)
+      (check ShortList (leb 16 (length list))
       (done (length (holders_of (view t).k m)) (looks_of (view t).k m) (view t))))
 
   pub holders_exact : Answers (holders_ladder board t m (length list)) holders_result
@@ -137,8 +138,8 @@ module _ (board : Board) (t : List ℕ) (m : ℕ) (list : List ℕ) where
   holders_by = go (sound board t) (in_memory (view t).k m) (leb 16 (length list)) (length (holders_of (view t).k m)) (looks_of (view t).k m) (names_over (holders_of (view t).k m) list)
     where
       go : (x y z : Bool) (n s : ℕ) (l : List ℕ)
-          → (cond x (cond y (cond z (Done n s) (Refused 17)) (Refused 7)) (Refused 1) ≡ outcome_of (check 1 x (check 7 y (check 17 z (done n s (view t))))))
-          × (cond x (cond y (cond z l list) list) list ≡ leaves list l (check 1 x (check 7 y (check 17 z (done n s (view t))))))
+          → (cond {A = Outcome} x (cond y (cond z (Ok (n, s)) (Err ShortList)) (Err WrongLine)) (Err NotSound) ≡ outcome_of (check NotSound x (check WrongLine y (check ShortList z (done n s (view t))))))
+          × (cond x (cond y (cond z l list) list) list ≡ leaves list l (check NotSound x (check WrongLine y (check ShortList z (done n s (view t))))))
       go true true true n s l = (refl, refl)
       go true true false n s l = (refl, refl)
       go true false z n s l = (refl, refl)
@@ -153,10 +154,10 @@ module _ (board : Board) (t : List ℕ) (m : ℕ) (list : List ℕ) where
 
 -- ── runs: 1, 17 ──
 module _ (board : Board) (t : List ℕ) (list : List Run) where
-  abbrev pub runs_result : Result
+  abbrev pub runs_result : Effect
   runs_result =
-      check 1 (sound board t)
-      (check 17 (leb (length (runs_of (view t).k)) (length list))
+      check NotSound (sound board t)
+      (check ShortList (leb (length (runs_of (view t).k)) (length list))
       (done (length (runs_of (view t).k)) 0 (view t)))
 
   pub runs_exact : Answers (runs_ladder board t (length list)) runs_result
@@ -173,8 +174,8 @@ module _ (board : Board) (t : List ℕ) (list : List Run) where
   runs_by = go (sound board t) (leb (length (runs_of (view t).k)) (length list)) (length (runs_of (view t).k)) (runs_over (runs_of (view t).k) list)
     where
       go : (x y : Bool) (n : ℕ) (l : List Run)
-          → (cond x (cond y (Done n 0) (Refused 17)) (Refused 1) ≡ outcome_of (check 1 x (check 17 y (done n 0 (view t)))))
-          × (cond x (cond y l list) list ≡ leaves list l (check 1 x (check 17 y (done n 0 (view t)))))
+          → (cond {A = Outcome} x (cond y (Ok (n, 0)) (Err ShortList)) (Err NotSound) ≡ outcome_of (check NotSound x (check ShortList y (done n 0 (view t)))))
+          × (cond x (cond y l list) list ≡ leaves list l (check NotSound x (check ShortList y (done n 0 (view t)))))
       go true true n l = (refl, refl)
       go true false n l = (refl, refl)
       go false y n l = (refl, refl)

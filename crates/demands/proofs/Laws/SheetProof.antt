@@ -11,6 +11,9 @@ use Rattle.words.specs.Words.{call, masks, lines}
 use Rattle.words.specs.declared.lines_word.LinesFields.{LinesFields}
 use Rattle.words.specs.Laws.Kinds.{lines_lawful}
 use Rattle.words.proofs.Trips.{masks_trips, lines_trips}
+use Rattle.words.specs.declared.Refusal.{Refusal}
+use Rattle.words.specs.Refusals.{number_of}
+use Rattle.words.specs.Laws.Refusals.{number_low}
 use Rattle.shapes.specs.declared.Board.{Board}
 use Rattle.words.specs.declared.call_word.CallFields.{CallFields}
 use Rattle.tables.specs.State.{Opt, none, Table}
@@ -25,7 +28,7 @@ use Rattle.sound.specs.Sound.{Present, Sound}
 use Rattle.sound.specs.Clauses.{sound}
 use Rattle.sound.specs.Whole.{Right}
 use Rattle.sound.proofs.Laws.List.{sound_means}
-use Rattle.rules.specs.Rules.{Result, done, refused, call_on, boot_on}
+use Rattle.rules.specs.Rules.{Effect, done, refused, call_on, boot_on}
 use Rattle.rules.specs.Ran.{outcome_of}
 use Rattle.rules.specs.Calls.{caller_of}
 use Rattle.services.specs.Laws.Boot.{boot_length}
@@ -53,6 +56,7 @@ use Rattle.demands.specs.Laws.Calls.{handed_small, handed_of, call_answered, cal
 use Rattle.demands.specs.Laws.Lowest.{Rises, top, rung, applies_range, past}
 use Rattle.demands.specs.Laws.Results.{reads_back}
 use Rattle.demands.specs.Sheet.{IsSheet, SheetPair, CalledBeside, no_call, one_call, KeptBeside, SheetDemand}
+use Rattle.words.specs.declared.Refusal.TheVariants.{WrongLine, NotSound, WrongSheet}
 
 -- a table that was left is right: the sheet left beside it is its own
 afresh : {t : Table} {c u : List ℕ} → Right t → c ≡ bytes_of (encode t) → u ≡ sheet_bytes (sheet_of t) → IsSheet c u
@@ -68,25 +72,25 @@ of_matches b s small q =
     sym (sheet_bytes_law s (matches_length s (view (handed b)) q) small) ∙ ap sheet_bytes ((matches_means (handed_sheet s) (view (handed b))).0 q)
 
 -- what is read of a refusal, and of what is done
-refused_reads : {n p r : ℕ} {res : Result} → n < 2 ^ 8 → p < 2 ^ 8 → res ≡ refused n → r ≡ result_of p (outcome_of res) → refusal_in r ≡ n
+refused_reads : {p r : ℕ} {why : Refusal} {res : Effect} → p < 2 ^ 8 → res ≡ refused why → r ≡ result_of p (outcome_of res) → refusal_in r ≡ number_of why
 unfolding result_of outcome_of
-refused_reads {n} {p} a c e q = rw (q ∙ ap (λ (x : Result). result_of p (outcome_of x)) e) (reads_back n p 0 a c).0
+refused_reads {p} {why = why} c e q = rw (q ∙ ap (λ (x : Effect). result_of p (outcome_of x)) e) (reads_back (number_of why) p 0 (omega (arith, number_low why)) c).0
 
 -- a refusal leaves both
-both_unchanged : {p : ℕ} {res : Result} {b s : List ℕ} {r : ℕ} {c u : List ℕ} → p < 2 ^ 8 → BothLent p res b s r c u → (Accepted r → ⊥) → (n : ℕ) × (res ≡ refused n) × (c ≡ b) × (u ≡ s)
+both_unchanged : {p : ℕ} {res : Effect} {b s : List ℕ} {r : ℕ} {c u : List ℕ} → p < 2 ^ 8 → BothLent p res b s r c u → (Accepted r → ⊥) → (why : Refusal) × (res ≡ refused why) × (c ≡ b) × (u ≡ s)
 unfolding result_of outcome_of bytes_after sheet_bytes_after
 both_unchanged {p} {res} {b} {s} {r} {c} {u} small h n = go res refl h.table.result h.table.bytes h.sheet
   where
-    go : (x : Result) → res ≡ x → r ≡ result_of p (outcome_of x) → c ≡ bytes_after b x → u ≡ sheet_bytes_after s x → (m : ℕ) × (res ≡ refused m) × (c ≡ b) × (u ≡ s)
+    go : (x : Effect) → res ≡ x → r ≡ result_of p (outcome_of x) → c ≡ bytes_after b x → u ≡ sheet_bytes_after s x → (why : Refusal) × (res ≡ refused why) × (c ≡ b) × (u ≡ s)
     go (done f y t) z e d k = absurd (n (rw e (reads_back 0 p f (omega arith) small).0))
-    go (refused m) z e d k = (m, z, d, k)
+    go (refused why) z e d k = (why, z, d, k)
 
 -- ── the rows without a sheet have no number from 20 on ──
 data Below : Ladder → Type 1 where
   last : {v w : ℕ} {t : Table} → Below (finish v w t)
-  asks : {m : ℕ} {P : Type 0} {c : Ladder} → m < 20 → Below c → Below (must m P c)
-  needs : {m : ℕ} {A : Type 0} {o : Opt A} {c : A → Ladder} → m < 20 → ((a : A) → Below (c a)) → Below (there m o c)
-  finds : {m k : ℕ} {P : ℕ → Type 0} {c : ℕ → Ladder} → m < 20 → ((i : ℕ) → Below (c i)) → Below (least m k P c)
+  asks : {why : Refusal} {P : Type 0} {c : Ladder} → number_of why < 20 → Below c → Below (must why P c)
+  needs : {why : Refusal} {A : Type 0} {o : Opt A} {c : A → Ladder} → number_of why < 20 → ((a : A) → Below (c a)) → Below (there why o c)
+  finds : {k : ℕ} {why : Refusal} {P : ℕ → Type 0} {c : ℕ → Ladder} → number_of why < 20 → ((i : ℕ) → Below (c i)) → Below (least why k P c)
 
 applies_below : {m : ℕ} {l : Ladder} → Below l → Applies l m → m < 20
 applies_below last x = elim x [ ]
@@ -112,8 +116,8 @@ boot_below l base end = search (last, asks, lit<) depth 10
 
 -- ── boot ──
 data HowBoot (b s : List ℕ) (base end : ℕ) : Type 0 where
-  short : (length b ≡ 5128 → ⊥) → boot_sheet_on (handed b) (handed_sheet s) base end ≡ refused 1 → HowBoot b s base end
-  no_sheet : length b ≡ 5128 → (length s ≡ 256 → ⊥) → boot_sheet_on (handed b) (handed_sheet s) base end ≡ refused 20 → HowBoot b s base end
+  short : (length b ≡ 5128 → ⊥) → boot_sheet_on (handed b) (handed_sheet s) base end ≡ refused NotSound → HowBoot b s base end
+  no_sheet : length b ≡ 5128 → (length s ≡ 256 → ⊥) → boot_sheet_on (handed b) (handed_sheet s) base end ≡ refused WrongSheet → HowBoot b s base end
   plain : length b ≡ 5128 → length s ≡ 256 → boot_sheet_on (handed b) (handed_sheet s) base end ≡ boot_on (handed b) base end → HowBoot b s base end
 
 how_boot : (b s : List ℕ) (base end : ℕ) → HowBoot b s base end
@@ -125,15 +129,15 @@ how_boot b s base end = go (ℕ_discrete (length b) 5128) (ℕ_discrete (length 
     go (yes h) (yes k) = plain h k (boot_else _ _ base end (handed_whole b h) (handed_length s k))
 
 -- after 1 comes 7
-range_rises : {P : Type 0} {t : Table} → Rises 2 (must 7 P (finish 0 0 t))
-range_rises = rung {n = 2} {m = 7} (omega arith) (omega arith) top
+range_rises : {P : Type 0} {t : Table} → Rises 2 (must WrongLine P (finish 0 0 t))
+range_rises = rung {n = 2} {why = WrongLine} (omega arith) (omega arith) top
 
 module _ (base end : ℕ) {b s : List ℕ} {r : ℕ} {c s' : List ℕ} (h : BootSheetLent b s base end r c s') where
   boot_without : boot_sheet_on (handed b) (handed_sheet s) base end ≡ boot_on (handed b) base end → BootLent b base end r c
-  boot_without e = subst (λ (x : Result). Lent 0 x b r c) e h.table
+  boot_without e = subst (λ (x : Effect). Lent 0 x b r c) e h.table
 
-  boot_says : {n : ℕ} → n < 2 ^ 8 → boot_sheet_on (handed b) (handed_sheet s) base end ≡ refused n → refusal_in r ≡ n
-  boot_says small e = refused_reads small (omega arith) e h.table.result
+  boot_says : {why : Refusal} → boot_sheet_on (handed b) (handed_sheet s) base end ≡ refused why → refusal_in r ≡ number_of why
+  boot_says e = refused_reads (omega arith) e h.table.result
 
   -- without a sheet it is 1 by the length alone, and never 20
   boot_one : length b ≡ 5128 → BootLent b base end r c → (refusal_in r ≡ 1 → ⊥) × (refusal_in r ≡ 20 → ⊥)
@@ -147,16 +151,16 @@ module _ (base end : ℕ) {b s : List ℕ} {r : ℕ} {c s' : List ℕ} (h : Boot
   sheet_boot_1 = go (how_boot b s base end)
     where
       go : HowBoot b s base end → (refusal_in r ≡ 1) ↔ (length b ≡ 5128 → ⊥)
-      go (short k e) = (λ _. k, λ _. boot_says (omega arith) e)
-      go (no_sheet k j e) = (λ z. absurd (omega (arith, boot_says (omega arith) e)), λ n. absurd (n k))
+      go (short k e) = (λ _. k, λ _. boot_says e)
+      go (no_sheet k j e) = (λ z. absurd (omega (arith, boot_says e)), λ n. absurd (n k))
       go (plain k j e) = (λ z. absurd ((boot_one k (boot_without e)).0 z), λ n. absurd (n k))
 
   sheet_boot_20 : (refusal_in r ≡ 20) ↔ ((length b ≡ 5128) × (length s ≡ 256 → ⊥))
   sheet_boot_20 = go (how_boot b s base end)
     where
       go : HowBoot b s base end → (refusal_in r ≡ 20) ↔ ((length b ≡ 5128) × (length s ≡ 256 → ⊥))
-      go (short k e) = (λ z. absurd (omega (arith, boot_says (omega arith) e)), λ n. absurd (k n.0))
-      go (no_sheet k j e) = (λ _. (k, j), λ _. boot_says (omega arith) e)
+      go (short k e) = (λ z. absurd (omega (arith, boot_says e)), λ n. absurd (k n.0))
+      go (no_sheet k j e) = (λ _. (k, j), λ _. boot_says e)
       go (plain k j e) = (λ z. absurd ((boot_one k (boot_without e)).1 z), λ n. absurd (n.1 j))
 
   sheet_boot_else : length s ≡ 256 → BootLent b base end r c
@@ -173,8 +177,8 @@ module _ (base end : ℕ) {b s : List ℕ} {r : ℕ} {c s' : List ℕ} (h : Boot
     boot_lent = go (how_boot b s base end)
       where
         go : HowBoot b s base end → BootLent b base end r c × (boot_sheet_on (handed b) (handed_sheet s) base end ≡ boot_on (handed b) base end)
-        go (short k e) = absurd (omega (arith, boot_says (omega arith) e, q))
-        go (no_sheet k j e) = absurd (omega (arith, boot_says (omega arith) e, q))
+        go (short k e) = absurd (omega (arith, boot_says e, q))
+        go (no_sheet k j e) = absurd (omega (arith, boot_says e, q))
         go (plain k j e) = (boot_without e, e)
 
     boot_is : boot_on (handed b) base end ≡ done (first_in r) 0 (booted base end boot_lent.0 q).0
@@ -196,8 +200,8 @@ sound_size board b q = go (ℕ_discrete (length b) 5128)
 
 -- ── a call ──
 data How (board : Board) (l s : List ℕ) (w : ℕ) : Type 0 where
-  unsound : sound board l ≡ false → call_sheet_on board l s w ≡ refused 1 → How board l s w
-  mismatch : sound board l ≡ true → matches s (view l) ≡ false → call_sheet_on board l s w ≡ refused 20 → How board l s w
+  unsound : sound board l ≡ false → call_sheet_on board l s w ≡ refused NotSound → How board l s w
+  mismatch : sound board l ≡ true → matches s (view l) ≡ false → call_sheet_on board l s w ≡ refused WrongSheet → How board l s w
   same : sound board l ≡ true → matches s (view l) ≡ true → call_sheet_on board l s w ≡ call_on board l w → How board l s w
 
 how : (board : Board) (l s : List ℕ) (w : ℕ) → How board l s w
@@ -214,18 +218,18 @@ not_sound {board} {l} q s = false≢true (sym q ∙ (sound_means board l).1 s)
 module _ {board : Board} {b s : List ℕ} {w v r : ℕ} {c s' : List ℕ} {v' : ℕ} (h : CallSheetLent board b s w v r c s' v') where
   without : call_sheet_on board (handed b) (handed_sheet s) w ≡ call_on board (handed b) w → CallLent board b w v r c v'
   without e = record {
-    table = subst (λ (x : Result). Lent (caller_of board (handed b)) x b r c) e h.both.table;
-    second = h.second ∙ ap (λ (x : Result). second_after v (outcome_of x)) e;
+    table = subst (λ (x : Effect). Lent (caller_of board (handed b)) x b r c) e h.both.table;
+    second = h.second ∙ ap (λ (x : Effect). second_after v (outcome_of x)) e;
   }
 
-  call_says : {n : ℕ} → n < 2 ^ 8 → call_sheet_on board (handed b) (handed_sheet s) w ≡ refused n → refusal_in r ≡ n
-  call_says small e = refused_reads small (caller_byte board b) e h.both.table.result
+  call_says : {why : Refusal} → call_sheet_on board (handed b) (handed_sheet s) w ≡ refused why → refusal_in r ≡ number_of why
+  call_says e = refused_reads (caller_byte board b) e h.both.table.result
 
   call_unchanged : (Accepted r → ⊥) → (c ≡ b) × (s' ≡ s) × (v' ≡ v)
   unfolding outcome_of second_after
   call_unchanged n =
       let (m, e, d, k) = both_unchanged (caller_byte board b) h.both n in
-      (d, k, h.second ∙ ap (λ (x : Result). second_after v (outcome_of x)) e)
+      (d, k, h.second ∙ ap (λ (x : Effect). second_after v (outcome_of x)) e)
 
   -- done by the rule: the sheet is the new table's
   left : Words (handed b) → {f y : ℕ} {t : Table} → call_sheet_on board (handed b) (handed_sheet s) w ≡ call_on board (handed b) w → call_on board (handed b) w ≡ done f y t
@@ -241,9 +245,9 @@ module _ {board : Board} {b s : List ℕ} {w v r : ℕ} {c s' : List ℕ} {v' : 
   unfolding bytes_after sheet_bytes_after
   next_sheet small e is = go (call_on board (handed b) w) refl
     where
-      go : (x : Result) → call_on board (handed b) w ≡ x → IsSheet c s'
+      go : (x : Effect) → call_on board (handed b) w ≡ x → IsSheet c s'
       go (done f y t) z = (left small e z).0
-      go (refused n) z =
+      go (refused why) z =
           let d = h.both.table.bytes ∙ ap (bytes_after b) (e ∙ z) in
           let k = h.both.sheet ∙ ap (sheet_bytes_after s) (e ∙ z) in
           k ∙ is ∙ ap (λ (x : List ℕ). sheet_bytes (sheet_of (view (handed x)))) (sym d)
@@ -256,18 +260,18 @@ module _ {board : Board} {b s : List ℕ} {w v r : ℕ} {c s' : List ℕ} {v' : 
     sheet_call_1 = go (how board (handed b) (handed_sheet s) w)
       where
         go : How board (handed b) (handed_sheet s) w → (refusal_in r ≡ 1) ↔ (Sound board (handed b) → ⊥)
-        go (unsound p e) = (λ _. not_sound p, λ _. call_says (omega arith) e)
-        go (mismatch p q e) = (λ z. absurd (omega (arith, call_says (omega arith) e)), λ n. absurd (n ((sound_means board (handed b)).0 p)))
+        go (unsound p e) = (λ _. not_sound p, λ _. call_says e)
+        go (mismatch p q e) = (λ z. absurd (omega (arith, call_says e)), λ n. absurd (n ((sound_means board (handed b)).0 p)))
         go (same p q e) = one_unsound small (without e)
 
     sheet_call_20 : Bytes s → (refusal_in r ≡ 20) ↔ (Sound board (handed b) × (IsSheet b s → ⊥))
     sheet_call_20 bytes = go (how board (handed b) (handed_sheet s) w)
       where
         go : How board (handed b) (handed_sheet s) w → (refusal_in r ≡ 20) ↔ (Sound board (handed b) × (IsSheet b s → ⊥))
-        go (unsound p e) = (λ z. absurd (omega (arith, call_says (omega arith) e)), λ n. absurd (not_sound p n.0))
+        go (unsound p e) = (λ z. absurd (omega (arith, call_says e)), λ n. absurd (not_sound p n.0))
         go (mismatch p q e) =
             let k = (sound_means board (handed b)).0 p in
-            (λ _. (k, λ i. false≢true (sym q ∙ to_matches b s (record { small = small; sound = k }) i)), λ _. call_says (omega arith) e)
+            (λ _. (k, λ i. false≢true (sym q ∙ to_matches b s (record { small = small; sound = k }) i)), λ _. call_says e)
         go (same p q e) = (λ z. absurd (never e z), λ n. absurd (n.1 (of_matches b s bytes q)))
 
     sheet_call_else : (Sound board (handed b) → IsSheet b s) → CallLent board b w v r c v'
@@ -285,8 +289,8 @@ module _ {board : Board} {b s : List ℕ} {w v r : ℕ} {c s' : List ℕ} {v' : 
       plainly = go (how board (handed b) (handed_sheet s) w)
         where
           go : How board (handed b) (handed_sheet s) w → (sound board (handed b) ≡ true) × (matches (handed_sheet s) (view (handed b)) ≡ true) × (call_sheet_on board (handed b) (handed_sheet s) w ≡ call_on board (handed b) w)
-          go (unsound p e) = absurd (omega (arith, call_says (omega arith) e, a))
-          go (mismatch p q e) = absurd (omega (arith, call_says (omega arith) e, a))
+          go (unsound p e) = absurd (omega (arith, call_says e, a))
+          go (mismatch p q e) = absurd (omega (arith, call_says e, a))
           go (same p q e) = (p, q, e)
 
       sheet_call_afresh : IsSheet c s'

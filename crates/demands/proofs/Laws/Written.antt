@@ -14,7 +14,7 @@ use Rattle.tables.specs.WayUp.{names_over}
 use Rattle.sound.specs.Sound.{Sound}
 use Rattle.sound.specs.Laws.Core.{sound_core}
 use Rattle.sound.specs.Holders.{holders_of, holders_outcome, HoldersListed}
-use Rattle.rules.specs.Rules.{Result}
+use Rattle.rules.specs.Rules.{Effect}
 use Rattle.rules.specs.Ran.{outcome_of}
 use Rattle.runs.specs.declared.Run.{Run}
 use Rattle.runs.specs.Runs.{runs_of, runs_outcome, runs_over, RunsListed}
@@ -40,7 +40,7 @@ module _ {board : Board} {b : List ℕ} {m : ℕ} {list : List ℕ} {s r : ℕ} 
   abbrev k : K
   k = (view (handed b)).k
 
-  abbrev result : Result
+  abbrev result : Effect
   result = holders_result board (handed b) m list
 
   word : r ≡ result_of 0 (outcome_of result)
@@ -58,7 +58,7 @@ module _ {board : Board} {b : List ℕ} {m : ℕ} {list : List ℕ} {s r : ℕ} 
       result_answered (holders_rises board (handed b) m (length list)) nobody_calls result (holders_exact board (handed b) m list) word
       (λ n z. (
         bytes_by ∙ ap (leaves list (names_over (holders_of k m) list)) z,
-        second_by ∙ ap (λ (x : Result). second_after s (outcome_of x)) z,
+        second_by ∙ ap (λ (x : Effect). second_after s (outcome_of x)) z,
       ))
 
   -- done: the number and every byte, where the names are those of a listing
@@ -74,7 +74,7 @@ module _ {board : Board} {b : List ℕ} {m : ℕ} {list : List ℕ} {s r : ℕ} 
         only = λ hs x. one_list x (lists f i j);
         number_is = v;
         bytes = bytes_by ∙ ap (leaves list (names_over (holders_of k m) list)) z;
-        looked = rw (second_by ∙ ap (λ (x : Result). second_after s (outcome_of x)) z ∙ y) (holders_looked (handed b) m);
+        looked = rw (second_by ∙ ap (λ (x : Effect). second_after s (outcome_of x)) z ∙ y) (holders_looked (handed b) m);
       }
 
   pub holders_written : Accepted r → HoldersWritten (handed b) m (λ p. Holds k.slot p m) k.parent list (first_in r) s' after
@@ -85,7 +85,7 @@ module _ {board : Board} {b : List ℕ} {list : List Run} {r : ℕ} {after : Lis
   abbrev runs_k : K
   runs_k = (view (handed b)).k
 
-  abbrev runs_result_law : Result
+  abbrev runs_result_law : Effect
   runs_result_law = runs_result board (handed b) list
 
   runs_word : r ≡ result_of 0 (outcome_of runs_result_law)

@@ -11,7 +11,7 @@ use Rattle.memory.specs.Laws.ByteTrips.{bytes_words, record_byte_law}
 use Rattle.sound.specs.Sound.{Present, Sound}
 use Rattle.sound.specs.Whole.{Right}
 use Rattle.sound.proofs.Laws.List.{sound_means}
-use Rattle.rules.specs.Rules.{Result, done, refused, call_on, words_after}
+use Rattle.rules.specs.Rules.{Effect, done, refused, call_on, words_after}
 use Rattle.rules.specs.Ran.{outcome_of}
 use Rattle.rules.specs.Calls.{caller_of}
 use Rattle.isolation.specs.Laws.Fits.{Good}
@@ -49,7 +49,7 @@ call_whole : {board : Board} {b c : List ℕ} {w s r s' : ℕ} → Good board (h
 unfolding bytes_after words_after
 call_whole {board} {b} {c} {w} good e h = go (call_on board (handed b) w) h.table.bytes (next good h).1
   where
-    go : (x : Result) → c ≡ bytes_after b x → handed c ≡ words_after (handed b) x → c ≡ bytes_of (handed c)
+    go : (x : Effect) → c ≡ bytes_after b x → handed c ≡ words_after (handed b) x → c ≡ bytes_of (handed c)
     go (done v y t) q z = q ∙ ap bytes_of (sym z)
     go (refused n) q z = q ∙ e ∙ ap bytes_of (sym z)
 

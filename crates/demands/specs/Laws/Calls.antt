@@ -6,6 +6,7 @@ use Rattle.std.proofs.Math.Bool.{true, false, cond, false≢true}
 use borrow.Author.Tests.{ne_eqb}
 use Rattle.words.specs.Kind.{fields_in}
 use Rattle.words.specs.Words.{call}
+use Rattle.words.specs.Refusals.{number_of}
 use Rattle.shapes.specs.declared.Board.{Board}
 use Rattle.tables.specs.State.{Table}
 use Rattle.tables.specs.View.{view}
@@ -22,7 +23,7 @@ use Rattle.sound.specs.Properties.{Isolated}
 use Rattle.sound.proofs.Laws.Whole.{right_isolated}
 use Rattle.sound.specs.Whole.{Right}
 use Rattle.sound.proofs.Laws.List.{sound_means}
-use Rattle.rules.specs.Rules.{Result, done, refused, call_on, words_after}
+use Rattle.rules.specs.Rules.{Effect, done, refused, call_on, words_after}
 use Rattle.rules.specs.Ran.{outcome_of}
 use Rattle.rules.specs.Calls.{caller_of}
 use Rattle.rules.specs.Laws.Calls.{caller_small}
@@ -81,7 +82,7 @@ module _ {board : Board} {b : List ℕ} {w s r : ℕ} {c : List ℕ} {s' : ℕ} 
   unfolding bytes_after second_after outcome_of
   call_answered =
       result_answered (call_rises board (handed b) w) (caller_byte board b) (call_on board (handed b) w) exact h.table.result
-      (λ n z. (h.table.bytes ∙ ap (bytes_after b) z, h.second ∙ ap (λ (y : Result). second_after s (outcome_of y)) z))
+      (λ n z. (h.table.bytes ∙ ap (bytes_after b) z, h.second ∙ ap (λ (y : Effect). second_after s (outcome_of y)) z))
 
   -- refusal 1 is given exactly where the table is not sound
   pub one_unsound : (refusal_in r ≡ 1) ↔ (Sound board (handed b) → ⊥)
@@ -109,7 +110,7 @@ module _ {board : Board} {b : List ℕ} {w s r : ℕ} {c : List ℕ} {s' : ℕ} 
   unfolding bytes_after second_after outcome_of
   call_changed q =
       let (y, t, z) = call_done q in
-      let e : s' ≡ y = h.second ∙ ap (λ (x : Result). second_after s (outcome_of x)) z in
+      let e : s' ≡ y = h.second ∙ ap (λ (x : Effect). second_after s (outcome_of x)) z in
       changed (subst (Answers (call_ladder board (handed b) w)) (z ∙ ap (λ (x : ℕ). done (first_in r) x t) (sym e)) exact) (call_right board (handed b) w small z) (h.table.bytes ∙ ap (bytes_after b) z)
 
   -- the event is told by the result word as by the rule
@@ -117,10 +118,10 @@ module _ {board : Board} {b : List ℕ} {w s r : ℕ} {c : List ℕ} {s' : ℕ} 
   unfolding event_of outcome_of
   call_event g = go (call_on board (handed b) w) exact h.table.result
     where
-      go : (x : Result) → Answers (call_ladder board (handed b) w) x → r ≡ result_of (caller_of board (handed b)) (outcome_of x)
+      go : (x : Effect) → Answers (call_ladder board (handed b) w) x → r ≡ result_of (caller_of board (handed b)) (outcome_of x)
           → happened board b w r g ≡ event_of g (fields_in call w) (caller_of board (handed b)) (outcome_of x) (lines_named board (handed b) w)
       go (done v y t) a e = let ((i, k), j) = result_read (call_rises board (handed b) w) (caller_byte board b) (done v y t) a e in rw (i, k, j) refl
-      go (refused n) a e = let ((i, k, j), _) = result_read (call_rises board (handed b) w) (caller_byte board b) (refused n) a e in rw (i, ne_eqb n 0 (omega arith)) refl
+      go (refused why) a e = let ((i, k, j), _) = result_read (call_rises board (handed b) w) (caller_byte board b) (refused why) a e in rw (i, ne_eqb (number_of why) 0 (omega arith)) refl
 
   -- so the ledger is kept as by the rule
   pub call_noted : (g : Ledger) → entered board b w r g ≡ noted w (caller_of board (handed b)) (outcome_of (call_on board (handed b) w)) (lines_named board (handed b) w) g
@@ -133,7 +134,7 @@ module _ {board : Board} {b : List ℕ} {w s r : ℕ} {c : List ℕ} {s' : ℕ} 
   unfolding bytes_after words_after
   next = (next_good good w, go (call_on board (handed b) w) refl)
     where
-      go : (x : Result) → call_on board (handed b) w ≡ x → handed c ≡ words_after (handed b) x
+      go : (x : Effect) → call_on board (handed b) w ≡ x → handed c ≡ words_after (handed b) x
       go (done v y t) z = ap handed (h.table.bytes ∙ ap (bytes_after b) z) ∙ handed_of (call_right board (handed b) w good.small z)
       go (refused n) z = ap handed (h.table.bytes ∙ ap (bytes_after b) z)
 

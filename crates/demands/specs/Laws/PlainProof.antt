@@ -4,6 +4,8 @@ use Rattle.std.proofs.Common.{arith, lit≤}
 use Rattle.words.specs.Kind.{fields_in}
 use Rattle.words.specs.Words.{call}
 use Rattle.words.specs.declared.call_word.CallFields.{CallFields}
+use Rattle.words.specs.declared.Refusal.{Refusal}
+use Rattle.words.specs.Refusals.{number_of}
 use Rattle.shapes.specs.declared.Board.TheVariants.{V8}
 use Rattle.tables.specs.State.{Opt, some, Table}
 use Rattle.tables.specs.Update.{upd}
@@ -18,10 +20,10 @@ use Rattle.demands.specs.Plain.{Plain}
 -- each number of the ladder is at most 18, or its condition holds
 data Low : Ladder → Type 1 where
   top : {v w : ℕ} {t : Table} → Low (finish v w t)
-  rung : {m : ℕ} {P : Type 0} {c : Ladder} → m ≤ 18 → Low c → Low (must m P c)
-  passed : {m : ℕ} {P : Type 0} {c : Ladder} → P → Low c → Low (must m P c)
-  value : {m : ℕ} {A : Type 0} {o : Opt A} {c : A → Ladder} → m ≤ 18 → ((a : A) → Low (c a)) → Low (there m o c)
-  number : {m k : ℕ} {P : ℕ → Type 0} {c : ℕ → Ladder} → m ≤ 18 → ((i : ℕ) → Low (c i)) → Low (least m k P c)
+  rung : {why : Refusal} {P : Type 0} {c : Ladder} → number_of why ≤ 18 → Low c → Low (must why P c)
+  passed : {why : Refusal} {P : Type 0} {c : Ladder} → P → Low c → Low (must why P c)
+  value : {why : Refusal} {A : Type 0} {o : Opt A} {c : A → Ladder} → number_of why ≤ 18 → ((a : A) → Low (c a)) → Low (there why o c)
+  number : {k : ℕ} {why : Refusal} {P : ℕ → Type 0} {c : ℕ → Ladder} → number_of why ≤ 18 → ((i : ℕ) → Low (c i)) → Low (least why k P c)
 
 applies_low : {m : ℕ} {l : Ladder} → Low l → Applies l m → m ≤ 18
 applies_low top x = elim x [ ]

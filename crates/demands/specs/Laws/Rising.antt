@@ -4,6 +4,7 @@ use Rattle.std.proofs.Common.{lit≤}
 use Rattle.words.specs.Kind.{fields_in, Zeroed}
 use Rattle.words.specs.Words.{call}
 use Rattle.words.specs.declared.call_word.CallFields.{CallFields}
+use Rattle.words.specs.declared.Refusal.TheVariants.{BadWord}
 use Rattle.shapes.specs.declared.Board.{Board}
 use Rattle.tables.specs.State.{Table}
 use Rattle.tables.specs.View.{view}
@@ -21,7 +22,7 @@ numbered_rises : (board : Board) (n : ℕ) (t : Table) (f : CallFields) → Rise
 numbered_rises board n t f = search (either, top, rung, value, number, lit≤) depth 40 fits 4000
 
 -- after 1 comes 2
-pub word_rises : (board : Board) (t : Table) (w : ℕ) → Rises 2 (must 2 (Zeroed call w) (serve_ladder board t (fields_in call w)))
+pub word_rises : (board : Board) (t : Table) (w : ℕ) → Rises 2 (must BadWord (Zeroed call w) (serve_ladder board t (fields_in call w)))
 word_rises board t w = let services = numbered_rises board (fields_in call w).service t (fields_in call w) in search (rung, services, lit≤) depth 10
 
 pub call_rises : (board : Board) (l : List ℕ) (w : ℕ) → Rises 1 (call_ladder board l w)

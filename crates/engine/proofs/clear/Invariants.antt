@@ -1,11 +1,8 @@
 -- src/lib.rt, clear: masks.new ≡ between a b (mask_struck w) masks.old
-use Prim.Native.Nat.{◌-◌}
+use lib.ListN.{length}
+use Rattle.loops.specs.Loops.{Filling}
 use Rattle.engine.specs.Engine.{mask_struck}
-use Rattle.engine.specs.Laws.Marking.{MaskMarking}
 use Rattle.engine.proofs.clear.Given as goal
 
-abbrev pub invariant-loop-i : goal.invariant-loop-i
-invariant-loop-i l = MaskMarking (mask_struck l.w) l.a l.b l.initial.masks l.i l.masks
-
-abbrev pub decreases-loop-i : goal.decreases-loop-i
-decreases-loop-i l = l.b - l.i
+abbrev pub invariant-loop-mask : goal.invariant-loop-mask
+invariant-loop-mask l = Filling (λ k. mask_struck l.w) l.initial.mask-items (length l.initial.mask-items) l.mask-index l.mask-items

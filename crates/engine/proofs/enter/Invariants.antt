@@ -1,11 +1,8 @@
 -- src/lib.rt, enter: masks.new ≡ between a b (joined w) masks.old
-use Prim.Native.Nat.{◌-◌}
+use lib.ListN.{length}
+use Rattle.loops.specs.Loops.{Filling}
 use Rattle.engine.specs.Engine.{joined}
-use Rattle.engine.specs.Laws.Marking.{MaskMarking}
 use Rattle.engine.proofs.enter.Given as goal
 
-abbrev pub invariant-loop-i : goal.invariant-loop-i
-invariant-loop-i l = MaskMarking (joined l.w) l.a l.b l.initial.masks l.i l.masks
-
-abbrev pub decreases-loop-i : goal.decreases-loop-i
-decreases-loop-i l = l.b - l.i
+abbrev pub invariant-loop-mask : goal.invariant-loop-mask
+invariant-loop-mask l = Filling (λ k. joined l.w) l.initial.mask-items (length l.initial.mask-items) l.mask-index l.mask-items

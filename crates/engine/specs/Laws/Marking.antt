@@ -1,24 +1,17 @@
--- A loop that rewrites a part of a list, one element a turn.
-use Rattle.std.specs.Prelude.{◌≡◌, Bool, ◌&&◌, List, ◌≢◌, ℕ, ◌+◌, ◌≤◌, ◌<◌, leb, length, set}
+-- A part of a list, rewritten.
+use Rattle.std.specs.Prelude.{◌≡◌, Bool, ◌&&◌, List, ℕ, ◌+◌, ◌-◌, ◌≤◌, ◌<◌, leb, length, take, drop}
 use Rattle.std.proofs.Math.Path.{refl}
-use Rattle.std.proofs.Common.{ap, ◌∙◌, arith, length-set, get_or-set_same, get_or-set_other}
+use Rattle.std.proofs.Common.{ap, ◌∙◌, arith}
 use Rattle.std.proofs.Math.Bool.{true, false, cond}
-use Rattle.std.proofs.Math.Decide.{ℕ_discrete, dec_lt}
+use Rattle.std.proofs.Math.Decide.{dec_lt}
 use Rattle.std.proofs.Math.Dec.{ltb}
 use Rattle.std.proofs.Math.ListN.{get_or}
+use Rattle.std.proofs.lemmas.Grind.{common_steps}
+use Rattle.std.proofs.lemmas.List.{length-take-le, length-drop, get_or-take, get_or-drop, get_or_append_left, get_or-append_right}
 use borrow.Author.Tests.{lt-leb, le-leb, le-ltb, lt-ltb}
+use borrow.Rule.Slice.PartMut.{put_mid}
 use Rattle.loops.specs.Laws.Rewrite.{tab_is, tab_at, length_tab}
 use Rattle.engine.specs.Engine.{between}
-
--- At i, s is l with the elements from a to i - 1 rewritten by h.
-pub record MaskMarking (h : ℕ → ℕ) (a b : ℕ) (l : List ℕ) (i : ℕ) (s : List ℕ) : Type 0 where
-  pub from : a ≤ i
-  pub to : i ≤ b
-  pub room : b ≤ length l
-  pub size : length s ≡ length l
-  pub inside : (k : ℕ) → a ≤ k → k < i → get_or s k 0 ≡ h (get_or l k 0)
-  pub below : (k : ℕ) → k < a → get_or s k 0 ≡ get_or l k 0
-  pub above : (k : ℕ) → i ≤ k → get_or s k 0 ≡ get_or l k 0
 
 -- ── what stands where ──
 module _ (a b : ℕ) (h : ℕ → ℕ) (l : List ℕ) where
@@ -42,47 +35,39 @@ module _ (a b : ℕ) (h : ℕ → ℕ) (l : List ℕ) where
       go true = rw (le-ltb k b y) refl
       go false = refl
 
--- ── laws of the loop ──
-module _ {h : ℕ → ℕ} {a b : ℕ} {l : List ℕ} where
-  pub mark_start : a ≤ b → b ≤ length l → MaskMarking h a b l a l
-  mark_start x y = record {
-    from = omega arith;
-    to = x;
-    room = y;
-    size = refl;
-    inside = λ k c d. absurd (omega arith);
-    below = λ k c. refl;
-    above = λ k c. refl;
-  }
+-- ── a part rewritten ──
+-- l with its part from a to b - 1 written anew, each element of it by h
+pub part_rewritten : (h : ℕ → ℕ) (a b : ℕ) (l part : List ℕ) → a ≤ b → b ≤ length l → let old : List ℕ = take (b - a) (drop a l) in
+    length part ≡ length old → ((k : ℕ) → k < length old → get_or part k 0 ≡ h (get_or old k 0)) → put_mid a (b - a) l part ≡ between a b h l
+unfolding between
+part_rewritten h a b l part x y same each = tab_is (length l) _ _ long (λ k c. go k c (dec_lt k a) (dec_lt k b))
+  where
+    head : length (take a l) ≡ a
+    head = length-take-le a l (omega arith)
 
-  module _ {i : ℕ} {s : List ℕ} (inv : MaskMarking h a b l i s) where
-    -- the store `s[i] = v`
-    pub mark_put : {v : ℕ} → i < b → v ≡ h (get_or s i 0) → MaskMarking h a b l (i + 1) (set s i v)
-    mark_put {v} c q = record {
-      from = omega (arith, inv.from);
-      to = omega arith;
-      room = inv.room;
-      size = rw length-set inv.size;
-      inside = λ k x y. at k x (ℕ_discrete k i) (omega arith);
-      below = λ k x. other k (omega (arith, inv.from)) ∙ inv.below k x;
-      above = λ k x. other k (omega arith) ∙ inv.above k (omega arith);
-    }
-      where
-        other : (k : ℕ) → k ≢ i → get_or (set s i v) k 0 ≡ get_or s k 0
-        other k d = get_or-set_other s i k v 0 d
+    few : length (take (b - a) (drop a l)) ≡ b - a
+    few = length-take-le (b - a) (drop a l) (omega (arith, length-drop a l))
 
-        here : get_or (set s i v) i 0 ≡ h (get_or l i 0)
-        here = get_or-set_same s i v 0 (omega (arith, inv.size, inv.room)) ∙ q ∙ ap h (inv.above i (omega arith))
+    size : length part ≡ b - a
+    size = same ∙ few
 
-        at : (k : ℕ) → a ≤ k → Dec (k ≡ i) → k ≤ i → get_or (set s i v) k 0 ≡ h (get_or l k 0)
-        at k x (yes z) y = rw z here
-        at k x (no z) y = other k z ∙ inv.inside k x (omega arith)
+    long : length (put_mid a (b - a) l part) ≡ length l
+    long = grind (arith, common_steps)
 
-    pub mark_end : b ≤ i → s ≡ between a b h l
-    unfolding between
-    mark_end c = tab_is (length l) _ s inv.size (λ k d. go k (dec_lt k a) (dec_lt k b))
-      where
-        go : (k : ℕ) → Dec (k < a) → Dec (k < b) → get_or s k 0 ≡ cond (leb a k && ltb k b) (h (get_or l k 0)) (get_or l k 0)
-        go k (yes x) _ = rw (lt-leb a k x) (inv.below k x)
-        go k (no x) (yes y) = rw (le-leb a k (omega arith), lt-ltb k b y) (inv.inside k (omega arith) (omega arith))
-        go k (no x) (no y) = rw (le-leb a k (omega arith), le-ltb k b (omega arith)) (inv.above k (omega (arith, inv.to)))
+    go : (k : ℕ) → k < length l → Dec (k < a) → Dec (k < b) → get_or (put_mid a (b - a) l part) k 0 ≡ cond (leb a k && ltb k b) (h (get_or l k 0)) (get_or l k 0)
+    go k c (yes p) _ = rw (lt-leb a k p) (get_or_append_left (take a l) _ 0 k (omega (arith, head)) ∙ get_or-take a l k 0 p)
+    go k c (no p) (yes q) =
+        let here : a + (k - a) ≡ k = omega arith in
+        rw (le-leb a k (omega arith), lt-ltb k b q)
+        (get_or-append_right (take a l) _ a k 0 head (omega arith)
+        ∙ get_or_append_left part _ 0 (k - a) (omega (arith, size))
+        ∙ each (k - a) (omega (arith, few))
+        ∙ ap h (get_or-take (b - a) (drop a l) (k - a) 0 (omega arith) ∙ get_or-drop a l (k - a) 0 ∙ rw here refl))
+    go k c (no p) (no q) =
+        let here : a + (b - a + (k - a - (b - a))) ≡ k = omega arith in
+        rw (le-leb a k (omega arith), le-ltb k b (omega arith))
+        (get_or-append_right (take a l) _ a k 0 head (omega arith)
+        ∙ get_or-append_right part _ (b - a) (k - a) 0 size (omega arith)
+        ∙ get_or-drop (b - a) (drop a l) (k - a - (b - a)) 0
+        ∙ get_or-drop a l (b - a + (k - a - (b - a))) 0
+        ∙ rw here refl)

@@ -19,7 +19,7 @@ use Rattle.sound.specs.Laws.Tests.{and_says}
 use Rattle.sound.specs.Laws.Properties.{held_range}
 use Rattle.sound.specs.Whole.{Right}
 use Rattle.sound.proofs.Laws.List.{sound_means}
-use Rattle.rules.specs.Rules.{Result, done, refused, branch, give, take, clear_out, serve, call_on}
+use Rattle.rules.specs.Rules.{Effect, done, refused, branch, give, take, clear_out, serve, call_on}
 use Rattle.rules.specs.Laws.Each.{serve_done, done_each, perform_at}
 use Rattle.rules.specs.Ran.{outcome_of}
 use Rattle.rules.specs.Calls.{caller_of}
@@ -170,7 +170,7 @@ module _ {board : Board} {base end : ℕ} {g : Ledger} {l ms : List ℕ} (h : Go
   unfolding event_of outcome_of caller_of
   call_follows w = one (call_on board l w) refl
     where
-      one : (r : Result) → call_on board l w ≡ r → Follows base end g ms (event_of g (fields_in call w) (caller_of board l) (outcome_of r) (lines_named board l w))
+      one : (r : Effect) → call_on board l w ≡ r → Follows base end g ms (event_of g (fields_in call w) (caller_of board l) (outcome_of r) (lines_named board l w))
       one (done v x t') z =
           let (_, a, y) = served board l w h.small z in
           rw ((sound_means board l).1 h.sound) (serve_follows fit m a s board (fields_in call w) y)

@@ -1,13 +1,11 @@
 -- A list of runs that C lent holds the runs of the words handed over, two results are equal; and the exits of planning it from bytes. So for the pieces of an entry.
-use Rattle.std.specs.Prelude.{◌≡◌, refl, Bool, true, false, cond, List, [], ℕ, eqb, leb, length, replicate}
+use Rattle.std.specs.Prelude.{◌≡◌, refl, Bool, true, false, cond, List, [], ℕ, eqb, leb, length, replicate, Ok, Err}
 use Rattle.std.proofs.Common.{ap, sym, ◌∙◌, arith, eq-eqb, ne_eqb}
 use Rattle.std.proofs.lemmas.Bool.{false≢true}
 use Rattle.shapes.specs.declared.Board.{Board}
 use Rattle.shapes.specs.Pieces.{pieces_for}
 use Rattle.tables.specs.State.{Opt, none, some, Entry}
 use Rattle.tables.specs.View.{view}
-use Rattle.tables.specs.declared.Outcome.{Outcome}
-use Rattle.tables.specs.declared.Outcome.TheVariants.{Done, Refused}
 use Rattle.memory.specs.Bytes.{words_of}
 use Rattle.sound.specs.Clauses.{sound}
 use Rattle.sound.proofs.Laws.Holders.{wrong_length}
@@ -21,6 +19,8 @@ use Rattle.runlist.specs.Laws.Listing.{plan_unsound, runs_small, MarksOf}
 use Rattle.face.specs.Face.{handed, result_of}
 use Rattle.face.specs.Laws.Face.{handed_is, handed_unsound}
 use Rattle.face.specs.Lists.{Small, ready_from, ready_of, left_of, RunsLent, PiecesLent}
+use Rattle.tables.specs.Outcomes.{Outcome}
+use Rattle.words.specs.declared.Refusal.TheVariants.{NotSound, ShortList}
 
 -- two results are equal: the answer, and every record
 pub handed_one : {board : Board} {b : List ℕ} {before : List Run} {r s : ℕ} {a c : List Run} → RunsLent board b before r a → RunsLent board b before s c → (r ≡ s) × (a ≡ c)
@@ -31,7 +31,7 @@ pub handed_listed : {board : Board} {b : List ℕ} {before after : List Run} {r 
 handed_listed h = record { outcome = refl; records = h.records }
 
 -- ── the exits of the code ──
-pub ready_none : (board : Board) (b : List ℕ) (size : ℕ) {w : List ℕ} → (length b ≡ 5128 → ⊥) → w ≡ replicate 641 0 → (ready_from (refusal 1) ≡ ready_of board b size) × (w ≡ left_of board b)
+pub ready_none : (board : Board) (b : List ℕ) (size : ℕ) {w : List ℕ} → (length b ≡ 5128 → ⊥) → w ≡ replicate 641 0 → (ready_from (refusal NotSound) ≡ ready_of board b size) × (w ≡ left_of board b)
 unfolding left_of
 ready_none board b size h z = (ap ready_from (plan_unsound board (handed b) size (handed_unsound b h board)), z ∙ rw (ne_eqb (length b) 5128 h) refl)
 
@@ -39,7 +39,7 @@ pub plan_answers : (board : Board) (t : List ℕ) (size : ℕ) → Small (plan_o
 unfolding plan_of
 plan_answers board t size = go (sound board t) (leb (length (runs_of (view t).k)) size)
   where
-    go : (x y : Bool) → Small (cond x (cond y (writing_runs (view t).k) (refusal 17)) (refusal 1)).outcome
+    go : (x y : Bool) → Small (cond x (cond y (writing_runs (view t).k) (refusal ShortList)) (refusal NotSound)).outcome
     go true true = omega (arith, runs_small t)
     go true false = omega arith
     go false y = omega arith
@@ -67,17 +67,17 @@ pub pieces_answers : (board : Board) (t : List ℕ) (p s size : ℕ) → Small (
 unfolding pieces_outcome slot_outcome list_outcome
 pieces_answers board t p s size = go (sound board t) ((view t).k.slot p s) refl
   where
-    go : (x : Bool) (y : Opt Entry) → (view t).k.slot p s ≡ y → Small (cond x (slot_outcome board y size) (Refused 1))
+    go : (x : Bool) (y : Opt Entry) → (view t).k.slot p s ≡ y → Small (cond x (slot_outcome board y size) (Err NotSound))
     go false y u = omega arith
     go true none u = omega arith
     go true (some e) u = room (leb (length (pieces_for board e.start e.stop)) size)
       where
-        room : (z : Bool) → Small (cond z (Done (length (pieces_for board e.start e.stop)) 0) (Refused 17))
+        room : (z : Bool) → Small (cond z (Ok ((length (pieces_for board e.start e.stop)), 0)) (Err ShortList))
         room true = omega (arith, entry_few board t p s e u)
         room false = omega arith
 
 module _ {board : Board} (b : List ℕ) {p s : ℕ} {list : List ℕ} {r : ℕ} where
-  pub pieces_lent_none : (length b ≡ 5128 → ⊥) → r ≡ result_of 0 (Refused 1) → PiecesLent board b p s list r list
+  pub pieces_lent_none : (length b ≡ 5128 → ⊥) → r ≡ result_of 0 (Err NotSound) → PiecesLent board b p s list r list
   pieces_lent_none h e = let n = pieces_unsound board {t = handed b} {p = p} {s = s} {list = list} (handed_unsound b h board) in record { answer = e ∙ ap (result_of 0) n.outcome; words = n.words }
 
   pub pieces_lent : {a : List ℕ} {o : Outcome} {after : List ℕ} → length b ≡ 5128 → a ≡ words_of b → PiecesListed board a p s list o after → r ≡ result_of 0 o → PiecesLent board b p s list r after

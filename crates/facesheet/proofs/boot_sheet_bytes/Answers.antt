@@ -2,39 +2,39 @@
 use mathlib.Core.Path.{sym, ◌∙◌}
 use lib.ListN.{length-replicate}
 use Prim.Native.Nat.{ℕ}
-use Rattle.rules.proofs.Laws.Brief.{boot_brief, brief_first, number_small}
+use Rattle.rules.proofs.Laws.Brief.{boot_brief, brief_first}
 use Rattle.face.specs.Laws.Face.{boot_root}
 use Rattle.facesheet.specs.Laws.Sheets.{booted_right, boot_short, boot_no_sheet, boot_both, boot_neither}
 use native.Mathlib.Omega.{arith}
 use borrow.Author.Rules.{rules}
 use Rattle.facesheet.proofs.boot_sheet_bytes.Goals as goal
 
-pub packed-requires : goal.packed-requires
-packed-requires c = (omega arith, omega arith, omega arith)
+pub refused-requires : goal.refused-requires
+refused-requires c = omega arith
 
 pub returns-then-table-ne5128 : goal.returns-then-table-ne5128
-returns-then-table-ne5128 c = boot_short _ _ _ _ c.if-table-ne5128.true c.packed.ensures
+returns-then-table-ne5128 c = boot_short _ _ _ _ c.if-table-ne5128.true c.refused.ensures
 
-pub packed-requires-then-sheet-ne256 : goal.packed-requires-then-sheet-ne256
-packed-requires-then-sheet-ne256 c = (omega arith, omega arith, omega arith)
+pub refused-requires-then-sheet-ne256 : goal.refused-requires-then-sheet-ne256
+refused-requires-then-sheet-ne256 c = omega arith
 
 pub returns-then-sheet-ne256 : goal.returns-then-sheet-ne256
-returns-then-sheet-ne256 c = boot_no_sheet _ _ _ _ c.if-table-ne5128.false c.if-sheet-ne256.true c.packed-then-sheet-ne256.ensures
+returns-then-sheet-ne256 c = boot_no_sheet _ _ _ _ c.if-table-ne5128.false c.if-sheet-ne256.true c.refused-then-sheet-ne256.ensures
 
 pub store_root-requires : goal.store_root-requires
-store_root-requires c = (c.if-table-ne5128.false, boot_root _ _ c.boot_table-outcome.ensures c.in-Done.is)
+store_root-requires c = (c.if-table-ne5128.false, boot_root _ _ c.boot_table-outcome.ensures c.in-Ok.is)
 
 pub write_sheet-requires : goal.write_sheet-requires
-write_sheet-requires c = (c.if-sheet-ne256.false, booted_right _ _ c.boot_table-outcome.ensures c.in-Done.is)
+write_sheet-requires c = (c.if-sheet-ne256.false, booted_right _ _ c.boot_table-outcome.ensures c.in-Ok.is)
 
-pub packed-requires-in-Done : goal.packed-requires-in-Done
-packed-requires-in-Done c = (omega arith, omega arith, omega (arith, brief_first (boot_brief _ _ _) (sym c.boot_table-outcome.ensures.outcome ∙ c.in-Done.is)))
+pub packed-requires : goal.packed-requires
+packed-requires c = (omega arith, omega arith, omega (arith, brief_first (boot_brief _ _ _) (sym c.boot_table-outcome.ensures.outcome ∙ c.in-Ok.is)))
 
-pub packed-requires-in-Refused : goal.packed-requires-in-Refused
-packed-requires-in-Refused c = (omega (arith, number_small (boot_brief _ _ _) (sym c.boot_table-outcome.ensures.outcome ∙ c.in-Refused.is)), omega arith, omega arith)
+pub refused-requires-in-Err : goal.refused-requires-in-Err
+refused-requires-in-Err c = omega arith
 
-pub returns-in-Done : goal.returns-in-Done
-returns-in-Done c = boot_both _ _ _ _ c.if-table-ne5128.false c.if-sheet-ne256.false (length-replicate {A = ℕ} 641 0) c.boot_table-outcome.ensures c.in-Done.is c.packed-in-Done.ensures c.store_root.ensures c.write_sheet.ensures
+pub returns-in-Ok : goal.returns-in-Ok
+returns-in-Ok c = boot_both _ _ _ _ c.if-table-ne5128.false c.if-sheet-ne256.false (length-replicate {A = ℕ} 641 0) c.boot_table-outcome.ensures c.in-Ok.is c.packed.ensures c.store_root.ensures c.write_sheet.ensures
 
-pub returns-in-Refused : goal.returns-in-Refused
-returns-in-Refused c = boot_neither _ _ _ _ c.if-table-ne5128.false c.if-sheet-ne256.false (length-replicate {A = ℕ} 641 0) c.boot_table-outcome.ensures c.in-Refused.is c.packed-in-Refused.ensures
+pub returns-in-Err : goal.returns-in-Err
+returns-in-Err c = boot_neither _ _ _ _ c.if-table-ne5128.false c.if-sheet-ne256.false (length-replicate {A = ℕ} 641 0) c.boot_table-outcome.ensures c.in-Err.is c.refused-in-Err.ensures

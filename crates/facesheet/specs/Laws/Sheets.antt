@@ -1,15 +1,15 @@
 -- Each exit of boot and call with a sheet leaves the bytes, the result and the second value that the rule says; and two results are equal.
-use Rattle.std.specs.Prelude.{◌≡◌, refl, Bool, true, false, cond, ℕ, ◌<◌, length, get_or}
+use Rattle.std.specs.Prelude.{◌≡◌, refl, Bool, true, false, cond, ℕ, ◌<◌, length, get_or, Ok, Err}
 use Rattle.std.proofs.Math.Path.{ap, sym}
 use Rattle.std.proofs.Common.{subst, ◌∙◌}
 use mathlib.Core.List.{List}
+use Rattle.words.specs.declared.Refusal.{Refusal}
+use Rattle.words.specs.Refusals.{number_of}
 use Rattle.shapes.specs.declared.Board.{Board}
 use Rattle.tables.specs.State.{Table}
 use Rattle.tables.specs.View.{view}
 use Rattle.tables.specs.Laws.Back.{view_encode}
 use Rattle.tables.specs.Fitting.{Words}
-use Rattle.tables.specs.declared.Outcome.{Outcome}
-use Rattle.tables.specs.declared.Outcome.TheVariants.{Done, Refused}
 use Rattle.memory.specs.Bytes.{words_of, bytes_of}
 use Rattle.memory.specs.Laws.ByteTrips.{words_small}
 use Rattle.sound.specs.Clauses.{sound}
@@ -17,9 +17,9 @@ use Rattle.sound.specs.Whole.{Right}
 use Rattle.sound.proofs.Laws.List.{sound_means}
 use Rattle.sound.proofs.Laws.Whole.{sound_right}
 use Rattle.sound.specs.Laws.Canonical.{sound_canon}
-use Rattle.rules.specs.Rules.{Result, done, refused, call_on, boot_on, words_after}
+use Rattle.rules.specs.Rules.{Effect, done, refused, call_on, boot_on, words_after}
 use Rattle.rules.specs.Ran.{outcome_of, Ran}
-use Rattle.rules.specs.Laws.Ran.{refused_done, refused_number}
+use Rattle.rules.specs.Laws.Ran.{refused_done, refused_why}
 use Rattle.rules.specs.declared.Answer.{Answer}
 use Rattle.rules.specs.Calls.{caller_of, CallAnswers}
 use Rattle.rules.specs.Laws.Reads.{answers_stand}
@@ -37,9 +37,10 @@ use Rattle.sheetrules.specs.Sheet.{sheet_of, matches, call_sheet_on, boot_sheet_
 use Rattle.sheetrules.specs.Bytes.{handed_sheet, sheet_bytes, sheet_bytes_after}
 use Rattle.sheetrules.specs.Laws.Rules.{call_1, call_20, call_else, boot_1, boot_20, boot_else}
 use Rattle.sheetrules.specs.Laws.Bytes.{matches_means, sheet_bytes_law, short_handed, handed_length, matches_length}
+use Rattle.tables.specs.Outcomes.{Outcome}
 
 -- two results are equal: the result, every byte of both, the second value
-pub both_lent_one : {n : ℕ} {res : Result} {b s : List ℕ} {r r' : ℕ} {c d u u' : List ℕ} → BothLent n res b s r c u → BothLent n res b s r' d u' → (r ≡ r') × (c ≡ d) × (u ≡ u')
+pub both_lent_one : {n : ℕ} {res : Effect} {b s : List ℕ} {r r' : ℕ} {c d u u' : List ℕ} → BothLent n res b s r c u → BothLent n res b s r' d u' → (r ≡ r') × (c ≡ d) × (u ≡ u')
 both_lent_one x y =
     let (r, bytes) = lent_one x.table y.table in
     (r, bytes, x.sheet ∙ sym y.sheet)
@@ -51,52 +52,52 @@ call_sheet_lent_one x y =
     (r, bytes, sheet, x.second ∙ sym y.second)
 
 -- a refusal changes neither
-both_refused : {n m : ℕ} {res : Result} {b s : List ℕ} {r : ℕ} → res ≡ refused m → r ≡ result_packed m n 0 → BothLent n res b s r b s
+both_refused : {n : ℕ} {why : Refusal} {res : Effect} {b s : List ℕ} {r : ℕ} → res ≡ refused why → r ≡ result_packed (number_of why) n 0 → BothLent n res b s r b s
 unfolding result_of outcome_of bytes_after sheet_bytes_after
-both_refused {n} {m} {res} {b} {s} e q = record {
-  table = record { result = q ∙ ap (λ (x : Result). result_of n (outcome_of x)) (sym e); bytes = ap (bytes_after b) (sym e) };
+both_refused {n} {why} {res} {b} {s} e q = record {
+  table = record { result = q ∙ ap (λ (x : Effect). result_of n (outcome_of x)) (sym e); bytes = ap (bytes_after b) (sym e) };
   sheet = ap (sheet_bytes_after s) (sym e);
 }
 
 -- a refusal that shows
-refused_result : {res : Result} {n : ℕ} → outcome_of res ≡ Refused n → res ≡ refused n
+refused_result : {res : Effect} {why : Refusal} → outcome_of res ≡ Err why → res ≡ refused why
 unfolding outcome_of
 refused_result {res} q = go res q
   where
-    go : (x : Result) {n : ℕ} → outcome_of x ≡ Refused n → x ≡ refused n
+    go : (x : Effect) {why : Refusal} → outcome_of x ≡ Err why → x ≡ refused why
     go (done v y t) z = absurd (refused_done (sym z))
-    go (refused m) z = ap refused (refused_number z)
+    go (refused why) z = ap refused (refused_why z)
 
 -- what was done leaves the sheet of the table that it left
-both_done : {res : Result} {a m : List ℕ} {o : Outcome} {v y : ℕ} (s : List ℕ) {u : List ℕ} → Ran res a o m → o ≡ Done v y → ((v y : ℕ) (t : Table) → res ≡ done v y t → Right t)
+both_done : {res : Effect} {a m : List ℕ} {o : Outcome} {v y : ℕ} (s : List ℕ) {u : List ℕ} → Ran res a o m → o ≡ Ok (v, y) → ((v y : ℕ) (t : Table) → res ≡ done v y t → Right t)
     → u ≡ sheet_bytes (sheet_of (view m)) → u ≡ sheet_bytes_after s res
 unfolding outcome_of words_after sheet_bytes_after
 both_done {res} {a} {m} {o} s {u} ran q right e = go res refl ran.outcome ran.words
   where
-    go : (x : Result) → res ≡ x → o ≡ outcome_of x → m ≡ words_after a x → u ≡ sheet_bytes_after s x
+    go : (x : Effect) → res ≡ x → o ≡ outcome_of x → m ≡ words_after a x → u ≡ sheet_bytes_after s x
     go (done v y t) z c d = e ∙ ap (λ (t : Table). sheet_bytes (sheet_of t)) (ap view d ∙ view_encode t (right_fit (right v y t z)))
     go (refused n) z c d = absurd (refused_done (sym c ∙ q))
 
 -- .. and that table is right
-right_done : {res : Result} {a m : List ℕ} {o : Outcome} {v y : ℕ} → Ran res a o m → o ≡ Done v y → ((v y : ℕ) (t : Table) → res ≡ done v y t → Right t) → Right (view m)
+right_done : {res : Effect} {a m : List ℕ} {o : Outcome} {v y : ℕ} → Ran res a o m → o ≡ Ok (v, y) → ((v y : ℕ) (t : Table) → res ≡ done v y t → Right t) → Right (view m)
 unfolding outcome_of words_after
 right_done {res} {a} {m} {o} ran q right = go res refl ran.outcome ran.words
   where
-    go : (x : Result) → res ≡ x → o ≡ outcome_of x → m ≡ words_after a x → Right (view m)
+    go : (x : Effect) → res ≡ x → o ≡ outcome_of x → m ≡ words_after a x → Right (view m)
     go (done v y t) z c d = let k = right v y t z in subst Right (sym (ap view d ∙ view_encode t (right_fit k))) k
     go (refused n) z c d = absurd (refused_done (sym c ∙ q))
 
 -- .. and what is so of every such result is so of it
-done_has : {res : Result} {a m : List ℕ} {o : Outcome} {v y : ℕ} (P : Table → Type 0) → Ran res a o m → o ≡ Done v y → ((v y : ℕ) (t : Table) → res ≡ done v y t → Right t × P t) → P (view m)
+done_has : {res : Effect} {a m : List ℕ} {o : Outcome} {v y : ℕ} (P : Table → Type 0) → Ran res a o m → o ≡ Ok (v, y) → ((v y : ℕ) (t : Table) → res ≡ done v y t → Right t × P t) → P (view m)
 unfolding outcome_of words_after
 done_has {res} {a} {m} {o} P ran q all = go res refl ran.outcome ran.words
   where
-    go : (x : Result) → res ≡ x → o ≡ outcome_of x → m ≡ words_after a x → P (view m)
+    go : (x : Effect) → res ≡ x → o ≡ outcome_of x → m ≡ words_after a x → P (view m)
     go (done v y t) z c d = let (k, e) = all v y t z in subst P (sym (ap view d ∙ view_encode t (right_fit k))) e
     go (refused n) z c d = absurd (refused_done (sym c ∙ q))
 
 -- ── boot ──
-pub booted_right : (base end : ℕ) {a m : List ℕ} {o : Outcome} {v y : ℕ} → Ran (boot_on a base end) a o m → o ≡ Done v y → Right (view m)
+pub booted_right : (base end : ℕ) {a m : List ℕ} {o : Outcome} {v y : ℕ} → Ran (boot_on a base end) a o m → o ≡ Ok (v, y) → Right (view m)
 booted_right base end {a} ran q = right_done ran q (λ v y t z. boot_right a base end z)
 
 module _ (b s : List ℕ) (base end : ℕ) where
@@ -112,16 +113,16 @@ module _ (b s : List ℕ) (base end : ℕ) where
       same_boot : boot_sheet_on (handed b) (handed_sheet s) base end ≡ boot_on (handed b) base end
       same_boot = boot_else _ _ base end (handed_whole b size) (handed_length s h)
 
-      pub boot_both : {v y r : ℕ} {n u : List ℕ} → o ≡ Done v y → r ≡ result_packed 0 0 v → n ≡ bytes_of m → u ≡ sheet_bytes (sheet_of (view m)) → BootSheetLent b s base end r n u
+      pub boot_both : {v y r : ℕ} {n u : List ℕ} → o ≡ Ok (v, y) → r ≡ result_packed 0 0 v → n ≡ bytes_of m → u ≡ sheet_bytes (sheet_of (view m)) → BootSheetLent b s base end r n u
       boot_both {r = r} {n} q p e d =
           let also : boot_sheet_on (handed b) (handed_sheet s) base end ≡ boot_on a base end = same_boot ∙ boot_any a (handed b) base end zeros (handed_whole b size) in
           record {
-            table = subst (λ (x : Result). Lent 0 x b r n) (sym same_boot) (boot_lent b base end size zeros ran q p e);
+            table = subst (λ (x : Effect). Lent 0 x b r n) (sym same_boot) (boot_lent b base end size zeros ran q p e);
             sheet = both_done s ran q (λ v y t z. boot_right a base end z) d ∙ ap (sheet_bytes_after s) (sym also);
           }
 
-      pub boot_neither : {n r : ℕ} → o ≡ Refused n → r ≡ result_packed n 0 0 → BootSheetLent b s base end r b s
-      boot_neither {n} q p =
+      pub boot_neither : {r : ℕ} {why : Refusal} → o ≡ Err why → r ≡ result_packed (number_of why) 0 0 → BootSheetLent b s base end r b s
+      boot_neither q p =
           let also : boot_sheet_on (handed b) (handed_sheet s) base end ≡ boot_on a base end = same_boot ∙ boot_any a (handed b) base end zeros (handed_whole b size) in
           both_refused (also ∙ refused_result (sym ran.outcome ∙ q)) p
 
@@ -136,16 +137,16 @@ module _ (board : Board) (b : List ℕ) {a : List ℕ} (load : a ≡ words_of b)
       let h = (sound_means board a).0 z in
       sound_right (sound_canon loaded_words h) h
 
-  pub called_right : {w : ℕ} {m : List ℕ} {x : Answer} {f g : ℕ} → CallAnswers board a w x m → x.outcome ≡ Done f g → Right (view m)
+  pub called_right : {w : ℕ} {m : List ℕ} {x : Answer} {f g : ℕ} → CallAnswers board a w x m → x.outcome ≡ Ok (f, g) → Right (view m)
   called_right {w} h q = right_done h.ran q (λ v y t e. call_right board a w loaded_words e)
 
 loaded_is : (b : List ℕ) {a : List ℕ} → length b ≡ 5128 → a ≡ words_of b → a ≡ handed b
 loaded_is b size load = load ∙ handed_is b size
 
 module _ (board : Board) (b s : List ℕ) (w : ℕ) where
-  call_refused : {v n r : ℕ} → call_sheet_on board (handed b) (handed_sheet s) w ≡ refused n → r ≡ result_packed n (caller_of board (handed b)) 0 → CallSheetLent board b s w v r b s v
+  call_refused : {v r : ℕ} {why : Refusal} → call_sheet_on board (handed b) (handed_sheet s) w ≡ refused why → r ≡ result_packed (number_of why) (caller_of board (handed b)) 0 → CallSheetLent board b s w v r b s v
   unfolding second_after outcome_of
-  call_refused {v} e q = record { both = both_refused e q; second = ap (λ (x : Result). second_after v (outcome_of x)) (sym e) }
+  call_refused {v} e q = record { both = both_refused e q; second = ap (λ (x : Effect). second_after v (outcome_of x)) (sym e) }
 
   unsound : {v r : ℕ} → sound board (handed b) ≡ false → r ≡ result_packed 1 0 0 → CallSheetLent board b s w v r b s v
   unfolding caller_of
@@ -175,16 +176,16 @@ module _ (board : Board) (b s : List ℕ) (w : ℕ) where
 
       beside : {v r v' : ℕ} {n u : List ℕ} → CallLent board b w v r n v' → u ≡ sheet_bytes_after s (call_on board (handed b) w) → CallSheetLent board b s w v r n u v'
       beside {v} {r} {n = n} c d = record {
-        both = record { table = subst (λ (x : Result). Lent (caller_of board (handed b)) x b r n) (sym same_call) c.table; sheet = d ∙ ap (sheet_bytes_after s) (sym same_call) };
-        second = c.second ∙ ap (λ (x : Result). second_after v (outcome_of x)) (sym same_call);
+        both = record { table = subst (λ (x : Effect). Lent (caller_of board (handed b)) x b r n) (sym same_call) c.table; sheet = d ∙ ap (sheet_bytes_after s) (sym same_call) };
+        second = c.second ∙ ap (λ (x : Effect). second_after v (outcome_of x)) (sym same_call);
       }
 
       module _ {m : List ℕ} {x : Answer} (h : CallAnswers board a w x m) where
-        pub call_neither : {v r n : ℕ} → x.outcome ≡ Refused n → r ≡ result_packed n x.caller.0 0 → CallSheetLent board b s w v r b s v
+        pub call_neither : {v r : ℕ} {why : Refusal} → x.outcome ≡ Err why → r ≡ result_packed (number_of why) x.caller.0 0 → CallSheetLent board b s w v r b s v
         unfolding sheet_bytes_after
         call_neither q p = beside (call_lent_refused b size load h q p) (sym (ap (sheet_bytes_after s) (refused_result (sym (subst (λ (l : List ℕ). CallAnswers board l w x m) is h).ran.outcome ∙ q))))
 
-        module _ (small : (i : ℕ) → get_or b i 0 < 256) {f g : ℕ} (q : x.outcome ≡ Done f g) where
+        module _ (small : (i : ℕ) → get_or b i 0 < 256) {f g : ℕ} (q : x.outcome ≡ Ok (f, g)) where
           -- as it was where every word is as it was; else with the words of those put that the call touched
           sheet_after : ((i : ℕ) → get_or s i 0 < 256) → {whose : Whose} {u : List ℕ} → whose ≡ touched (view a).k w → Named whose → u ≡ cond x.stands s (sheet_kept whose (view m) s)
               → u ≡ sheet_bytes (sheet_of (view m))

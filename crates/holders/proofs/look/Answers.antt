@@ -13,16 +13,16 @@ returns-in_default c =
 pub entry-f-requires : goal.entry-f-requires
 entry-f-requires c =
     let e = c.holding_slot-looked.ensures in
-    (c.requires, (lowest_some 32 _ _ (looked_slot _ e c.in-At.is)).below)
+    (c.requires, (lowest_some 32 _ _ (looked_slot _ e c.in-Some.is)).below)
 
 pub returns-then-f : goal.returns-then-f
 returns-then-f c =
     let e = c.holding_slot-looked.ensures in
     let f = c.entry-f.ensures in
-    (heir_given _ _ _ _ _ (looked_slot _ e c.in-At.is) f.slot c.if-f.true, f.given_small, looked_count _ e)
+    (heir_given _ _ _ _ _ (looked_slot _ e c.in-Some.is) f.slot c.if-f.true, f.given_small, looked_count _ e)
 
 pub returns : goal.returns
 returns c =
     let e = c.holding_slot-looked.ensures in
     let f = c.entry-f.ensures in
-    (heir_empty _ _ _ _ _ (looked_slot _ e c.in-At.is) f.slot c.if-f.false, omega arith, looked_count _ e)
+    (heir_empty _ _ _ _ _ (looked_slot _ e c.in-Some.is) f.slot c.if-f.false, omega arith, looked_count _ e)

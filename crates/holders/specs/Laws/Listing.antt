@@ -1,5 +1,5 @@
 -- The listing of pieces, exit by exit; two results are equal; and who is refused 4.
-use Rattle.std.specs.Prelude.{◌≡◌, Bool, true, false, List, ℕ, ◌≤◌, ◌<◌, ◌^◌, length}
+use Rattle.std.specs.Prelude.{◌≡◌, Bool, true, false, List, ℕ, ◌≤◌, ◌<◌, ◌^◌, length, Ok, Err}
 use Rattle.std.proofs.Math.Path.{refl}
 use Rattle.std.proofs.Common.{ap, sym, subst, ◌∙◌, arith, le-leb}
 use Rattle.std.proofs.lemmas.Bool.{lt-leb}
@@ -14,11 +14,11 @@ use Rattle.tables.specs.View.{entry_of, entry_in, slot_at, view}
 use Rattle.tables.specs.Laws.View.{slot_bounds}
 use Rattle.tables.specs.Seen.{Seen}
 use Rattle.tables.specs.Laws.Seen.{see, entry_there, entry_none}
-use Rattle.tables.specs.declared.Outcome.{Outcome}
-use Rattle.tables.specs.declared.Outcome.TheVariants.{Done, Refused}
 use Rattle.sound.specs.Core.{Core}
 use Rattle.sound.specs.Clauses.{sound}
 use Rattle.holders.specs.Listing.{list_outcome, list_words, slot_outcome, slot_words, pieces_outcome, pieces_words, SlotListed, PiecesListed}
+use Rattle.tables.specs.Outcomes.{Outcome}
+use Rattle.words.specs.declared.Refusal.TheVariants.{NotSound, NoEntry, ShortList}
 
 -- two results are equal
 pub pieces_one : {b : Board} {t : List ℕ} {p s : ℕ} {before : List ℕ} {r q : Outcome} {a c : List ℕ} → PiecesListed b t p s before r a → PiecesListed b t p s before q c → (r ≡ q) × (a ≡ c)
@@ -26,7 +26,7 @@ pieces_one x y = (x.outcome ∙ sym y.outcome, x.words ∙ sym y.words)
 
 -- ── slot i of p, which was read as f ──
 module _ (b : Board) {l : List ℕ} {p i : ℕ} {f : SlotFields} (v : Seen l p i f) where
-  pub slot_none : {list : List ℕ} → f.present ≡ false → SlotListed b ((view l).k.slot p i) list (Refused 4) list
+  pub slot_none : {list : List ℕ} → f.present ≡ false → SlotListed b ((view l).k.slot p i) list (Err NoEntry) list
   unfolding slot_outcome slot_words entry_in
   slot_none q = rw (v.slot, q) (record { outcome = refl; words = refl })
 
@@ -34,22 +34,22 @@ module _ (b : Board) {l : List ℕ} {p i : ℕ} {f : SlotFields} (v : Seen l p i
     pub can_list : {list : List ℕ} → Core (view l).k → length (pieces_for b f.start.0 f.end.0) ≤ length list → CanList b f.start.0 f.end.0 list
     can_list h room = record { block = omega (arith, h.s5_range p i (entry_of f) (entry_there v q)); small = v.end_small; room = room }
 
-    pub slot_short : {list : List ℕ} → length list < length (pieces_for b f.start.0 f.end.0) → SlotListed b ((view l).k.slot p i) list (Refused 17) list
+    pub slot_short : {list : List ℕ} → length list < length (pieces_for b f.start.0 f.end.0) → SlotListed b ((view l).k.slot p i) list (Err ShortList) list
     unfolding slot_outcome slot_words list_outcome list_words
     slot_short h = rw (entry_there v q) (record { outcome = rw (lt-leb _ _ h) refl; words = rw (lt-leb _ _ h) refl })
 
     pub slot_listed : {list : List ℕ} {n : ℕ} {after : List ℕ} → length (pieces_for b f.start.0 f.end.0) ≤ length list → ShapesListed (pieces_for b f.start.0 f.end.0) list n after
-        → SlotListed b ((view l).k.slot p i) list (Done n 0) after
+        → SlotListed b ((view l).k.slot p i) list (Ok (n, 0)) after
     unfolding slot_outcome slot_words list_outcome list_words
-    slot_listed room made = rw (entry_there v q) (record { outcome = rw (le-leb _ _ room) (ap (λ (n : ℕ). Done n 0) made.number); words = rw (le-leb _ _ room) made.words })
+    slot_listed room made = rw (entry_there v q) (record { outcome = rw (le-leb _ _ room) (ap (λ (n : ℕ). Ok (n, 0)) made.number); words = rw (le-leb _ _ room) made.words })
 
 -- ── the exits ──
 module _ (b : Board) {t : List ℕ} {p s : ℕ} {list : List ℕ} where
-  pub pieces_unsound : sound b t ≡ false → PiecesListed b t p s list (Refused 1) list
+  pub pieces_unsound : sound b t ≡ false → PiecesListed b t p s list (Err NotSound) list
   unfolding pieces_outcome pieces_words
   pieces_unsound q = record { outcome = rw q refl; words = rw q refl }
 
-  pub pieces_nowhere : sound b t ≡ true → (p < 16 → s < 32 → ⊥) → PiecesListed b t p s list (Refused 4) list
+  pub pieces_nowhere : sound b t ≡ true → (p < 16 → s < 32 → ⊥) → PiecesListed b t p s list (Err NoEntry) list
   unfolding pieces_outcome pieces_words slot_outcome slot_words
   pieces_nowhere q n =
       let z = never_some ((view t).k.slot p s) (λ e u. let h = slot_bounds t p s e u in n h.0 h.1) in

@@ -24,6 +24,7 @@ use Rattle.isolation.specs.Laws.Settled.{right_loads, settle_right}
 use Rattle.isolation.specs.Ladder.{Answers, finished, Ends}
 use Rattle.isolation.specs.Laws.Ladder.{ends, check_answers, lowest_answers}
 use Rattle.isolation.specs.Ladders.{Absent, create_ladder}
+use Rattle.words.specs.declared.Refusal.TheVariants.{NoEntry, NotOpen, Given, NoneFree, TooShort, LentWhole}
 
 -- what checks 4, 5, 6, 8, 9 and 18 say
 pub record CreateOk (k : K) (s n : ℕ) (e : Entry) : Type 0 where
@@ -114,9 +115,9 @@ module _ {t : Table} (h : Right t) (s : ℕ) where
   pub create_number : {v w : ℕ} {t' : Table} → create t s ≡ done v w t' → lowest 16 (absent_child t.k) ≡ some v
   unfolding create free_entry
   create_number x =
-      let (e, _, y) = need_done 4 _ _ x in
-      let (n, q, z) = need_done 8 _ _ (check_done 6 _ (check_done 5 _ y).1).1 in
-      let last = (check_done 18 _ (check_done 9 _ z).1).1 in
+      let (e, _, y) = need_done NoEntry _ _ x in
+      let (n, q, z) = need_done NoneFree _ _ (check_done Given _ (check_done NotOpen _ y).1).1 in
+      let last = (check_done LentWhole _ (check_done TooShort _ z).1).1 in
       q ∙ ap some (done_number last)
     where
       done_number : {a b v w : ℕ} {u t' : Table} → done a b u ≡ done v w t' → a ≡ v

@@ -39,6 +39,7 @@ use Rattle.isolation.specs.Laws.Find.{find_same}
 use Rattle.isolation.proofs.Laws.Switch.{switch_done}
 use Rattle.isolation.proofs.Laws.Pack.{pack_done}
 use Rattle.isolation.proofs.Whole.{served}
+use Rattle.words.specs.declared.Refusal.TheVariants.{NotSound, BadWord}
 
 -- the words of the record of q are as they were
 abbrev SameWords : Table → Table → ℕ → Type 0
@@ -127,8 +128,8 @@ module _ (b : Board) (l : List ℕ) (w : ℕ) (small : Words l) {v y : ℕ} {new
   -- the table is sound, and the word in order
   told : changed_after b l w ≡ changed_by (fields_in call w).service (view l).k (fields_in call w)
   told =
-      let (s, x) = check_done 1 (sound b l) (sym (call_as b l w) ∙ z) in
-      let (c, _) = check_done 2 (zeroed call w) x in
+      let (s, x) = check_done NotSound (sound b l) (sym (call_as b l w) ∙ z) in
+      let (c, _) = check_done BadWord (zeroed call w) x in
       changed_as b l w ∙ rw (s, c) refl
 
   pub call_elsewhere : (q : ℕ) → q < 16 → names (changed_after b l w) q ≡ false → (o : ℕ) → o < 40 → record_word (encode new) q o ≡ record_word l q o

@@ -15,7 +15,8 @@ use Rattle.sound.specs.Laws.Means.{eq_means, and_means, has_means}
 use Rattle.sound.specs.Whole.{Right}
 use Rattle.sound.proofs.Laws.List.{sound_means}
 use Rattle.sound.proofs.Laws.Whole.{sound_right}
-use Rattle.rules.specs.Rules.{Result, no_rights, Uses, uses, unused, region_call, known, serve, call_on}
+use Rattle.rules.specs.declared.Uses.{Uses}
+use Rattle.rules.specs.Rules.{Effect, no_rights, uses, unused, region_call, known, serve, call_on}
 use Rattle.rules.specs.Laws.Calls.{call_as}
 use Rattle.rules.specs.Laws.Each.{perform_each}
 use Rattle.isolation.specs.Ladder.{Answers}
@@ -74,7 +75,7 @@ known_means f = and_means (only_means (eqb f.service 9) (eq_means f.service 9) (
 -- ── a call ──
 module _ (board : Board) {t : Table} (h : Right t) (f : CallFields) where
   -- by the row of its number
-  at : (n : ℕ) {r : Result} → Answers (numbered_ladder board n t f) r → f.service ≡ n → Answers (numbered_ladder board f.service t f) r
+  at : (n : ℕ) {r : Effect} → Answers (numbered_ladder board n t f) r → f.service ≡ n → Answers (numbered_ladder board f.service t f) r
   at n {r} a q = subst (λ (m : ℕ). Answers (numbered_ladder board m t f) r) (sym q) a
 
   pub serve_exact : Answers (serve_ladder board t f) (serve board t f)
@@ -110,5 +111,5 @@ module _ (board : Board) (l : List ℕ) (w : ℕ) (small : Words l) where
       check_answers (zeroed_means call w) (λ _. serve_exact board (sound_right (sound_canon small s) s) (fields_in call w))))
 
   -- so the answer of a call is the one that its conditions give
-  pub call_is : {r : Result} → (call_on board l w ≡ r) ↔ Answers (call_ladder board l w) r
+  pub call_is : {r : Effect} → (call_on board l w ≡ r) ↔ Answers (call_ladder board l w) r
   call_is = (λ z. rw z at call_exact, answer_one call_exact)

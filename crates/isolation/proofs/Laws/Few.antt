@@ -1,6 +1,6 @@
 -- Every service keeps the limit of pieces: it drops regions, or leaves the range of what is loaded as it was; load asks for the limit.
 use Rattle.std.specs.Prelude.{◌≡◌, refl, Bool, cond, not, ◌&&◌, ◌||◌, List, ℕ, ◌≤◌, eqb, leb, ltb}
-use Rattle.std.proofs.Common.{sym, ◌∙◌, true≢false, eq-eqb, le-leb}
+use Rattle.std.proofs.Common.{ap, sym, ◌∙◌, true≢false, eq-eqb, le-leb}
 use Rattle.std.proofs.Math.Bool.{true, false}
 use Rattle.std.proofs.Math.Decide.{ℕ_discrete}
 use native.Mathlib.Omega.{arith}
@@ -19,7 +19,7 @@ use Rattle.sound.specs.Limit.{entry_pieces, region_pieces, loaded_pieces}
 use Rattle.sound.specs.Laws.Limit.{pieces_from, few_from, none_loaded, plain_few}
 use Rattle.sound.specs.Laws.Tests.{or_left}
 use Rattle.sound.specs.Whole.{Right, Few}
-use Rattle.rules.specs.Rules.{Result, done, refused, check, need, own_or_child, elsewhere, ungive, remove_k, remove, create, delete, prepare, collect, give, take, cut, merge, load, unload, switch, branch, clear_out, pack, boot_on}
+use Rattle.rules.specs.Rules.{Effect, done, refused, check, need, own_or_child, elsewhere, ungive, remove_k, remove, create, delete, prepare, collect, give, take, cut, merge, load, unload, switch, branch, clear_out, pack, boot_on}
 use Rattle.rules.specs.Laws.Unloaded.{unloaded_was}
 use Rattle.rules.specs.Laws.Removed.{records_was}
 use Rattle.isolation.specs.Laws.Two.{two}
@@ -39,6 +39,9 @@ use Rattle.isolation.proofs.Laws.ClearOut.{clear_done}
 use Rattle.isolation.specs.Pack.{Packed}
 use Rattle.isolation.proofs.Laws.Packed.{pack_leaves}
 use Rattle.isolation.proofs.Laws.Boot.{boot_exact}
+use Rattle.words.specs.Refusals.{number_of}
+use Rattle.words.specs.declared.Refusal.{Refusal}
+use Rattle.words.specs.declared.Refusal.TheVariants.{NoEntry, NotOpen, WrongRegion, ManyPieces}
 
 module _ (b : Board) where
   -- ── what a slot holds needs no more pieces ──
@@ -201,27 +204,30 @@ module _ (b : Board) where
   boot_few l base end = ends (λ _ _. Few b) (boot_exact l base end) (λ _ _. record { at = λ p. none_loaded b _ _ p (λ r _. refl) })
 
 -- ── ARMv8-M ──
--- another number, or what follows
-check_other : {n m : ℕ} (b : Bool) {x : Result} → (n ≡ m → ⊥) → check n b x ≡ refused m → x ≡ refused m
+-- another refusal, or what follows
+check_other : {why told : Refusal} (b : Bool) {x : Effect} → (why ≡ told → ⊥) → check why b x ≡ refused told → x ≡ refused told
 unfolding check
 check_other true h q = q
-check_other {n} {m} false h q = absurd (h (let z : n ≡ m = cc in z))
+check_other {why} {told} false h q = absurd (h (let z : why ≡ told = cc in z))
+
+apart : {why : Refusal} → (number_of why ≡ 19 → ⊥) → why ≡ ManyPieces → ⊥
+apart n z = n (ap number_of z)
 
 -- 19 is never given
-pub never_19 : (t : Table) (p s r : ℕ) → load V8 t p s r ≡ refused 19 → ⊥
+pub never_19 : (t : Table) (p s r : ℕ) → load V8 t p s r ≡ refused ManyPieces → ⊥
 unfolding load check need
-never_19 t p s r q = go (t.k.slot p s) (check_other (own_or_child t.k p) (λ z. omega arith) q)
+never_19 t p s r q = go (t.k.slot p s) (check_other (own_or_child t.k p) (apart (λ z. omega arith)) q)
   where
     most : leb (loaded_pieces V8 t.k.slot (upd t.region p r (some s)) p) 8 ≡ true
     most = le-leb _ 8 (plain_few t.k.slot (upd t.region p r (some s)) p)
 
-    from_19 : check 19 (leb (loaded_pieces V8 t.k.slot (upd t.region p r (some s)) p) 8) (done 0 0 (settle t.k (upd t.region p r (some s)))) ≡ refused 19 → ⊥
+    from_19 : check ManyPieces (leb (loaded_pieces V8 t.k.slot (upd t.region p r (some s)) p) 8) (done 0 0 (settle t.k (upd t.region p r (some s)))) ≡ refused ManyPieces → ⊥
     from_19 q = not_done (sym (rw most at q))
 
-    rest : Result
-    rest = check 5 (t.opened p s) (check 16 (ltb r 8 && not (elsewhere t p s r))
-        (check 19 (leb (loaded_pieces V8 t.k.slot (upd t.region p r (some s)) p) 8) (done 0 0 (settle t.k (upd t.region p r (some s))))))
+    rest : Effect
+    rest = check NotOpen (t.opened p s) (check WrongRegion (ltb r 8 && not (elsewhere t p s r))
+        (check ManyPieces (leb (loaded_pieces V8 t.k.slot (upd t.region p r (some s)) p) 8) (done 0 0 (settle t.k (upd t.region p r (some s))))))
 
-    go : (x : Opt Entry) → need 4 x (λ e. rest) ≡ refused 19 → ⊥
+    go : (x : Opt Entry) → need NoEntry x (λ e. rest) ≡ refused ManyPieces → ⊥
     go none q = let z : ◌≡◌ {A = ℕ} 4 19 = cc in omega (arith, z)
-    go (some e) q = from_19 (check_other (ltb r 8 && not (elsewhere t p s r)) (λ z. omega arith) (check_other (t.opened p s) (λ z. omega arith) q))
+    go (some e) q = from_19 (check_other (ltb r 8 && not (elsewhere t p s r)) (apart (λ z. omega arith)) (check_other (t.opened p s) (apart (λ z. omega arith)) q))

@@ -1,4 +1,4 @@
--- In a sound table take of a block that is lent whole is never refused 14: it is done. And no call of a partition changes an entry of its own that is whole.
+-- In a sound table take of a block that is lent whole is never refused with InPieces: it is done. And no call of a partition changes an entry of its own that is whole.
 use Rattle.std.specs.Prelude.{◌≡◌, Bool, true, false, List, ◌⊎◌, ℕ}
 use Rattle.std.proofs.Math.Path.{refl}
 use Rattle.std.proofs.Common.{sym, ◌∙◌, inl, inr, arith}
@@ -21,7 +21,7 @@ use Rattle.sound.specs.Laws.Means.{eq_means, not_means}
 use Rattle.sound.proofs.Laws.List.{sound_means}
 use Rattle.sound.proofs.Laws.Whole.{sound_right}
 use Rattle.sound.specs.Whole.{Right}
-use Rattle.rules.specs.Rules.{Result, done, refused, check, no_rights, uses, unused, region_call, known, perform, remove_k, serve, returned, take, call_on}
+use Rattle.rules.specs.Rules.{Effect, done, refused, check, no_rights, uses, unused, region_call, known, perform, remove_k, serve, returned, take, call_on}
 use Rattle.rules.specs.Laws.Calls.{call_as}
 use Rattle.rules.specs.Laws.Each.{done_each, perform_at}
 use Rattle.rules.specs.Laws.Ran.{pass, there}
@@ -47,6 +47,8 @@ use Rattle.isolation.specs.Laws.Find.{find_same}
 use Rattle.isolation.proofs.Laws.Switch.{switch_done}
 use Rattle.isolation.proofs.Laws.ClearOut.{branch_goes, clear_done}
 use Rattle.isolation.proofs.Laws.Pack.{pack_lowered, pack_done}
+use Rattle.words.specs.declared.Refusal.{Refusal}
+use Rattle.words.specs.declared.Refusal.TheVariants.{NotSound, BadWord, NoEntry, Given, InPieces}
 
 -- ── take ──
 module _ {t : Table} (h : Right t) {s c : ℕ} (b : LentWhole t.k t.k.current s c) where
@@ -72,38 +74,41 @@ module _ {t : Table} (h : Right t) {s c : ℕ} (b : LentWhole t.k t.k.current s 
       go none q =
           let n = lowest_none 32 (returned t b.e) q b.i ((right_fit h).slot c b.i b.f b.child).1 in
           absurd (false≢true (sym n ∙ (returned_means h s b.e b.i).1 (b.f, whole_returned)))
-      go (some i) q = (_, there 4 _ b.e b.at (pass 6 ((not_means (eq_means b.e.given 0)).1 is_given) (there 14 _ i q refl)))
+      go (some i) q = (_, there NoEntry _ b.e b.at (pass Given ((not_means (eq_means b.e.given 0)).1 is_given) (there InPieces _ i q refl)))
 
 -- .. by its call word
-check_refused : (n : ℕ) (b : Bool) {r : Result} {m : ℕ} → check n b r ≡ refused m → (n ≡ m) ⊎ (r ≡ refused m)
+check_refused : (why : Refusal) (b : Bool) {r : Effect} {told : Refusal} → check why b r ≡ refused told → (why ≡ told) ⊎ (r ≡ refused told)
 unfolding check
-check_refused n true z = inr z
-check_refused n false z = inl (cc)
+check_refused why true z = inr z
+check_refused why false z = inl (cc)
 
 module _ (board : Board) (l : List ℕ) (w : ℕ) (small : Words l) where
   -- of any words and any call word
-  pub take_whole : {c : ℕ} → (fields_in call w).service ≡ 6 → LentWhole (view l).k (view l).k.current (fields_in call w).slot.0 c → call_on board l w ≡ refused 14 → ⊥
+  pub take_whole : {c : ℕ} → (fields_in call w).service ≡ 6 → LentWhole (view l).k (view l).k.current (fields_in call w).slot.0 c → call_on board l w ≡ refused InPieces → ⊥
   unfolding serve check
   take_whole six b z = one (sound board l) refl (rw (call_as board l w) at z)
     where
       f : CallFields
       f = fields_in call w
 
-      never : Sound board l → perform board (view l) f ≡ refused 14 → ⊥
+      never : Sound board l → perform board (view l) f ≡ refused InPieces → ⊥
       never s y =
           let (t', x) = take_lent (sound_right (sound_canon small s) s) b in
           not_done (sym y ∙ perform_at board 6 (view l) f six ∙ x)
 
-      three : Sound board l → (◌≡◌ {A = ℕ} 2 14) ⊎ (perform board (view l) f ≡ refused 14) → ⊥
-      three s (inl y) = omega arith
+      apart : BadWord ≡ InPieces → ⊥
+      apart y = let n : ◌≡◌ {A = ℕ} 2 14 = cc in omega arith
+
+      three : Sound board l → (BadWord ≡ InPieces) ⊎ (perform board (view l) f ≡ refused InPieces) → ⊥
+      three s (inl y) = absurd (apart y)
       three s (inr y) = never s y
 
-      two : Sound board l → (◌≡◌ {A = ℕ} 2 14) ⊎ (serve board (view l) f ≡ refused 14) → ⊥
-      two s (inl y) = omega arith
-      two s (inr y) = three s (check_refused 2 (known f) y)
+      two : Sound board l → (BadWord ≡ InPieces) ⊎ (serve board (view l) f ≡ refused InPieces) → ⊥
+      two s (inl y) = absurd (apart y)
+      two s (inr y) = three s (check_refused BadWord (known f) y)
 
-      one : (b : Bool) → sound board l ≡ b → check 1 b (check 2 (zeroed call w) (serve board (view l) f)) ≡ refused 14 → ⊥
-      one true q y = two ((sound_means board l).0 q) (check_refused 2 (zeroed call w) y)
+      one : (b : Bool) → sound board l ≡ b → check NotSound b (check BadWord (zeroed call w) (serve board (view l) f)) ≡ refused InPieces → ⊥
+      one true q y = two ((sound_means board l).0 q) (check_refused BadWord (zeroed call w) y)
       one false q y = let n : ◌≡◌ {A = ℕ} 1 14 = cc in omega arith
 
   -- .. and its own call word is done
@@ -112,7 +117,7 @@ module _ (board : Board) (l : List ℕ) (w : ℕ) (small : Words l) where
   unfolding serve known has uses unused region_call no_rights
   take_whole_done {s} sd z e b =
       let (t', x) = take_lent (sound_right (sound_canon small sd) sd) b in
-      (t', call_as board l w ∙ pass 1 ((sound_means board l).1 sd) (pass 2 ((zeroed_means call w).1 z) (rw e (pass 2 refl (perform_at board 6 (view l) (taking s) refl ∙ x)))))
+      (t', call_as board l w ∙ pass NotSound ((sound_means board l).1 sd) (pass BadWord ((zeroed_means call w).1 z) (rw e (pass BadWord refl (perform_at board 6 (view l) (taking s) refl ∙ x)))))
 
 -- ── no call of a partition changes a whole entry of its own ──
 module _ {t : Table} (h : Right t) {i : ℕ} {a : Entry} (u : t.k.slot t.k.current i ≡ some a) (whole : a.whole ≡ true) where

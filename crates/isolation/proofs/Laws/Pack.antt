@@ -25,6 +25,7 @@ use Rattle.isolation.specs.Ladders.{OwnOrChild, pack_ladder}
 use Rattle.isolation.specs.Laws.Checks.{own_means}
 use Rattle.isolation.specs.Laws.Keep.{given_child, Has, still, itself}
 use Rattle.isolation.specs.Laws.Slots.{Fine, AroundStays, EntryCame, slots_core, whole_stays, part_fine, old_came, came_equal}
+use Rattle.words.specs.declared.Refusal.TheVariants.{WrongPartition}
 
 -- ── entries ──
 module _ {t : Table} (h : Right t) (p : ℕ) where
@@ -174,4 +175,4 @@ module _ {t : Table} (h : Right t) (p : ℕ) where
   pack_twice x = let (c, _, z) = pack_done x in rw (z ∙ pack_settled h p) (same c)
     where
       same : OwnOrChild t.k p → pack (after h p) p ≡ done 0 0 (after h p)
-      same c = pass 3 ((own_means t.k p).1 c) (rw (again, upd1_keep (after h p).k.slot p, upd1_keep (after h p).region p, pack_settled h p) refl)
+      same c = pass WrongPartition ((own_means t.k p).1 c) (rw (again, upd1_keep (after h p).k.slot p, upd1_keep (after h p).region p, pack_settled h p) refl)

@@ -12,7 +12,7 @@ use Rattle.sound.specs.Laws.Means.{eq_means, le_means, or_means}
 use Rattle.sound.proofs.Laws.MeansEntries.{is_some_means, child_means}
 use Rattle.sound.specs.Properties.{Child}
 use Rattle.sound.specs.Whole.{Right}
-use Rattle.rules.specs.Rules.{Result, own_or_child, free_entry, area_of}
+use Rattle.rules.specs.Rules.{Effect, own_or_child, free_entry, area_of}
 use Rattle.isolation.specs.Ladder.{Ladder, Answers}
 use Rattle.isolation.specs.Laws.Ladder.{check_answers, need_answers}
 use Rattle.isolation.specs.Ladders.{OwnOrChild, FreeSlot, free_ladder}
@@ -31,7 +31,7 @@ pub record FreeArea (k : K) (s p j : ℕ) (e : Entry) : Type 0 where
   pub plain : e.whole ≡ false
 
 -- ── 4, 5, 6 as conditions ──
-pub free_answers : {t : Table} {s : ℕ} {f : Entry → Result} {c : Entry → Ladder}
+pub free_answers : {t : Table} {s : ℕ} {f : Entry → Effect} {c : Entry → Ladder}
     → Right t → ((e : Entry) → Answers (c e) (f e)) → Answers (free_ladder t.k s c) (free_entry t s f)
 unfolding free_entry
 free_answers {t} {s} h g =

@@ -27,7 +27,7 @@ use Rattle.sound.specs.Laws.Tests.{and_says, and_true}
 use Rattle.sound.specs.Laws.Properties.{siblings_one}
 use Rattle.sound.specs.Whole.{Right}
 use Rattle.sound.proofs.Laws.List.{sound_means}
-use Rattle.rules.specs.Rules.{Result, done, refused, records_zero, remove, branch, create, delete, give, take, clear_out, serve, call_on, boot_on, words_after}
+use Rattle.rules.specs.Rules.{Effect, done, refused, records_zero, remove, branch, create, delete, give, take, clear_out, serve, call_on, boot_on, words_after}
 use Rattle.rules.specs.Laws.Each.{done_each}
 use Rattle.rules.specs.Ran.{outcome_of}
 use Rattle.rules.specs.Calls.{caller_of, CallAnswers}
@@ -187,13 +187,13 @@ module _ {base end : ℕ} where
   after_kept h s [] = s
   after_kept {board} {l} h {g} s (w ∷ ws) = let (a, b) = one (call_on board l w) refl in after_kept {l = words_after l (call_on board l w)} a b ws
     where
-      one : (r : Result) → call_on board l w ≡ r
+      one : (r : Effect) → call_on board l w ≡ r
           → Good board (words_after l r) × Keeps base end (noted w (caller_of board l) (outcome_of r) (lines_named board l w) g) (view (words_after l r)).k
       one (done v x t') z =
           let (_, a, y) = served board l w h.small z in
           let q = serve_right board a (fields_in call w) y in
           (call_good board l w h.small z, rw (view_encode t' (right_fit q), (sound_means board l).1 h.sound) (serve_kept a s board (fields_in call w) y))
-      one (refused n) z = (h, s)
+      one (refused why) z = (h, s)
 
   boot_kept : (l : List ℕ) {v x : ℕ} {t' : Table} → boot_on l base end ≡ done v x t' → Keeps base end (opening base end) t'.k
   unfolding Ends opening settle

@@ -2,12 +2,13 @@
 use Rattle.std.specs.Prelude.{◌≡◌, List, ℕ, suc, ◌≤◌, ◌<◌, length}
 use Rattle.shapes.specs.declared.Board.{Board}
 use Rattle.tables.specs.View.{view}
-use Rattle.tables.specs.declared.Outcome.{Outcome}
 use Rattle.sound.specs.Holders.{trail, holders_of}
 use Rattle.runs.specs.declared.Run.{Run}
 use Rattle.runs.specs.Runs.{runs_of, nth_run, On, Chain, RunsListed}
 use Rattle.runs.specs.Laws.Meaning.{Told, RunsRefused}
 use Rattle.ledger.specs.Ledger.{Ledger}
+use Rattle.tables.specs.Outcomes.{Outcome}
+use Rattle.words.specs.declared.Refusal.TheVariants.{ShortList}
 
 -- the same names stand for two lines
 abbrev pub SameNames : Ledger → ℕ → ℕ → Type 0
@@ -28,4 +29,4 @@ pub record RunsDemand (board : Board) (base end : ℕ) (g : Ledger) (t : List �
   pub number : (rs : List Run) → LedgerRuns base end g rs → length rs ≡ length (runs_of (view t).k)
   -- runs is done with it, and the first records become the runs; or the list is too short
   pub answer : {before after : List Run} {r : Outcome} → RunsListed board t before r after → length (runs_of (view t).k) ≤ length before → Told t before r after
-  pub short : {before after : List Run} {r : Outcome} → RunsListed board t before r after → length before < length (runs_of (view t).k) → RunsRefused 17 before r after
+  pub short : {before after : List Run} {r : Outcome} → RunsListed board t before r after → length before < length (runs_of (view t).k) → RunsRefused ShortList before r after

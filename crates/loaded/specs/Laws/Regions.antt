@@ -1,19 +1,19 @@
 -- The walk over the regions decides S10: what each of them weighs, and their sum; and that those that it leaves out weigh nothing.
-use Rattle.std.specs.Prelude.{◌≡◌, Bool, ◌&&◌, ◌||◌, List, ℕ, ◌+◌, ◌^◌, ◌≤◌, ◌<◌, leb, eqb, zero, suc}
+use Rattle.std.specs.Prelude.{◌≡◌, Bool, ◌&&◌, ◌||◌, List, Option, Some, None, ℕ, ◌+◌, ◌^◌, ◌≤◌, ◌<◌, leb, eqb, zero, suc}
 use Rattle.std.proofs.Math.Path.{refl, ap}
-use Rattle.std.proofs.Common.{ap₂, sym, subst, ◌∙◌, add-zero, arith, leb-true, le-leb}
+use Rattle.std.proofs.Common.{ap₂, sym, subst, ◌∙◌, add-zero, arith, le-leb}
 use Rattle.std.proofs.Math.Bool.{true, false, cond, not, or-false, not-not, or-true}
 use Rattle.std.specs.Int.Bits.{bit_or}
-use Rattle.loops.specs.Loops.{sum, all, names}
+use Rattle.loops.specs.Loops.{all, names}
 use Rattle.loops.specs.Laws.Mask.{names_none, names_or, names_one}
-use Rattle.loops.specs.Laws.Count.{Summing, sum_start, sum_on, sum_end, sum_ext, sum_at}
-use Rattle.loops.specs.Laws.Every.{all_at, fail_at, all_ext, all_true, all_zero, all_more, all_of}
+use Rattle.loops.specs.Laws.Count.{Summing, sum_start, sum_on, sum_end}
+use Rattle.loops.specs.Laws.Every.{all_ext, all_true, all_zero, all_more, all_of}
 use Rattle.words.specs.Kind.{fields_in}
 use Rattle.words.specs.Words.{regions}
 use Rattle.words.specs.Fields.{no_region}
 use Rattle.words.specs.declared.regions_word.Region.{Region}
 use Rattle.words.specs.declared.regions_word.RegionsFields.{RegionsFields}
-use Rattle.regionwords.specs.Later.{later_regions}
+use Rattle.words.specs.Later.{later_regions}
 use Rattle.shapes.specs.declared.Board.{Board}
 use Rattle.tables.specs.State.{Table}
 use Rattle.tables.specs.View.{nth_region, named, regions_word_at, view}
@@ -22,10 +22,13 @@ use Rattle.tables.specs.Laws.Seen.{see_regions, see_region}
 use Rattle.tables.specs.Laws.Walk.{WalkingRegions, walk_start, walk_in, walk_at, walk_on, walk_end}
 use Rattle.sound.specs.Clauses.{when, s10_names, s10_once, s10}
 use Rattle.sound.specs.Limit.{entry_pieces, region_pieces, loaded_pieces}
-use Rattle.sound.specs.Laws.Tests.{all_and, never, and_true, not_of}
+use Rattle.sound.specs.Laws.Tests.{all_and, and_true, not_of}
 use Rattle.loaded.specs.Laws.Limit.{region_empty, region_counted}
 use Rattle.loaded.specs.Opening.{is_open, slot_noted, weight, some_loaded}
 use Rattle.std.proofs.lemmas.Bool.{false≢true, not-true}
+use Rattle.std.proofs.lemmas.Option.{none-some, same_Some}
+use Rattle.loops.specs.Laws.Every.{Passing}
+use Rattle.loops.specs.Laws.Scan.{seek_start, seek_hit, seek_on, seek_end}
 use Rattle.sound.specs.Laws.Limit.{none_loaded}
 
 -- ── a region ──
@@ -74,28 +77,40 @@ module _ {l : List ℕ} {p r : ℕ} {f : RegionsFields} {x : Region} (v : SeenRe
     region_open o = rw (see_region v h e, q, o) (all_ext r _ _ (λ j b. ap (when (λ i. not (eqb x.slot.0 i))) (sym (v.region j (omega arith)))))
 
 -- what it weighs then
-unfoldable pub weight_at : Board → Table → ℕ → ℕ → ℕ
-weight_at b t p r = cond (region_right t p r) (region_pieces b (t.k.slot p) (t.region p r)) 9
+abbrev pub pieces_at : Board → Table → ℕ → ℕ → ℕ
+pieces_at b t p r = region_pieces b (t.k.slot p) (t.region p r)
+
+unfoldable pub weight_at : Board → Table → ℕ → ℕ → Option ℕ
+weight_at b t p r = cond (region_right t p r) (Some (pieces_at b t p r)) None
+
+-- the answer tells both
+weighed : (y : Bool) {n k : ℕ} → Some n ≡ cond y (Some k) None → (y ≡ true) × (n ≡ k)
+weighed true e = (refl, same_Some _ _ e)
+weighed false e = absurd (none-some _ (sym e))
+
+unweighed : (y : Bool) (k : ℕ) → None ≡ cond y (Some k) None → y ≡ false
+unweighed true k e = absurd (none-some _ e)
+unweighed false k e = refl
 
 -- the exits of region_weight
 module _ (b : Board) (t : Table) (p m : ℕ) (x : Region) where
-  pub weight_none : x.loaded ≡ false → 0 ≡ weight b t p m x
+  pub weight_none : x.loaded ≡ false → Some 0 ≡ weight b t p m x
   unfolding weight
   weight_none q = rw q refl
 
   module _ (q : x.loaded ≡ true) where
-    pub weight_closed : is_open t p x.slot.0 ≡ false → 9 ≡ weight b t p m x
+    pub weight_closed : is_open t p x.slot.0 ≡ false → None ≡ weight b t p m x
     unfolding weight
     weight_closed o = rw (q, o) refl
 
     module _ (o : is_open t p x.slot.0 ≡ true) where
-      pub weight_again : names m x.slot.0 ≡ true → 9 ≡ weight b t p m x
+      pub weight_again : names m x.slot.0 ≡ true → None ≡ weight b t p m x
       unfolding weight
       weight_again a = rw (q, o, a) refl
 
-      pub weight_pieces : {n : ℕ} → names m x.slot.0 ≡ false → n ≡ entry_pieces b (t.k.slot p x.slot.0) → n ≡ weight b t p m x
+      pub weight_pieces : {n : ℕ} → names m x.slot.0 ≡ false → n ≡ entry_pieces b (t.k.slot p x.slot.0) → Some n ≡ weight b t p m x
       unfolding weight
-      weight_pieces a e = rw (q, o, a) e
+      weight_pieces a e = rw (q, o, a) (ap Some e)
 
 -- .. with the slots of those before it in the mask
 module _ (b : Board) {l : List ℕ} {p r : ℕ} {f : RegionsFields} {x : Region} (v : SeenRegions l p f) (h : r < 8) (e : x ≡ nth_region f r) (m : ℕ) (marks : (i : ℕ) → names m i ≡ not (others f r i)) where
@@ -103,8 +118,8 @@ module _ (b : Board) {l : List ℕ} {p r : ℕ} {f : RegionsFields} {x : Region}
   unfolding weight weight_at
   weighs = go x.loaded refl
     where
-      both : (y : Bool) {n k : ℕ} → n ≡ k → cond (not (not y)) n 9 ≡ cond y k 9
-      both true z = z
+      both : (y : Bool) {n k : ℕ} → n ≡ k → cond (not (not y)) (Some n) None ≡ cond y (Some k) None
+      both true z = ap Some z
       both false z = refl
 
       loaded : x.loaded ≡ true → (o : Bool) → is_open (view l) p x.slot.0 ≡ o → weight b (view l) p m x ≡ weight_at b (view l) p r
@@ -113,40 +128,28 @@ module _ (b : Board) {l : List ℕ} {p r : ℕ} {f : RegionsFields} {x : Region}
 
       go : (y : Bool) → x.loaded ≡ y → weight b (view l) p m x ≡ weight_at b (view l) p r
       go true q = loaded q (is_open (view l) p x.slot.0) refl
-      go false q = rw (q, ← (region_none v h e q), see_region v h e) (region_empty b _ x q)
+      go false q = rw (q, ← (region_none v h e q), see_region v h e) (ap Some (region_empty b _ x q))
 
 -- ── all of them ──
 s10_each : (board : Board) (t : Table) (p : ℕ) → all 8 (region_right t p) && leb (loaded_pieces board t.k.slot t.region p) 8 ≡ s10 board t p
 unfolding s10 region_right
 s10_each board t p = ap (λ (x : Bool). x && leb (loaded_pieces board t.k.slot t.region p) 8) (all_and 8 (s10_names t p) (λ r. all r (s10_once t p r)))
 
--- they weigh at most 8 exactly if S10 holds: one that is not right weighs 9
-s10_weighed : (b : Board) (t : Table) (p : ℕ) → leb (sum 8 (weight_at b t p)) 8 ≡ s10 b t p
-unfolding weight_at loaded_pieces
-s10_weighed b t p = go (all 8 (region_right t p)) refl
-  where
-    go : (y : Bool) → all 8 (region_right t p) ≡ y → leb (sum 8 (weight_at b t p)) 8 ≡ s10 b t p
-    go true q =
-        let same : sum 8 (weight_at b t p) ≡ loaded_pieces b t.k.slot t.region p = sum_ext 8 _ _ (λ r h. rw (all_at 8 (region_right t p) q r h) refl) in
-        rw (← (s10_each b t p), q, same) refl
-    go false q =
-        let (k, h, w) = fail_at 8 (region_right t p) q in
-        let nine : weight_at b t p k ≡ 9 = rw w refl in
-        sym (never (leb (sum 8 (weight_at b t p)) 8) (λ u. omega (arith, leb-true (sum 8 (weight_at b t p)) 8 u, sum_at 8 (weight_at b t p) k h))) ∙ rw (← (s10_each b t p), q) refl
-
--- the loop: n is what the regions before r weigh, and the mask has the slots that they name
+-- the loop: the regions before r are right, n is what they weigh, and the mask has the slots that they name
 pub record Weighing (b : Board) (t : Table) (p : ℕ) (f : RegionsFields) (m n r : ℕ) : Type 0 where
-  pub sums : Summing (weight_at b t p) 52 8 r n
+  pub right : Passing (region_right t p) 8 r
+  pub sums : Summing (pieces_at b t p) 52 8 r n
   pub marks : (i : ℕ) → names m i ≡ not (others f r i)
 
 pub weigh_start : {b : Board} {t : Table} {p : ℕ} {f : RegionsFields} → Weighing b t p f 0 0 0
 unfolding others
-weigh_start {f = f} = record { sums = sum_start; marks = λ i. names_none i ∙ sym (ap not (all_zero (λ q. other i (nth_region f q)))) }
+weigh_start {f = f} = record { right = seek_start; sums = sum_start; marks = λ i. names_none i ∙ sym (ap not (all_zero (λ q. other i (nth_region f q)))) }
 
-pub weigh_on : {b : Board} {l : List ℕ} {p : ℕ} {f : RegionsFields} {m n r : ℕ} {x : Region} {y m' : ℕ} → Weighing b (view l) p f m n r → SeenRegions l p f → r < 8 → x ≡ nth_region f r → y ≡ weight b (view l) p m x → y ≤ 52 → m' ≡ slot_noted m x → Weighing b (view l) p f m' (n + y) (r + 1)
-unfolding others
-weigh_on {b} {f = f} {m} {r = r} {x} inv v h e w few z = record {
-  sums = sum_on inv.sums h (w ∙ weighs b v h e m inv.marks) few;
+pub weigh_on : {b : Board} {l : List ℕ} {p : ℕ} {f : RegionsFields} {m n r : ℕ} {x : Region} {y m' : ℕ} → Weighing b (view l) p f m n r → SeenRegions l p f → r < 8 → x ≡ nth_region f r → Some y ≡ weight b (view l) p m x → y ≤ 52 → m' ≡ slot_noted m x → Weighing b (view l) p f m' (n + y) (r + 1)
+unfolding others weight_at
+weigh_on {b} {l} {p} {f} {m} {r = r} {x} inv v h e w few z = record {
+  right = seek_on inv.right h (ap not (weighed (region_right (view l) p r) (w ∙ weighs b v h e m inv.marks)).0);
+  sums = sum_on inv.sums h (weighed (region_right (view l) p r) (w ∙ weighs b v h e m inv.marks)).1 few;
   marks = λ i. ap (λ (k : ℕ). names k i) z ∙ names_noted m x i ∙ ap₂ ◌||◌ (inv.marks i) (ap (λ (y : Region). not (other i y)) e) ∙ either (others f r i) (other i (nth_region f r)) ∙ sym (ap not (all_more r (λ q. other i (nth_region f q))));
 }
   where
@@ -154,8 +157,16 @@ weigh_on {b} {f = f} {m} {r = r} {x} inv v h e w few z = record {
     either true c = refl
     either false c = refl
 
+-- one of which S10 says something else
+pub weigh_fails : {b : Board} {l : List ℕ} {p : ℕ} {f : RegionsFields} {m n r : ℕ} {x : Region} → Weighing b (view l) p f m n r → SeenRegions l p f → r < 8 → x ≡ nth_region f r → None ≡ weight b (view l) p m x → false ≡ s10 b (view l) p
+unfolding weight_at
+weigh_fails {b} {l} {p} {m = m} {r = r} inv v h e w =
+    let wrong = unweighed (region_right (view l) p r) _ (w ∙ weighs b v h e m inv.marks) in
+    rw (← (s10_each b (view l) p), ← (seek_hit inv.right h (ap not wrong))) refl
+
 pub weigh_end : {b : Board} {t : Table} {p : ℕ} {f : RegionsFields} {m n r : ℕ} → Weighing b t p f m n r → 8 ≤ r → leb n 8 ≡ s10 b t p
-weigh_end {b} {t} {p} inv h = ap (λ (k : ℕ). leb k 8) (sum_end inv.sums h) ∙ s10_weighed b t p
+unfolding loaded_pieces
+weigh_end {b} {t} {p} inv h = rw (← (s10_each b t p), ← (seek_end inv.right h)) (ap (λ (k : ℕ). leb k 8) (sum_end inv.sums h))
 
 -- a region that is not loaded weighs nothing, and names no slot
 weigh_blank : {b : Board} {l : List ℕ} {p : ℕ} {f : RegionsFields} {m n : ℕ} → SeenRegions l p f → (r : ℕ) → r < 8 → nth_region f r ≡ no_region → Weighing b (view l) p f m n r → Weighing b (view l) p f m n (r + 1)
@@ -179,9 +190,12 @@ module _ {b : Board} {l : List ℕ} {p v m n w : ℕ} (k : WeighingLeft b l p v 
     seen : SeenRegions l p (fields_in regions v)
     seen = see_regions l p (fields_in regions v) hp (ap (fields_in regions) is)
 
-    pub left_on : {x : Region} {y m' w' : ℕ} → 0 < w → x ≡ (fields_in regions w).region0 → y ≡ weight b (view l) p m x → y ≤ 52 → m' ≡ slot_noted m x → w' ≡ later_regions w → WeighingLeft b l p v m' (n + y) w'
+    pub left_on : {x : Region} {y m' w' : ℕ} → 0 < w → x ≡ (fields_in regions w).region0 → Some y ≡ weight b (view l) p m x → y ≤ 52 → m' ≡ slot_noted m x → w' ≡ later_regions w → WeighingLeft b l p v m' (n + y) w'
     left_on h e q few z moved =
         record { walk = subst (WalkingRegions _ v) (sym moved) (walk_on k.walk h (weigh_on k.walk.kept seen (walk_in k.walk h) (e ∙ walk_at k.walk h) q few z)) }
+
+    pub left_fails : {x : Region} → 0 < w → x ≡ (fields_in regions w).region0 → None ≡ weight b (view l) p m x → false ≡ s10 b (view l) p
+    left_fails h e q = weigh_fails k.walk.kept seen (walk_in k.walk h) (e ∙ walk_at k.walk h) q
 
     pub left_end : w ≡ 0 → leb n 8 ≡ s10 b (view l) p
     left_end z = weigh_end (walk_end k.walk z (weigh_blank seen)) (omega arith)

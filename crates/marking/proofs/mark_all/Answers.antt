@@ -5,17 +5,11 @@ use mathlib.Core.Path.{ap}
 use mathlib.Core.Bool.{not}
 use Rattle.marking.proofs.mark_all.Goals as goal
 
-pub loop-p-init : goal.loop-p-init
-loop-p-init c = (omega arith, c.requires.2)
-
 pub mark_areas-requires : goal.mark_areas-requires
-mark_areas-requires c = let h = c.requires in can_mark h.1 (omega (arith, h.0.within)) c.loop-p.invariant.1
+mark_areas-requires c = let h = c.requires in can_mark h.1 (omega (arith, h.0.within)) c.loop-p.invariant
 
 pub returns-then-not-mark_areas : goal.returns-then-not-mark_areas
 returns-then-not-mark_areas c = says_fails c.mark_areas.ensures (ap not c.if-not-mark_areas.true)
 
-pub loop-p-preserved : goal.loop-p-preserved
-loop-p-preserved c = (omega arith, c.mark_areas.ensures.on c.if-not-mark_areas.false)
-
 pub returns : goal.returns
-returns c = let h = c.requires in let i = c.loop-p.invariant in top_marks h.1 h.0 (omega arith) (omega (arith, i.0, h.0.within)) i.1
+returns c = let h = c.requires in let i = c.loop-p.invariant in top_marks h.1 h.0 (omega arith) (omega (arith, h.0.within)) i

@@ -5,35 +5,20 @@ use native.Mathlib.Omega.{arith}
 use mathlib.Core.Bool.{not}
 use Rattle.marking.proofs.mark_areas.Goals as goal
 
-pub is_present-requires : goal.is_present-requires
-is_present-requires c = c.requires.in_p
-
 pub returns-then-not-is_present : goal.returns-then-not-is_present
 returns-then-not-is_present c = let h = c.requires in absent_marks h.shaped _ h.marked (sym c.is_present.ensures ∙ c.if-not-is_present.true)
-
-pub mark_header-requires : goal.mark_header-requires
-mark_header-requires c = c.requires
 
 pub returns-then-not-mark_header : goal.returns-then-not-mark_header
 returns-then-not-mark_header c = says_fails c.mark_header.ensures (ap not c.if-not-mark_header.true)
 
-pub mark_first-requires : goal.mark_first-requires
-mark_first-requires c = let h = c.requires in record { in_p = h.in_p; shaped = h.shaped; marked = c.mark_header.ensures.on c.if-not-mark_header.false }
-
 pub returns-then-not-mark_first : goal.returns-then-not-mark_first
 returns-then-not-mark_first c = says_fails c.mark_first.ensures (ap not c.if-not-mark_first.true)
 
-pub loop-j-init : goal.loop-j-init
-loop-j-init c = (omega arith, omega arith, c.mark_first.ensures.on c.if-not-mark_first.false)
-
 pub mark_later-requires : goal.mark_later-requires
-mark_later-requires c = let h = c.requires in let i = c.loop-j.invariant in (omega (arith, i.0), omega arith, record { in_p = h.in_p; shaped = h.shaped; marked = i.2 })
+mark_later-requires c = let h = c.requires in (omega arith, omega arith, record { in_p = h.in_p; shaped = h.shaped; marked = c.loop-j.invariant })
 
 pub returns-then-not-mark_later : goal.returns-then-not-mark_later
 returns-then-not-mark_later c = says_fails c.mark_later.ensures (ap not c.if-not-mark_later.true)
 
-pub loop-j-preserved : goal.loop-j-preserved
-loop-j-preserved c = (omega arith, omega arith, c.mark_later.ensures.on c.if-not-mark_later.false)
-
 pub returns : goal.returns
-returns c = let i = c.loop-j.invariant in five_marks c.requires.shaped _ (omega arith) i.1 i.2
+returns c = five_marks c.requires.shaped _ (omega arith) (omega arith) c.loop-j.invariant

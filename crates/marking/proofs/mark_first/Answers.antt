@@ -13,16 +13,10 @@ returns-then-is_rooted c = let h = c.requires in says_rooted _ h.shaped _ 1 (ome
 pub returns-then-not-f : goal.returns-then-not-f
 returns-then-not-f c = let h = c.requires in let f = c.structure-f in structure_absent _ h.shaped h.in_p (omega arith) (omega arith) h.marked f.ensures (not-true f.result.present c.if-not-f.true)
 
-pub mark_either-requires : goal.mark_either-requires
-mark_either-requires c = let h = c.requires in (c.header-h.ensures.parent_small, h.in_p, h.shaped, h.marked.size)
-
 pub returns-then-f-e : goal.returns-then-f-e
 returns-then-f-e c =
     let h = c.requires in
     parent_first _ h.shaped h.in_p (omega arith) (omega arith) h.marked c.structure-f.ensures (λ z. false≢true (sym (sym c.is_rooted.ensures ∙ c.if-is_rooted.false) ∙ (rooted_means _ 1).1 z)) (not-false c.structure-f.result.present c.if-not-f.false) c.header-h.ensures c.mark_either.ensures
-
-pub mark_either-requires-2 : goal.mark_either-requires-2
-mark_either-requires-2 c = let h = c.requires in (h.in_p, c.header-h.ensures.parent_small, h.shaped, h.marked.size)
 
 pub returns : goal.returns
 returns c =

@@ -11,11 +11,8 @@ returns-then-is_rooted c = let h = c.requires in says_rooted _ h.shaped _ 0 (ome
 pub returns-then-not-h : goal.returns-then-not-h
 returns-then-not-h c = let h = c.requires in let f = c.header-h in header_absent _ h.shaped h.in_p h.marked f.ensures (not-true f.result.present c.if-not-h.true)
 
-pub mark_equal-requires : goal.mark_equal-requires
-mark_equal-requires c = let h = c.requires in (c.header-h.ensures.parent_small, h.shaped, h.marked.size)
-
 pub returns : goal.returns
 returns c =
     let h = c.requires in
     let f = c.header-h in
-    header_marks _ h.shaped h.in_p h.marked f.ensures (sym c.is_rooted.ensures ∙ c.if-is_rooted.false) (not-false f.result.present c.if-not-h.false) c.mark_equal.ensures
+    rw c.is_now.ensures (header_marks _ h.shaped h.in_p h.marked f.ensures (sym c.is_rooted.ensures ∙ c.if-is_rooted.false) (not-false f.result.present c.if-not-h.false) c.mark_equal.ensures)

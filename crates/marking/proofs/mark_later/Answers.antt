@@ -4,14 +4,8 @@ use borrow.Author.Tests.{not-true, not-false}
 use Rattle.marking.specs.Laws.Marking.{structure_absent, own_first}
 use Rattle.marking.proofs.mark_later.Goals as goal
 
-pub structure-f-requires : goal.structure-f-requires
-structure-f-requires c = let h = c.requires in (h.2.in_p, omega (arith, h.1))
-
 pub returns-then-not-f : goal.returns-then-not-f
 returns-then-not-f c = let h = c.requires in let f = c.structure-f in structure_absent _ h.2.shaped h.2.in_p (omega (arith, h.0)) h.1 h.2.marked f.ensures (not-true f.result.present c.if-not-f.true)
-
-pub mark_either-requires : goal.mark_either-requires
-mark_either-requires c = let h = c.requires in (h.2.in_p, c.header-h.ensures.parent_small, h.2.shaped, h.2.marked.size)
 
 pub returns : goal.returns
 returns c =

@@ -1,7 +1,8 @@
 -- An area that finds no equal entry, or one that is marked, fails S8; the others mark one slot each.
-use Rattle.std.specs.Prelude.{◌≡◌, Bool, true, false, not, ◌&&◌, List, ◌⊎◌, ℕ, zero, suc, ◌+◌, ◌-◌, ◌*◌, ◌/◌, ◌%◌, ◌^◌, ◌≤◌, ◌<◌, eqb, length, get_or, set, replicate}
+use Rattle.std.specs.Prelude.{◌≡◌, Bool, true, false, not, ◌&&◌, List, Option, Some, None, ◌⊎◌, ℕ, zero, suc, ◌+◌, ◌-◌, ◌*◌, ◌/◌, ◌%◌, ◌^◌, ◌≤◌, ◌<◌, eqb, length, get_or, set, replicate}
 use Rattle.std.proofs.Math.Path.{refl}
 use Rattle.std.proofs.Common.{ap, sym, subst, ◌∙◌, inl, inr, ⊎_elim, arith, length-set, get_or-set_other}
+use Rattle.std.proofs.lemmas.Option.{none-some, same_Some}
 use Rattle.std.proofs.Math.Bool.{or-true, or-false, false≢true}
 use Rattle.std.proofs.Math.Decide.{ℕ_discrete, dec_lt}
 use Rattle.std.specs.Int.Bits.{bit_or}
@@ -35,7 +36,10 @@ use Rattle.ordering.specs.Laws.Present.{absent_zero, record_solid}
 use Rattle.marking.specs.Backing.{area_between, backs}
 use Rattle.loops.specs.Loops.{names}
 use Rattle.loops.specs.Laws.Mask.{names_none, names_or, names_one}
-use Rattle.marking.specs.Marking.{slot_marked, There, MarkedTo, equal_slot, Marks, nobody, marked, before, MarksEither, in_one, in_other, CanMark, EachS8, MarkSays}
+use Rattle.words.specs.declared.Slot.{Slot}
+use Rattle.marking.specs.declared.Mark.{Mark}
+use Rattle.marking.specs.declared.Mark.TheVariants.{Nobody, Now, Before}
+use Rattle.marking.specs.Marking.{slot_marked, There, MarkedTo, found_slot, equal_slot, is_now, Marks, nobody, marked, before, MarksEither, in_one, in_other, CanMark, EachS8, MarkSays}
 
 -- what passes backs
 backs_says : (k : K) (q i : ℕ) (a : Area) → backs a (k.slot q i) ≡ true → (e : Entry) × (k.slot q i ≡ some e) × (e.given ≡ 0) × (e.start ≡ a.lo) × (e.stop ≡ a.hi)
@@ -238,14 +242,28 @@ all_on h = record { on = λ _. h; off = λ q. absurd (false≢true (sym q)) }
 pub says_fails : {k : K} {n n' : ℕ} {r : Bool} {m : List ℕ} → MarkSays k n r m → not r ≡ true → MarkSays k n' false m
 says_fails {r = r} h q = record { on = λ z. absurd (false≢true z); off = λ _. h.off (not-true r q) }
 
+-- the answers differ
+is_nobody : Mark → Bool
+is_nobody Nobody = true
+is_nobody Now = false
+is_nobody Before = false
+
+pub now_is : Nobody ≡ Now → ⊥
+unfolding is_nobody
+now_is e = false≢true (sym (ap is_nobody e))
+
+pub before_is : Nobody ≡ Before → ⊥
+unfolding is_nobody
+before_is e = false≢true (sym (ap is_nobody e))
+
 -- nothing was marked where no entry is equal
-pub marks_none : {k : K} {q r : ℕ} {a : Area} {m m' : List ℕ} → Marks k q a m r m' → r ≡ 0 → (m' ≡ m) × (Equals k q a → ⊥)
+pub marks_none : {k : K} {q : ℕ} {r : Mark} {a : Area} {m m' : List ℕ} → Marks k q a m r m' → r ≡ Nobody → (m' ≡ m) × (Equals k q a → ⊥)
 marks_none (nobody _ e no_entry) z = (e, no_entry)
-marks_none (marked i c w y free e) z = absurd (omega arith)
-marks_none (before i c w y taken e) z = absurd (omega arith)
+marks_none (marked i c w y free e) z = absurd (now_is (sym z ∙ y))
+marks_none (before i c w y taken e) z = absurd (before_is (sym z ∙ y))
 
 -- .. the other is asked
-pub then_other : {k : K} {one other n x : ℕ} {a : Area} {m m₁ m' : List ℕ} → Marks k one a m n m₁ → n ≡ 0 → Marks k other a m₁ x m' → MarksEither k one other a m (eqb x 1) m'
+pub then_other : {k : K} {one other : ℕ} {n x : Mark} {a : Area} {m m₁ m' : List ℕ} → Marks k one a m n m₁ → n ≡ Nobody → Marks k other a m₁ x m' → MarksEither k one other a m (is_now x) m'
 then_other {x = x} t z s = let (e, no_entry) = marks_none t z in in_other x refl no_entry (rw (← e) s)
 
 -- ── as the code searches ──
@@ -262,21 +280,21 @@ module _ (l : List ℕ) (shaped : Shaped l) where
       record { backed = record { q = q; who = who; i = i; e = e; at = u; free = g; lo = lo; hi = hi }; few = few; place = refl }
 
   -- the search of q
-  module _ (q i : ℕ) (a : Area) (is : i ≡ equal_slot k q a) where
-    pub search_none : 32 ≤ i → Equals k q a → ⊥
+  module _ (q : ℕ) (a : Area) {r : Option Slot} (is : r ≡ equal_slot k q a) where
+    pub search_none : r ≡ None → Equals k q a → ⊥
     unfolding backs has
-    search_none far e = go (seek_law (λ i. backs a (k.slot q i)) (λ i. i) 32 32)
+    search_none missed e = go (seek_law (λ i. backs a (k.slot q i)) found_slot None 32)
       where
-        go : Sought (λ i. backs a (k.slot q i)) (λ i. i) 32 32 (equal_slot k q a) → ⊥
-        go (inl (n, f)) = omega (arith, is, f.is, f.below)
+        go : Sought (λ i. backs a (k.slot q i)) found_slot None 32 (equal_slot k q a) → ⊥
+        go (inl (n, f)) = none-some _ (sym missed ∙ is ∙ f.is)
         go (inr f) = false≢true (sym (f.none e.i (slot_bounds l q e.i e.e e.at).1) ∙ rw e.at (and_true _ _ (and_true _ _ (eq-eqb _ 0 e.free) (eq-eqb _ _ e.lo)) (eq-eqb _ _ e.hi)))
 
-    pub search_some : i < 32 → backs a (k.slot q i) ≡ true
-    search_some near = go (seek_law (λ i. backs a (k.slot q i)) (λ i. i) 32 32)
+    pub search_some : {i : Slot} → r ≡ Some i → (i.0 < 32) × (backs a (k.slot q i.0) ≡ true)
+    search_some {i} here = go (seek_law (λ i. backs a (k.slot q i)) found_slot None 32)
       where
-        go : Sought (λ i. backs a (k.slot q i)) (λ i. i) 32 32 (equal_slot k q a) → backs a (k.slot q i) ≡ true
-        go (inl (n, f)) = rw (is ∙ f.is) f.holds
-        go (inr f) = absurd (omega (arith, is, f.is))
+        go : Sought (λ i. backs a (k.slot q i)) found_slot None 32 (equal_slot k q a) → (i.0 < 32) × (backs a (k.slot q i.0) ≡ true)
+        go (inl (n, f)) = let z : i.0 ≡ n = ap (λ (i : Slot). i.0) (same_Some _ _ (sym here ∙ is ∙ f.is)) in rw z (f.below, f.holds)
+        go (inr f) = absurd (none-some _ (sym (f.is) ∙ sym is ∙ here))
 
   -- ── the exits of the code, for area j of p ──
   module _ (p j : ℕ) {m : List ℕ} (few : j < 5) (inv : MarkedTo k (5 * p + j) m) where
@@ -293,7 +311,7 @@ module _ (l : List ℕ) (shaped : Shaped l) where
       next : {m' : List ℕ} → MarkedTo k (5 * p + j + 1) m' → MarkedTo k (5 * p + (j + 1)) m'
       next {m'} h = let z : 5 * p + j + 1 ≡ 5 * p + (j + 1) = omega arith in subst (λ (x : ℕ). MarkedTo k x m') z h
 
-      pub says_found : {q r : ℕ} {m' : List ℕ} → q < 16 → (q ≡ k.parent p) ⊎ ((q ≡ p) × (0 < j)) → Marks k q a m r m' → (r ≡ 0 → ⊥) → MarkSays k (5 * p + (j + 1)) (eqb r 1) m'
+      pub says_found : {q : ℕ} {r : Mark} {m' : List ℕ} → q < 16 → (q ≡ k.parent p) ⊎ ((q ≡ p) × (0 < j)) → Marks k q a m r m' → (r ≡ Nobody → ⊥) → MarkSays k (5 * p + (j + 1)) (is_now r) m'
       says_found b who (nobody z _ _) found = absurd (found z)
       says_found {q} b who (marked i c w z free e) found =
           let room : q < length m = omega (arith, inv.size) in
@@ -303,14 +321,14 @@ module _ (l : List ℕ) (shaped : Shaped l) where
         off = λ _ s8. mark_twice inv refl there (equal_at c w who) lines taken (apart_both l s8);
       })
 
-      pub says_none : {r : ℕ} {m' : List ℕ} → r ≡ 0 → (EachS8 k → ⊥) → MarkSays k (5 * p + (j + 1)) (eqb r 1) m'
+      pub says_none : {r : Mark} {m' : List ℕ} → r ≡ Nobody → (EachS8 k → ⊥) → MarkSays k (5 * p + (j + 1)) (is_now r) m'
       says_none z never = rw z (record { on = λ q. absurd (false≢true q); off = λ _. never })
 
       -- where S8 asks for an entry of q
-      pub says_marks : {q r : ℕ} {m' : List ℕ} → q < 16 → (q ≡ k.parent p) ⊎ ((q ≡ p) × (0 < j)) → Marks k q a m r m' → (EachS8 k → Equals k q a) → MarkSays k (5 * p + (j + 1)) (eqb r 1) m'
+      pub says_marks : {q : ℕ} {r : Mark} {m' : List ℕ} → q < 16 → (q ≡ k.parent p) ⊎ ((q ≡ p) × (0 < j)) → Marks k q a m r m' → (EachS8 k → Equals k q a) → MarkSays k (5 * p + (j + 1)) (is_now r) m'
       says_marks b who (nobody z e none_equal) has_one = says_none z (λ s8. none_equal (has_one s8))
-      says_marks b who (marked i c w z free e) has_one = says_found b who (marked i c w z free e) (λ y. omega arith)
-      says_marks b who (before i c w z taken e) has_one = says_found b who (before i c w z taken e) (λ y. omega arith)
+      says_marks b who (marked i c w z free e) has_one = says_found b who (marked i c w z free e) (λ y. now_is (sym y ∙ z))
+      says_marks b who (before i c w z taken e) has_one = says_found b who (before i c w z taken e) (λ y. before_is (sym y ∙ z))
 
   -- ── the header's area ──
   module _ {p : ℕ} {m : List ℕ} (in_p : p < 16) (inv : MarkedTo k (5 * p + 0) m) {f : HeaderFields} (v : SeenHeader l p f) where
@@ -318,7 +336,7 @@ module _ (l : List ℕ) (shaped : Shaped l) where
     unfolding header_area
     header_absent q = says_absent p 0 (omega arith) inv (v.area ∙ rw q refl)
 
-    pub header_marks : {r : ℕ} {m' : List ℕ} → rooted p 0 ≡ false → f.present ≡ true → Marks k f.parent.0 (area_between f.start.0 f.end.0) m r m' → MarkSays k (5 * p + 1) (eqb r 1) m'
+    pub header_marks : {r : Mark} {m' : List ℕ} → rooted p 0 ≡ false → f.present ≡ true → Marks k f.parent.0 (area_between f.start.0 f.end.0) m r m' → MarkSays k (5 * p + 1) (is_now r) m'
     unfolding header_area
     header_marks q here t =
         let u : k.area p 0 ≡ some (area_between f.start.0 f.end.0) = v.area ∙ rw here refl in
@@ -334,36 +352,7 @@ module _ (l : List ℕ) (shaped : Shaped l) where
     unfolding structure_area
     structure_absent q = says_absent p j few inv (is ∙ rw q refl)
 
-    -- its own is asked, and then the parent's
-    module _ {own : ℕ} {m₁ : List ℕ} (q : rooted p j ≡ false) (here : f.present ≡ true) (t : Marks k p (area_between f.start.0 f.end.0) m own m₁) where
-      own_area : k.area p j ≡ some (area_between f.start.0 f.end.0)
-      unfolding structure_area
-      own_area = is ∙ rw here refl
-
-      other : Rooted p j → ⊥
-      other z = false≢true (sym q ∙ (rooted_means p j).1 z)
-
-      pub structure_own : (own ≡ 0 → ⊥) → MarkSays k (5 * p + (j + 1)) (eqb own 1) m₁
-      structure_own found = says_found p j few inv in_p own_area other in_p (inr (refl, from)) t found
-
-      -- it is not its own: nothing was marked
-      pub structure_not_own : own ≡ 0 → (m₁ ≡ m) × (Equals k p (area_between f.start.0 f.end.0) → ⊥)
-      structure_not_own z = go t
-        where
-          go : Marks k p (area_between f.start.0 f.end.0) m own m₁ → (m₁ ≡ m) × (Equals k p (area_between f.start.0 f.end.0) → ⊥)
-          go (nobody _ e no_entry) = (e, no_entry)
-          go (marked i c w y free e) = absurd (omega arith)
-          go (before i c w y taken e) = absurd (omega arith)
-
-      pub structure_parent : {g : HeaderFields} {r : ℕ} {m₂ : List ℕ} → own ≡ 0 → SeenHeader l p g → Marks k g.parent.0 (area_between f.start.0 f.end.0) m₁ r m₂ → MarkSays k (5 * p + (j + 1)) (eqb r 1) m₂
-      structure_parent {g} {r} {m₂} z w s =
-          let (e, no_entry) = structure_not_own z in
-          let x : Marks k g.parent.0 (area_between f.start.0 f.end.0) m r m₂ = rw (← e) s in
-          let y : 1 + (j - 1) ≡ j = omega arith in
-          says_marks p j few inv in_p own_area other w.parent_small (inl (sym w.parent)) x (λ s8.
-          ⊎_elim (λ o. absurd (no_entry o)) (λ o. rw w.parent at o) ((s8 p in_p).structure (j - 1) _ (rw y own_area) (λ b. other (rw (← y) b))))
-
-    -- .. or whichever of the two first
+    -- its own is asked, or the parent's, whichever first
     module _ (n : Rooted p j → ⊥) (here : f.present ≡ true) {g : HeaderFields} (w : SeenHeader l p g) where
       area : k.area p j ≡ some (area_between f.start.0 f.end.0)
       unfolding structure_area

@@ -1,10 +1,6 @@
 -- src/lib.rt, clear: Wrote (λ n. 0) b.old i end b.new
-use Prim.Native.Nat.{◌-◌, ◌≤◌}
 use Rattle.memory.specs.ByteRecords.{Wrote}
 use Rattle.memory.proofs.clear.Given as goal
 
 abbrev pub invariant-loop-n : goal.invariant-loop-n
-invariant-loop-n l = (l.i ≤ l.n) × (l.n ≤ l.end) × Wrote (λ m. 0) l.initial.b l.i l.n l.b
-
-abbrev pub decreases-loop-n : goal.decreases-loop-n
-decreases-loop-n l = l.end - l.n
+invariant-loop-n l = Wrote (λ m. 0) l.initial.b l.i l.n l.b

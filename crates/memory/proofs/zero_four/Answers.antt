@@ -8,10 +8,6 @@ pub loop-q-init : goal.loop-q-init
 unfolding zero_four
 loop-q-init c = or_start
 
-pub quad-x-requires : goal.quad-x-requires
-unfolding zero_four
-quad-x-requires c = omega arith
-
 pub loop-q-preserved : goal.loop-q-preserved
 unfolding zero_four
 loop-q-preserved c = or_on c.loop-q.invariant (omega arith) c.quad-x.ensures.whole

@@ -1,12 +1,11 @@
 -- Records loaded or stored one by one, those that are zero passed over, are the whole table; and two results are equal.
-use Rattle.std.specs.Prelude.{◌≡◌, refl, true, false, List, ℕ, ◌+◌, ◌-◌, ◌*◌, ◌/◌, ◌%◌, ◌^◌, ◌≤◌, ◌<◌, length, set, take, drop, replicate}
+use Rattle.std.specs.Prelude.{◌≡◌, refl, true, false, List, ℕ, ◌+◌, ◌-◌, ◌*◌, ◌/◌, ◌%◌, ◌≤◌, ◌<◌, length, set, take, drop, replicate}
 use Rattle.std.proofs.Math.Path.{ap, sym}
 use Rattle.std.proofs.Common.{subst, ◌∙◌, add-zero, add_assoc, arith, length-drop, length-set, eq-eqb, ne_eqb, lt-ltb, le-ltb, ext_get_or, take_all, get_or-drop, get_or-set_same, get_or-set_other}
 use Rattle.std.proofs.Math.Decide.{ℕ_discrete, dec_lt}
 use Rattle.std.proofs.Math.ListN.{get_or, get_or-replicate}
 use Rattle.std.proofs.lemmas.List.{length-replicate}
 use Rattle.loops.specs.Laws.Carry.{done_keeps}
-use Rattle.loops.specs.Laws.Left.{none_from}
 use Rattle.loops.specs.Loops.{tab_from, names}
 use Rattle.loops.specs.Laws.Rewrite.{tab_at, tab_is, tab_ext, fill_start, fill_put}
 use Rattle.words.specs.Parts.{pack_parts}
@@ -18,8 +17,8 @@ use Rattle.tables.specs.Spelling.{ZeroWords}
 use Rattle.tables.specs.Laws.ZeroRecord.{zero_record_means}
 use Rattle.tables.specs.Top.{Top}
 use Rattle.memory.specs.Bytes.{octets, word_from, word_at, byte_at, byte_of, words_of, bytes_of, record_byte, put_word}
-use Rattle.memory.specs.Quads.{zero_eight, zero_forty}
-use Rattle.memory.specs.Laws.Quads.{zero_eight_law, zero_forty_law}
+use Rattle.memory.specs.Quads.{zero_forty}
+use Rattle.memory.specs.Laws.Quads.{zero_forty_law}
 use Rattle.memory.specs.Laws.ByteTrips.{byte_place, bytes_words, record_byte_law as record-place}
 use Rattle.memory.specs.ByteRecords.{ZeroEnd, HeaderTells, TellsAt, BytesTell, StoredAt, StoredBut, RootOnly, Loading, LoadedOn, Wrote}
 
@@ -43,15 +42,7 @@ wrote_one {i = i} {j} {s} {t} x y = ext_get_or 0 s t (x.size ∙ sym y.size) (λ
 pub end_start : {b : List ℕ} → ZeroEnd b 641
 end_start = record { within = omega arith; zero = λ i h g. absurd (omega arith) }
 
--- eight words more are zero
-pub end_on : {b : List ℕ} {k n : ℕ} → ZeroEnd b k → n + 8 ≡ k → zero_eight b (8 * n) ≡ true → ZeroEnd b n
-end_on {b} {k} {n} e q z = record { within = omega (arith, e.within); zero = λ i h g. go i h g (dec_lt i (8 * k)) }
-  where
-    go : (i : ℕ) → 8 * n ≤ i → i < 5128 → Dec (i < 8 * k) → get_or b i 0 ≡ 0
-    go i h g (yes x) = zero_eight_law b (8 * n) z i h (omega arith)
-    go i h g (no x) = e.zero i (omega arith) g
-
--- .. or a record
+-- a record more is zero
 pub end_record : {b : List ℕ} (p n : ℕ) {at : ℕ} → ZeroEnd b (1 + 40 * p) → n + 1 ≡ p → at ≡ 8 + 320 * n → zero_forty b at ≡ true → ZeroEnd b (1 + 40 * n)
 end_record {b} p n {at} e q from z = record { within = omega (arith, e.within); zero = λ i h g. go i h g (dec_lt i (8 * (1 + 40 * p))) }
   where
@@ -234,17 +225,6 @@ stored_but {m} {l} {b} few size small same = record { small = few; at = λ p a. 
         ∙ ap (λ (w : ℕ). byte_at w (i % 8)) (sym (same p a x (i / 8) (omega arith)))
         ∙ sym (record-place l p i a h)
         ∙ tab_at 5128 (byte_of l) (8 + 320 * p + i) (omega arith))
-
--- ── the records of a mask ──
--- where none is left, the records from p on are there already
-pub wrote_rest : {m p : ℕ} {l b s : List ℕ} → StoredBut m l b → Wrote (byte_of l) b 0 (8 + 320 * p) s → p ≤ 16 → 0 ≡ m / 2 ^ p → Wrote (byte_of l) b 0 5128 s
-wrote_rest {m} {p} {l} {b} {s} k w h e = record { size = w.size; at = λ n _ y. go n y (dec_lt n (8 + 320 * p)); before = w.before; after = λ n y. w.after n (omega arith) }
-  where
-    go : (n : ℕ) → n < 5128 → Dec (n < 8 + 320 * p) → get_or s n 0 ≡ byte_of l n
-    go n y (yes x) = w.at n (omega arith) x
-    go n y (no x) =
-        let q = (n - 8) / 320 in
-        w.after n (omega arith) ∙ (k.at q (omega arith)).there (none_from m p e q (omega arith)) n (omega arith) (omega arith)
 
 -- ── the root alone ──
 -- zeros, and then four words

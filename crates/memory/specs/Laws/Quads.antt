@@ -1,11 +1,11 @@
 -- Laws of Quads.
-use Rattle.std.specs.Prelude.{◌≡◌, refl, Bool, true, ◌&&◌, List, ℕ, ◌+◌, ◌-◌, ◌*◌, ◌/◌, ◌%◌, ◌^◌, ◌≤◌, ◌<◌, eqb, get_or}
-use Rattle.std.proofs.Common.{sym, ◌∙◌, add-zero, add_assoc, div-one, arith, eqb-true}
+use Rattle.std.specs.Prelude.{◌≡◌, true, List, ℕ, ◌+◌, ◌-◌, ◌*◌, ◌/◌, ◌%◌, ◌^◌, ◌≤◌, ◌<◌, eqb, get_or}
+use Rattle.std.proofs.Common.{◌∙◌, add-zero, add_assoc, div-one, arith, eqb-true}
 use Rattle.std.proofs.Math.Decide.{ℕ_discrete}
-use Rattle.loops.specs.Laws.Every.{all_at, all_zero, all_more}
-use Rattle.loops.specs.Loops.{all, carried, tab_from}
+use Rattle.loops.specs.Laws.Every.{all_at}
+use Rattle.loops.specs.Loops.{carried, tab_from}
 use Rattle.memory.specs.Bytes.{word_from, byte_at, put_word}
-use Rattle.memory.specs.Quads.{quad_at, Quad, put_quad, turned, zero_four, zero_forty, zero_eight}
+use Rattle.memory.specs.Quads.{quad_at, Quad, put_quad, turned, zero_four, zero_forty}
 
 -- a number made of two pairs of bytes
 pub quad_pairs : (b : List ℕ) (i : ℕ) {p q : ℕ} → get_or b i 0 < 256 → get_or b (i + 1) 0 < 256 → get_or b (i + 2) 0 < 256
@@ -69,56 +69,9 @@ zero_four_law b i z k h g = go ((k - i) / 4) ((k - i) % 4) (omega arith) (omega 
         at (no x) (no y) (yes u) n = let e2 : k ≡ i + 4 * q + 2 = omega arith in rw e2 (omega arith)
         at (no x) (no y) (no u) n = let e3 : k ≡ i + 4 * q + 3 = omega arith in rw e3 (omega arith)
 
--- .. of eight words
-pub zero_eight_law : (b : List ℕ) (i : ℕ) → zero_eight b i ≡ true → (k : ℕ) → i ≤ k → k < i + 64 → get_or b k 0 ≡ 0
-unfolding zero_eight quad_at
-zero_eight_law b i z k h g = go ((k - i) / 4) ((k - i) % 4) (omega arith) (omega arith) (omega arith)
-  where
-    go : (q r : ℕ) → q < 16 → r < 4 → k ≡ i + 4 * q + r → get_or b k 0 ≡ 0
-    go q r a c e =
-        let n : quad_at b (i + 4 * q) ≡ 0 = eqb-true _ 0 (all_at 16 (λ q. eqb (quad_at b (i + 4 * q)) 0) z q a) in
-        at (ℕ_discrete r 0) (ℕ_discrete r 1) (ℕ_discrete r 2) n
-      where
-        at : Dec (r ≡ 0) → Dec (r ≡ 1) → Dec (r ≡ 2) → quad_at b (i + 4 * q) ≡ 0 → get_or b k 0 ≡ 0
-        at (yes x) _ _ n = let e0 : k ≡ i + 4 * q = omega arith in rw e0 (omega arith)
-        at (no x) (yes y) _ n = let e1 : k ≡ i + 4 * q + 1 = omega arith in rw e1 (omega arith)
-        at (no x) (no y) (yes u) n = let e2 : k ≡ i + 4 * q + 2 = omega arith in rw e2 (omega arith)
-        at (no x) (no y) (no u) n = let e3 : k ≡ i + 4 * q + 3 = omega arith in rw e3 (omega arith)
-
+-- .. of a record
 pub zero_forty_law : (b : List ℕ) (i : ℕ) → zero_forty b i ≡ true → (k : ℕ) → i ≤ k → k < i + 320 → get_or b k 0 ≡ 0
 unfolding zero_forty
 zero_forty_law b i z k h g =
     let group : ℕ = (k - i) / 32 in
     zero_four_law b (i + 32 * group) (all_at 10 (λ g. zero_four b (i + 32 * g)) z group (omega arith)) k (omega arith) (omega arith)
-
--- At j, zero tells whether all bytes of the record from byte i on are zero that lie below byte j.
-pub record LookedAt (b : List ℕ) (i j : ℕ) (zero : Bool) : Type 0 where
-  pub from : i ≤ j
-  pub within : j ≤ i + 320
-  pub whole : (j - i) % 32 ≡ 0
-  pub says : zero ≡ all ((j - i) / 32) (λ g. zero_four b (i + 32 * g))
-
-module _ {b : List ℕ} {i : ℕ} where
-  pub look_start : LookedAt b i i true
-  look_start = record {
-    from = omega arith;
-    within = omega arith;
-    whole = omega arith;
-    says = let none : (i - i) / 32 ≡ 0 = omega arith in rw none (sym (all_zero (λ g. zero_four b (i + 32 * g))));
-  }
-
-  module _ {j : ℕ} {zero : Bool} (looked : LookedAt b i j zero) where
-    pub look_on : {y : Bool} → j < i + 320 → y ≡ zero_four b j → LookedAt b i (j + 32) (zero && y)
-    look_on {y} h e = record {
-      from = omega (arith, looked.from);
-      within = omega (arith, looked.from, looked.whole);
-      whole = omega (arith, looked.from, looked.whole);
-      says =
-          let more : (j + 32 - i) / 32 ≡ (j - i) / 32 + 1 = omega (arith, looked.from) in
-          let here : i + 32 * ((j - i) / 32) ≡ j = omega (arith, looked.from, looked.whole) in
-          rw (more, all_more ((j - i) / 32) (λ g. zero_four b (i + 32 * g)), here, looked.says, e) refl;
-    }
-
-    pub look_end : i + 320 ≤ j → zero ≡ zero_forty b i
-    unfolding zero_forty
-    look_end h = let ten : (j - i) / 32 ≡ 10 = omega (arith, looked.within) in rw (← ten) looked.says

@@ -1,5 +1,4 @@
 -- src/lib.rt, owned_at: result ≡ s8 (view t.now).k p.0
-use Prim.Native.Nat.{◌-◌}
 use Rattle.loops.specs.Laws.Every.{Passing}
 use Rattle.tables.specs.View.{view}
 use Rattle.sound.specs.Clauses.{s8_apart}
@@ -7,6 +6,3 @@ use Rattle.owning.proofs.owned_at.Given as goal
 
 abbrev pub invariant-loop-j : goal.invariant-loop-j
 invariant-loop-j l = Passing (s8_apart (view l.t).k l.p.0) 5 l.j
-
-abbrev pub decreases-loop-j : goal.decreases-loop-j
-decreases-loop-j l = 5 - l.j

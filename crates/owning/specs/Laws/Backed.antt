@@ -1,11 +1,11 @@
 -- What the code finds of an area is S8's test that it is an entry.
-use Rattle.std.specs.Prelude.{◌≡◌, Bool, true, false, List, ℕ, ◌+◌, ◌-◌, ◌<◌, ltb}
+use Rattle.std.specs.Prelude.{◌≡◌, Bool, true, false, List, Option, None, ℕ, ◌+◌, ◌-◌, ◌<◌}
 use Rattle.std.proofs.Math.Path.{refl}
-use Rattle.std.proofs.Common.{ap, sym, ◌∙◌, inl, inr, arith}
+use Rattle.std.proofs.Common.{ap, ◌∙◌, arith}
 use Rattle.std.proofs.Math.Bool.{and-false, or-true, or-false}
-use borrow.Author.Tests.{ne_eqb, lt-ltb, le-ltb}
-use Rattle.loops.specs.Laws.Every.{any_of, none_of}
-use Rattle.loops.specs.Laws.Scan.{Sought, seek_law}
+use borrow.Author.Tests.{ne_eqb}
+use Rattle.std.specs.Option.{is_some}
+use Rattle.loops.specs.Laws.Scan.{seek_map}
 use Rattle.words.specs.declared.header_word.HeaderFields.{HeaderFields}
 use Rattle.words.specs.declared.structure_word.StructureFields.{StructureFields}
 use Rattle.tables.specs.State.{Area, K}
@@ -13,16 +13,13 @@ use Rattle.tables.specs.View.{header_area, structure_area, view}
 use Rattle.tables.specs.Seen.{SeenHeader, SeenStructure}
 use Rattle.sound.specs.Clauses.{when, rooted, equals, s8_backed}
 use Rattle.marking.specs.Backing.{area_between, backs}
-use Rattle.marking.specs.Marking.{equal_slot}
+use Rattle.words.specs.declared.Slot.{Slot}
+use Rattle.marking.specs.Marking.{found_slot, equal_slot}
 
 -- the search for the slot finds one exactly where there is one
-pub equal_is : (k : K) (q : ℕ) (a : Area) {i : ℕ} → i ≡ equal_slot k q a → ltb i 32 ≡ equals k q a
+pub equal_is : (k : K) (q : ℕ) (a : Area) {r : Option Slot} → r ≡ equal_slot k q a → is_some r ≡ equals k q a
 unfolding equals backs
-equal_is k q a {i} e = go (seek_law (λ j. backs a (k.slot q j)) (λ j. j) 32 32)
-  where
-    go : Sought (λ j. backs a (k.slot q j)) (λ j. j) 32 32 (equal_slot k q a) → ltb i 32 ≡ equals k q a
-    go (inl (j, f)) = lt-ltb i 32 (omega (arith, e, f.is, f.below)) ∙ sym (any_of 32 (λ j. backs a (k.slot q j)) j f.below f.holds)
-    go (inr f) = le-ltb i 32 (omega (arith, e, f.is)) ∙ sym (none_of 32 (λ j. backs a (k.slot q j)) f.none)
+equal_is k q a e = ap is_some e ∙ seek_map is_some (λ j. backs a (k.slot q j)) found_slot None 32
 
 pub backed_rooted : (k : K) (p j : ℕ) → rooted p j ≡ true → true ≡ s8_backed k p j
 unfolding s8_backed

@@ -12,13 +12,9 @@ use Rattle.loops.specs.Laws.Climb.{climb_root, climb_suc}
 use Rattle.loops.specs.Laws.Map.{map_lt, map_bit}
 use Rattle.loops.specs.Laws.Mask.{names_or, names_one}
 use Rattle.loops.specs.Laws.Named.{names_map, map_is}
-use Rattle.words.specs.declared.Partition.{Partition}
 use Rattle.tables.specs.State.{Opt, none, some, K}
 use Rattle.tables.specs.Search.{lowest, absent_child}
 use Rattle.tables.specs.Laws.Search.{lowest_some}
-use Rattle.tables.specs.Answers.{which_of}
-use Rattle.tables.specs.declared.Which.{Which}
-use Rattle.tables.specs.declared.Which.TheVariants.{Number, Nobody}
 use Rattle.rules.specs.Rules.{branch}
 use Rattle.rules.specs.Changes.{above, up_from, down_from, next_in}
 
@@ -114,22 +110,3 @@ next_small k = go (lowest 16 (absent_child k)) refl
     go : (o : Opt ℕ) → lowest 16 (absent_child k) ≡ o → next_in o < 16
     go none u = omega arith
     go (some n) u = (lowest_some 16 (absent_child k) n u).below
-
-pub next_some : (k : K) {x : Which} {p : Partition} → x ≡ which_of (lowest 16 (absent_child k)) → x ≡ Number p → (p.0 ≡ next_in (lowest 16 (absent_child k))) × (p.0 < 16)
-unfolding which_of next_in
-next_some k {p = p} q e = go (lowest 16 (absent_child k)) refl (sym e ∙ q)
-  where
-    number : {a b : Partition} → Number a ≡ Number b → a.0 ≡ b.0
-    number {a} {b} z = ap (λ (p : Partition). p.0) (let w : a ≡ b = cc in w)
-
-    go : (o : Opt ℕ) → lowest 16 (absent_child k) ≡ o → Number p ≡ which_of o → (p.0 ≡ next_in o) × (p.0 < 16)
-    go none _ z = absurd (let w : ◌≡◌ {A = ℕ} 0 1 = cc in omega arith)
-    go (some n) u z = let w = number z in (w, omega (arith, w, (lowest_some 16 (absent_child k) n u).below))
-
-pub next_none : (k : K) {x : Which} → x ≡ which_of (lowest 16 (absent_child k)) → x ≡ Nobody → 0 ≡ next_in (lowest 16 (absent_child k))
-unfolding which_of next_in
-next_none k q e = go (lowest 16 (absent_child k)) (sym e ∙ q)
-  where
-    go : (o : Opt ℕ) → Nobody ≡ which_of o → 0 ≡ next_in o
-    go none _ = refl
-    go (some n) z = absurd (let w : ◌≡◌ {A = ℕ} 0 1 = cc in omega arith)

@@ -9,10 +9,12 @@ use Rattle.shapes.specs.declared.Board.{Board}
 use Rattle.tables.specs.State.{Opt, some, Table}
 use Rattle.sound.specs.Clauses.{has}
 use Rattle.sound.specs.Laws.Tests.{and_says}
-use Rattle.rules.specs.Rules.{Result, done, refused, check, create, delete, prepare, collect, give, take, cut, merge, load, unload, read_region, find, switch, clear_out, pack, Uses, uses, unused, region_call, known, numbered, perform, serve}
+use Rattle.rules.specs.declared.Uses.{Uses}
+use Rattle.rules.specs.Rules.{Effect, done, refused, check, create, delete, prepare, collect, give, take, cut, merge, load, unload, read_region, find, switch, clear_out, pack, uses, unused, region_call, known, numbered, perform, serve}
 use Rattle.rules.specs.Laws.Ran.{check_done}
+use Rattle.words.specs.declared.Refusal.TheVariants.{BadWord}
 
-pub record EachService {ℓ} (C : Result → Type ℓ) (board : Board) (t : Table) (f : CallFields) : Type ℓ where
+pub record EachService {ℓ} (C : Effect → Type ℓ) (board : Board) (t : Table) (f : CallFields) : Type ℓ where
   pub create : f.service ≡ 1 → C (create t f.slot.0)
   pub delete : f.service ≡ 2 → C (delete t f.partition.0)
   pub prepare : f.service ≡ 3 → C (prepare t f.partition.0 f.slot.0)
@@ -29,9 +31,9 @@ pub record EachService {ℓ} (C : Result → Type ℓ) (board : Board) (t : Tabl
   pub clear_out : f.service ≡ 14 → C (clear_out t f.partition.0)
   pub pack : f.service ≡ 15 → C (pack t f.partition.0)
 
-module _ {ℓ} (C : Result → Type ℓ) (board : Board) (t : Table) (f : CallFields) where
+module _ {ℓ} (C : Effect → Type ℓ) (board : Board) (t : Table) (f : CallFields) where
   -- a row of `uses` and of `perform`, or the rows after it
-  row : (k : ℕ) (x : Uses) (o : Opt Uses) (r q : Result) → (f.service ≡ k → C r) → (has (λ y. unused y f) o ≡ true → C q)
+  row : (k : ℕ) (x : Uses) (o : Opt Uses) (r q : Effect) → (f.service ≡ k → C r) → (has (λ y. unused y f) o ≡ true → C q)
       → has (λ y. unused y f) (cond (eqb f.service k) (some x) o) ≡ true → C (cond (eqb f.service k) r q)
   row k x o r q here after = go (eqb f.service k) refl
     where
@@ -66,11 +68,11 @@ module _ {ℓ} (C : Result → Type ℓ) (board : Board) (t : Table) (f : CallFi
       (row 15 _ _ _ _ e.pack
       (λ z. absurd (false≢true z))))))))))))))) (and_says (not (eqb f.service 9) || region_call f) (has (λ y. unused y f) (uses f.service)) h).1
 
-  pub serve_each : C (refused 2) → EachService C board t f → C (serve board t f)
+  pub serve_each : C (refused BadWord) → EachService C board t f → C (serve board t f)
   unfolding check serve
   serve_each two e = go (known f) refl
     where
-      go : (b : Bool) → known f ≡ b → C (check 2 b (perform board t f))
+      go : (b : Bool) → known f ≡ b → C (check BadWord b (perform board t f))
       go true h = perform_each h e
       go false h = two
 
@@ -78,7 +80,7 @@ module _ {ℓ} (C : Result → Type ℓ) (board : Board) (t : Table) (f : CallFi
 module _ (board : Board) (t : Table) (f : CallFields) {v w : ℕ} {t' : Table} where
   pub serve_done : serve board t f ≡ done v w t' → (known f ≡ true) × (perform board t f ≡ done v w t')
   unfolding serve
-  serve_done z = check_done 2 (known f) z
+  serve_done z = check_done BadWord (known f) z
 
   -- .. was done by one of the services
   pub done_each : {A : Type 0} → serve board t f ≡ done v w t' → EachService (λ r. r ≡ done v w t' → A) board t f → A

@@ -1,5 +1,5 @@
 -- src/lib.rt, plan_of: (result ≡ plan_of board t.old size) × (t.new ≡ marks_in board t.old)
-use mathlib.Core.Path.{refl, ◌∙◌, ap}
+use mathlib.Core.Path.{◌∙◌, ap}
 use native.Mathlib.Omega.{arith}
 use Rattle.sound.proofs.Laws.Whole.{tested}
 use Rattle.runlist.specs.Laws.Listing.{decided_unsound, decided_sound, decided_order, plan_unsound, plan_short, plan_done, marks_unsound, marks_sound}
@@ -7,7 +7,7 @@ use mathlib.Core.Bool.{not}
 use Rattle.runlist.proofs.plan_of.Goals as goal
 
 pub is_ordered-requires : goal.is_ordered-requires
-is_ordered-requires c = (c.requires, refl, refl)
+is_ordered-requires c = c.requires
 
 pub returns-then-not-is_ordered : goal.returns-then-not-is_ordered
 returns-then-not-is_ordered c =

@@ -1,5 +1,5 @@
--- The exits of planning a list: refused 1 or 17, or done with the number of the runs and their marks. What is written then is what is promised.
-use Rattle.std.specs.Prelude.{◌≡◌, Bool, true, false, cond, not, List, ◌++◌, ℕ, ◌-◌, ◌^◌, ◌≤◌, ◌<◌, leb, length, drop}
+-- The exits of planning a list: refused with NotSound or ShortList, or done with the number of the runs and their marks. What is written then is what is promised.
+use Rattle.std.specs.Prelude.{◌≡◌, Bool, true, false, cond, not, List, ◌++◌, ℕ, ◌-◌, ◌^◌, ◌≤◌, ◌<◌, leb, length, drop, Ok}
 use Rattle.std.proofs.Math.Path.{refl}
 use Rattle.std.proofs.Common.{ap, sym, ◌∙◌, arith}
 use borrow.Author.Tests.{not-true, not-false, leb-true, lt-leb, le-leb}
@@ -7,7 +7,6 @@ use Rattle.loops.specs.Laws.Rewrite.{length_tab}
 use Rattle.shapes.specs.declared.Board.{Board}
 use Rattle.tables.specs.View.{view}
 use Rattle.tables.specs.Laws.Seen.{see_first}
-use Rattle.tables.specs.declared.Outcome.TheVariants.{Done}
 use Rattle.sound.specs.Clauses.{sound}
 use Rattle.sound.proofs.Laws.Whole.{tested}
 use Rattle.decide.specs.Decide.{Decided}
@@ -19,6 +18,7 @@ use Rattle.runs.specs.Laws.RunLaws.{runs_few}
 use Rattle.runs.specs.Laws.Bound.{runs_bound}
 use Rattle.runs.specs.Laws.Pieces.{stop_small}
 use Rattle.runs.specs.Places.{AllInOrder}
+use Rattle.words.specs.declared.Refusal.TheVariants.{NotSound, ShortList}
 use Rattle.runs.specs.Marks.{run_at, mark_of, marks_over, MarksAt}
 use Rattle.runs.specs.Laws.Marks.{read_back, marks_short}
 use Rattle.runlist.specs.Listing.{refusal, writing_runs, plan_of, marks_in}
@@ -36,15 +36,15 @@ module _ {board : Board} {t : List ℕ} {r : Bool} {o c : List ℕ} (d : Decided
   decided_order q = record { counts = c; orders = d.orders (not-false r q) }
 
 module _ (board : Board) (t : List ℕ) (size : ℕ) where
-  pub plan_unsound : sound board t ≡ false → refusal 1 ≡ plan_of board t size
+  pub plan_unsound : sound board t ≡ false → refusal NotSound ≡ plan_of board t size
   unfolding plan_of
   plan_unsound q = rw q refl
 
-  pub plan_short : {n : ℕ} → sound board t ≡ true → n ≡ length (runs_of (view t).k) → size < n → refusal 17 ≡ plan_of board t size
+  pub plan_short : {n : ℕ} → sound board t ≡ true → n ≡ length (runs_of (view t).k) → size < n → refusal ShortList ≡ plan_of board t size
   unfolding plan_of
   plan_short q e h = rw (q, lt-leb (length (runs_of (view t).k)) size (omega arith)) refl
 
-  pub plan_done : {n : ℕ} → sound board t ≡ true → n ≡ length (runs_of (view t).k) → n ≤ size → record { number = n; outcome = Done n 0 } ≡ plan_of board t size
+  pub plan_done : {n : ℕ} → sound board t ≡ true → n ≡ length (runs_of (view t).k) → n ≤ size → record { number = n; outcome = Ok (n, 0) } ≡ plan_of board t size
   unfolding plan_of
   plan_done q e h = rw (q, le-leb (length (runs_of (view t).k)) size (omega arith), e) refl
 
@@ -64,7 +64,7 @@ unfolding plan_of
 plan_fits board t size = go (sound board t) (leb (length (runs_of (view t).k)) size) refl refl
   where
     go : (a b : Bool) → sound board t ≡ a → leb (length (runs_of (view t).k)) size ≡ b
-        → ((cond a (cond b (writing_runs (view t).k) (refusal 17)) (refusal 1)).number ≤ size) × ((cond a (cond b (writing_runs (view t).k) (refusal 17)) (refusal 1)).number ≤ 512)
+        → ((cond a (cond b (writing_runs (view t).k) (refusal ShortList)) (refusal NotSound)).number ≤ size) × ((cond a (cond b (writing_runs (view t).k) (refusal ShortList)) (refusal NotSound)).number ≤ 512)
     go true true p q = (leb-true (length (runs_of (view t).k)) size q, runs_bound (tested board t p))
     go true false p q = (omega arith, omega arith)
     go false b p q = (omega arith, omega arith)
@@ -85,7 +85,7 @@ pub marks_at : (board : Board) (t : List ℕ) (size : ℕ) {w : List ℕ} {i : �
 unfolding plan_of marks_in
 marks_at board t size {w} {i} made h = go (sound board t) (leb (length (runs_of (view t).k)) size) refl h
   where
-    go : (a b : Bool) → sound board t ≡ a → i < (cond a (cond b (writing_runs (view t).k) (refusal 17)) (refusal 1)).number → MarksAt w i
+    go : (a b : Bool) → sound board t ≡ a → i < (cond a (cond b (writing_runs (view t).k) (refusal ShortList)) (refusal NotSound)).number → MarksAt w i
     go true true p x =
         let e : w ≡ marks_over 641 (view t).k t = made p ∙ rw p refl in
         let (here, next) = marks_short (tested board t p) (stop_small t) t i x in

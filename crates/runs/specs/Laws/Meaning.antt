@@ -1,5 +1,5 @@
 -- What a caller may rely on who has the runs listed: which answer is given when, and each record after it.
-use Rattle.std.specs.Prelude.{◌≡◌, true, ℕ, ◌+◌, ◌-◌, ◌≤◌, ◌<◌, drop}
+use Rattle.std.specs.Prelude.{◌≡◌, true, ℕ, ◌+◌, ◌-◌, ◌≤◌, ◌<◌, drop, Ok, Err}
 use Rattle.std.proofs.Math.Path.{refl, ap}
 use Rattle.std.proofs.Common.{◌∙◌, arith, length-append, length-drop, get_or-append-add, get_or-drop}
 use mathlib.Core.List.{List}
@@ -7,27 +7,28 @@ use Rattle.std.proofs.Math.ListN.{length, get_or-append}
 use borrow.Author.Tests.{le-leb, lt-leb}
 use Rattle.shapes.specs.declared.Board.{Board}
 use Rattle.tables.specs.View.{view}
-use Rattle.tables.specs.declared.Outcome.{Outcome}
-use Rattle.tables.specs.declared.Outcome.TheVariants.{Done, Refused}
 use Rattle.sound.specs.Clauses.{sound}
 use Rattle.sound.proofs.Laws.Whole.{tested}
 use Rattle.runs.specs.declared.Run.{Run}
 use Rattle.runs.specs.Runs.{run_of, runs_of, nth_run, Longest, runs_over, runs_outcome, runs_records, RunsListed}
 use Rattle.runs.specs.Laws.RunLaws.{runs_longest}
 use Rattle.runs.specs.Laws.Bound.{runs_bound}
+use Rattle.tables.specs.Outcomes.{Outcome}
+use Rattle.words.specs.declared.Refusal.{Refusal}
+use Rattle.words.specs.declared.Refusal.TheVariants.{ShortList}
 
 -- done: the runs are as 01 says and at most 512, their number is answered, the first records are they, and the rest stay
 pub record Told (t : List ℕ) (before : List Run) (r : Outcome) (after : List Run) : Type 0 where
   pub runs : Longest (view t).k (runs_of (view t).k)
   pub few : length (runs_of (view t).k) ≤ 512
-  pub answer : r ≡ Done (length (runs_of (view t).k)) 0
+  pub answer : r ≡ Ok (length (runs_of (view t).k), 0)
   pub size : length after ≡ length before
   pub first : (i : ℕ) → i < length (runs_of (view t).k) → nth_run after i ≡ nth_run (runs_of (view t).k) i
   pub rest : (i : ℕ) → length (runs_of (view t).k) ≤ i → nth_run after i ≡ nth_run before i
 
--- refused with a number: every record stays
-pub record RunsRefused (why : ℕ) (before : List Run) (r : Outcome) (after : List Run) : Type 0 where
-  pub answer : r ≡ Refused why
+-- refused: every record stays
+pub record RunsRefused (why : Refusal) (before : List Run) (r : Outcome) (after : List Run) : Type 0 where
+  pub answer : r ≡ Err why
   pub same : after ≡ before
 
 -- of a list with room for all of rs
@@ -44,7 +45,7 @@ module _ (rs list : List Run) (b : length rs ≤ length list) where
       rw e at (get_or-append-add rs (drop (length rs) list) (i - length rs) (run_of 0 0 0) ∙ get_or-drop (length rs) list (i - length rs) (run_of 0 0 0))
 
 module _ {board : Board} {t : List ℕ} {before after : List Run} {r : Outcome} (h : RunsListed board t before r after) where
-  pub short_told : sound board t ≡ true → length before < length (runs_of (view t).k) → RunsRefused 17 before r after
+  pub short_told : sound board t ≡ true → length before < length (runs_of (view t).k) → RunsRefused ShortList before r after
   unfolding runs_outcome runs_records
   short_told q b =
       let z = lt-leb (length (runs_of (view t).k)) (length before) b in

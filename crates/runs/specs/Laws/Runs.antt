@@ -2,9 +2,9 @@
 use Rattle.std.specs.Prelude.{List, ◌≡◌, ℕ}
 use Rattle.std.proofs.Common.{sym, ◌∙◌}
 use Rattle.shapes.specs.declared.Board.{Board}
-use Rattle.tables.specs.declared.Outcome.{Outcome}
 use Rattle.runs.specs.declared.Run.{Run}
 use Rattle.runs.specs.Runs.{RunsListed}
+use Rattle.tables.specs.Outcomes.{Outcome}
 
 -- ── what is answered where they are listed, and the records after it ──
 -- two results are equal: the outcome, and every record

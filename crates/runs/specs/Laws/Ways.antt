@@ -1,5 +1,5 @@
 -- The way that is kept, up past the entries that have ended and down again, is the way of the line: the exits of both; and two results are equal.
-use Rattle.std.specs.Prelude.{◌≡◌, List, ℕ, ◌+◌, ◌-◌, ◌^◌, ◌≤◌, ◌<◌, min, get_or, set, replicate}
+use Rattle.std.specs.Prelude.{◌≡◌, List, ℕ, ◌+◌, ◌-◌, ◌^◌, ◌≤◌, ◌<◌, min, get_or, set, replicate, Result}
 use Rattle.std.proofs.Common.{sym, ap, subst, ◌∙◌, arith, length-set, get_or-set_same, get_or-set_other}
 use Rattle.std.proofs.Math.Decide.{ℕ_discrete}
 use Rattle.std.proofs.lemmas.List.{length-replicate, get_or-replicate}
@@ -8,7 +8,6 @@ use Rattle.words.specs.Laws.Kind.{write_done}
 use Rattle.words.specs.Words.{mark}
 use Rattle.words.specs.Laws.Kinds.{mark_range, mark_small, line_in_law, holder_in_law}
 use Rattle.words.specs.Kinds.{line_in, holder_in, mark_for}
-use Rattle.words.specs.declared.Written.{Written}
 use Rattle.words.specs.declared.mark_word.MarkFields.{MarkFields}
 use Rattle.tables.specs.State.{K}
 use Rattle.sound.specs.Core.{Core}
@@ -18,9 +17,10 @@ use Rattle.runs.specs.Pieces.{end_at, Hopped, Descent}
 use Rattle.runs.specs.Laws.Pieces.{holder_small, end_after_law, same_end, same_heir, piece_start, descent_here, descent_last, descent_down}
 use Rattle.runs.specs.Places.{Passed}
 use Rattle.runs.specs.Ways.{Short, word_written, low_at, who_at, Climbs, Climbing, Climbed, Way, Standing, Pieced}
+use Rattle.words.specs.declared.Refusal.{Refusal}
 
 -- of fields in range it is the mark
-pub kept_mark : {w : Written} (f : MarkFields) → f.line.0 < 2 ^ 27 → f.holder.0 < 16 → w ≡ writing mark f → Short w × (word_written w ≡ word_of mark f)
+pub kept_mark : {w : Result ℕ Refusal} (f : MarkFields) → f.line.0 < 2 ^ 27 → f.holder.0 < 16 → w ≡ writing mark f → Short w × (word_written w ≡ word_of mark f)
 kept_mark f a b e =
     let q = e ∙ write_done mark f (mark_range f a b) in
     (subst Short (sym q) (mark_small f a b), ap word_written q)

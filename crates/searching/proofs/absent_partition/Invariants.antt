@@ -1,5 +1,4 @@
 -- src/lib.rt, absent_partition: result ≡ which_of (lowest 16 (absent_child (view t.now).k))
-use Prim.Native.Nat.{◌-◌, ◌<◌}
 use Rattle.loops.specs.Laws.Scan.{Seeking}
 use Rattle.tables.specs.State.{none, some}
 use Rattle.tables.specs.View.{view}
@@ -7,7 +6,4 @@ use Rattle.tables.specs.Search.{absent_child}
 use Rattle.searching.proofs.absent_partition.Given as goal
 
 abbrev pub invariant-loop-n : goal.invariant-loop-n
-invariant-loop-n l = (0 < l.n) × Seeking (absent_child (view l.t).k) some none 16 l.n
-
-abbrev pub decreases-loop-n : goal.decreases-loop-n
-decreases-loop-n l = 16 - l.n
+invariant-loop-n l = Seeking (absent_child (view l.t).k) some none 16 l.n

@@ -1,15 +1,11 @@
 -- src/lib.rt, absent_structure: result ≡ structure_of (lowest 4 (no_structure (view t.now).k p.0))
 use mathlib.Core.Path.{ap}
-use Rattle.loops.specs.Laws.Scan.{seek_start, seek_hit, seek_on, seek_end}
+use Rattle.loops.specs.Laws.Scan.{seek_hit, seek_on, seek_end}
 use Rattle.tables.specs.Search.{lowest, no_structure}
 use Rattle.tables.specs.Laws.Search.{structure_some}
 use Rattle.tables.specs.Answers.{structure_of}
 use native.Mathlib.Omega.{arith}
 use Rattle.searching.proofs.absent_structure.Goals as goal
-
-pub loop-j-init : goal.loop-j-init
-unfolding lowest structure_of no_structure
-loop-j-init c = seek_start
 
 pub returns-then-not-s : goal.returns-then-not-s
 unfolding lowest structure_of no_structure

@@ -1,5 +1,4 @@
 -- src/lib.rt, absent_structure: result ≡ structure_of (lowest 4 (no_structure (view t.now).k p.0))
-use Prim.Native.Nat.{◌-◌}
 use Rattle.loops.specs.Laws.Scan.{Seeking}
 use Rattle.tables.specs.State.{none, some}
 use Rattle.tables.specs.View.{view}
@@ -8,6 +7,3 @@ use Rattle.searching.proofs.absent_structure.Given as goal
 
 abbrev pub invariant-loop-j : goal.invariant-loop-j
 invariant-loop-j l = Seeking (no_structure (view l.t).k l.p.0) some none 4 l.j
-
-abbrev pub decreases-loop-j : goal.decreases-loop-j
-decreases-loop-j l = 4 - l.j

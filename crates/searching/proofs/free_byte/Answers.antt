@@ -19,12 +19,6 @@ loop-i-init c = map_start
 pub overflow_mul-byte : goal.overflow_mul-byte
 overflow_mul-byte c = record { fits = omega (arith, map_room c.loop-i.invariant (omega arith)) }
 
-pub overflow_sub-i : goal.overflow_sub-i
-overflow_sub-i c = omega arith
-
-pub empty_bit-requires : goal.empty_bit-requires
-empty_bit-requires c = (c.requires.0, omega (arith, c.loop-i.invariant.within))
-
 pub overflow_add-byte : goal.overflow_add-byte
 overflow_add-byte c = record { fits = omega (arith, map_room c.loop-i.invariant (omega arith), c.empty_bit.ensures.1) }
 

@@ -7,6 +7,3 @@ use Rattle.searching.proofs.free_byte.Given as goal
 
 abbrev pub invariant-loop-i : goal.invariant-loop-i
 invariant-loop-i l = Mapping (free (view l.t).k l.p.0) (8 * l.j) 8 l.i l.byte
-
-abbrev pub decreases-loop-i : goal.decreases-loop-i
-decreases-loop-i l = l.i

@@ -1,13 +1,9 @@
 -- src/lib.rt, has_child: result ≡ has_child (view t.now).k p.0
 use mathlib.Core.Path.{sym, ◌∙◌}
-use Rattle.loops.specs.Laws.Scan.{seek_start, seek_hit, seek_on, seek_end}
+use Rattle.loops.specs.Laws.Scan.{seek_hit, seek_on, seek_end}
 use Rattle.tables.specs.Search.{has_child}
 use native.Mathlib.Omega.{arith}
 use Rattle.searching.proofs.has_child.Goals as goal
-
-pub loop-c-init : goal.loop-c-init
-unfolding has_child
-loop-c-init c = seek_start
 
 pub returns-then-is_child : goal.returns-then-is_child
 unfolding has_child

@@ -1,5 +1,4 @@
 -- src/lib.rt, has_child: result ≡ has_child (view t.now).k p.0
-use Prim.Native.Nat.{◌-◌}
 use Rattle.loops.specs.Laws.Every.{Missing}
 use Rattle.tables.specs.View.{view}
 use Rattle.tables.specs.Search.{child}
@@ -7,6 +6,3 @@ use Rattle.searching.proofs.has_child.Given as goal
 
 abbrev pub invariant-loop-c : goal.invariant-loop-c
 invariant-loop-c l = Missing (child (view l.t).k l.p.0) 16 l.c
-
-abbrev pub decreases-loop-c : goal.decreases-loop-c
-decreases-loop-c l = 16 - l.c

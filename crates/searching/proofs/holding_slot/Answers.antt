@@ -1,7 +1,7 @@
 -- src/lib.rt, holding_slot: result ≡ looked_of (look_for (view t.now).k l.0 p.0)
 -- the answer, by the slot
 use mathlib.Core.Path.{ap, sym, ◌∙◌}
-use Rattle.loops.specs.Laws.Scan.{seek_start, seek_hit, seek_on, seek_end}
+use Rattle.loops.specs.Laws.Scan.{seek_hit, seek_on, seek_end}
 use Rattle.tables.specs.State.{Opt}
 use Prim.Native.Nat.{ℕ}
 use Rattle.tables.specs.Search.{lowest, looked_at}
@@ -13,10 +13,6 @@ use Rattle.searching.proofs.holding_slot.Goals as goal
 -- the answer, by the slot
 abbrev answer : Opt ℕ → Looked
 answer o = looked_of (record { slot = o; count = looked_at o })
-
-pub loop-s-init : goal.loop-s-init
-unfolding lowest found_of looked_at looked_of
-loop-s-init c = seek_start
 
 pub returns-then-holds_line : goal.returns-then-holds_line
 unfolding lowest found_of looked_at looked_of

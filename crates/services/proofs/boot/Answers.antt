@@ -11,8 +11,8 @@ returns-then-t-ne641 c = ran_refused (boot_length _ _ _ c.if-t-ne641.true)
 pub copy_out-requires : goal.copy_out-requires
 copy_out-requires c = c.if-t-ne641.false
 
-pub returns-in-Done : goal.returns-in-Done
-returns-in-Done c = ran_as (boot_any _ _ _ _ (length-replicate {A = ℕ} 641 0) c.if-t-ne641.false) (ran_copied c.boot_table-booted.ensures c.in-Done.is c.copy_out.ensures)
+pub returns-in-Ok : goal.returns-in-Ok
+returns-in-Ok c = ran_as (boot_any _ _ _ _ (length-replicate {A = ℕ} 641 0) c.if-t-ne641.false) (ran_copied c.boot_table-booted.ensures c.in-Ok.is c.copy_out.ensures)
 
 pub returns-in_default : goal.returns-in_default
 returns-in_default c = ran_as (boot_any _ _ _ _ (length-replicate {A = ℕ} 641 0) c.if-t-ne641.false) (ran_kept c.boot_table-booted.ensures c.in_default.is)

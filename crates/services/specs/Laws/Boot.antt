@@ -17,6 +17,7 @@ use Rattle.tables.specs.Settle.{meets, apart, clear, open_bit, open_at, keep, se
 use Rattle.tables.specs.Write.{empty_table, put_header, put_structure, put_slot}
 use Rattle.rules.specs.Rules.{boot_k, boot_on, done, refused}
 use Rattle.rules.specs.Laws.Ran.{pass, fail}
+use Rattle.words.specs.declared.Refusal.TheVariants.{NotSound, WrongLine}
 
 module _ (base end : ℕ) where
   -- the four writes, one after the other
@@ -81,23 +82,23 @@ and_false true = refl
 and_false false = refl
 
 module _ (l : List ℕ) (base end : ℕ) (size : length l ≡ 641) where
-  pub boot_empty : end ≤ base → boot_on l base end ≡ refused 7
+  pub boot_empty : end ≤ base → boot_on l base end ≡ refused WrongLine
   unfolding boot_on
-  boot_empty h = pass 1 (eq-eqb (length l) 641 size) (fail 7 _ (rw (le-ltb base end (omega arith)) refl))
+  boot_empty h = pass NotSound (eq-eqb (length l) 641 size) (fail WrongLine _ (rw (le-ltb base end (omega arith)) refl))
 
-  pub boot_high : 2 ^ 27 ≤ end → boot_on l base end ≡ refused 7
+  pub boot_high : 2 ^ 27 ≤ end → boot_on l base end ≡ refused WrongLine
   unfolding boot_on
-  boot_high h = pass 1 (eq-eqb (length l) 641 size) (fail 7 _ (rw (le-ltb end (2 ^ 27) (omega arith)) (and_false (ltb base end && ltb base (2 ^ 27)))))
+  boot_high h = pass NotSound (eq-eqb (length l) 641 size) (fail WrongLine _ (rw (le-ltb end (2 ^ 27) (omega arith)) (and_false (ltb base end && ltb base (2 ^ 27)))))
 
   pub boot_done : base < end → end < 2 ^ 27 → boot_on l base end ≡ done 0 0 (settle (boot_k base end) (λ p r. none))
   unfolding boot_on
-  boot_done h g = pass 1 (eq-eqb (length l) 641 size) (pass 7 (rw (lt-ltb base end h, lt-ltb base (2 ^ 27) (omega arith), lt-ltb end (2 ^ 27) g) refl) refl)
+  boot_done h g = pass NotSound (eq-eqb (length l) 641 size) (pass WrongLine (rw (lt-ltb base end h, lt-ltb base (2 ^ 27) (omega arith), lt-ltb end (2 ^ 27) g) refl) refl)
 
 -- of the words that it finds boot looks at their number only
 pub boot_any : (a l : List ℕ) (base end : ℕ) → length a ≡ 641 → length l ≡ 641 → boot_on l base end ≡ boot_on a base end
 unfolding boot_on
 boot_any a l base end p q = rw (p, q) refl
 
-pub boot_length : (l : List ℕ) (base end : ℕ) → (length l ≡ 641 → ⊥) → boot_on l base end ≡ refused 1
+pub boot_length : (l : List ℕ) (base end : ℕ) → (length l ≡ 641 → ⊥) → boot_on l base end ≡ refused NotSound
 unfolding boot_on
-boot_length l base end h = fail 1 _ (ne_eqb (length l) 641 h)
+boot_length l base end h = fail NotSound _ (ne_eqb (length l) 641 h)

@@ -1,5 +1,5 @@
 -- Clear out, exit by exit: p's record and the branches of its children are the branch of p, with their number; each call has a present record fewer.
-use Rattle.std.specs.Prelude.{◌≡◌, refl, Bool, true, false, cond, not, ◌&&◌, ◌||◌, ◌⊎◌, List, ℕ, ◌+◌, ◌≤◌, ◌<◌, eqb}
+use Rattle.std.specs.Prelude.{◌≡◌, refl, Bool, true, false, cond, not, ◌&&◌, ◌||◌, ◌⊎◌, List, ℕ, ◌+◌, ◌≤◌, ◌<◌, eqb, Ok}
 use Rattle.std.proofs.Math.Path.{ap}
 use Rattle.std.proofs.Common.{sym, subst, ◌∙◌, inl, inr, ⊎_elim, arith, eq-eqb, ne_eqb, eqb-true}
 use Rattle.std.proofs.Math.Bool.{and-true, and-false}
@@ -32,8 +32,8 @@ use Rattle.blocks.specs.Laws.GiveExits.{child_now}
 use Rattle.services.specs.DeleteExits.{ungiven}
 use Rattle.services.specs.ClearExits.{branch_of, Cleared, Zero}
 use Rattle.settling.specs.Laws.Settled.{settled_is}
-use Rattle.tables.specs.declared.Outcome.TheVariants.{Done}
 use Rattle.rules.specs.Ran.{Ran}
+use Rattle.words.specs.declared.Refusal.TheVariants.{WrongPartition}
 
 -- two results are equal: the number, and every word
 pub cleared_one : {before : List ℕ} {p n m : ℕ} {a b : List ℕ} → Cleared before p n a → Cleared before p m b → (n ≡ m) × (a ≡ b)
@@ -300,7 +300,7 @@ module _ (l : List ℕ) {c : ℕ} (p : ℕ) (now : (view l).k.current ≡ c) (is
     unfolding clear_out
     clear_is =
         let number : n ≡ count 16 (branch_of (view l) p) = gone.number ∙ ap (λ (t : Table). count 16 (branch_of t p)) put.viewed in
-        pass 3 (child_now _ _ now is) (ap (λ (v : ℕ). done v 0 (remove (view l) p (branch_of (view l) p))) (sym number))
+        pass WrongPartition (child_now _ _ now is) (ap (λ (v : ℕ). done v 0 (remove (view l) p (branch_of (view l) p))) (sym number))
 
     -- what the caller gave to p is given to nobody, and the records of its branch are zero
     pub cleared_out : Is o (zero_records (ungiven (view l) (view l).k.current p) (branch_of (view l) p))
@@ -308,10 +308,10 @@ module _ (l : List ℕ) {c : ℕ} (p : ℕ) (now : (view l).k.current ≡ c) (is
 
   -- .. and the table is settled
   pub clear_exit_done : {m o r : List ℕ} {n : ℕ} → Is m (ungiven (view l) c p) → Cleared m p n o → r ≡ encode (settled (view o))
-      → Ran (clear_out (view l) p) l (Done n 0) r
+      → Ran (clear_out (view l) p) l (Ok (n, 0)) r
   unfolding clear_out
   clear_exit_done {m} {o} {n = n} was gone e =
       let put : Is m (ungiven (view l) (view l).k.current p) = subst (λ (c : ℕ). Is m (ungiven (view l) c p)) (sym now) was in
       let number : n ≡ count 16 (branch_of (view l) p) = gone.number ∙ ap (λ (t : Table). count 16 (branch_of t p)) put.viewed in
-      ran_done (pass 3 (child_now _ _ now is) (ap (λ (v : ℕ). done v 0 (remove (view l) p (branch_of (view l) p))) (sym number)))
+      ran_done (pass WrongPartition (child_now _ _ now is) (ap (λ (v : ℕ). done v 0 (remove (view l) p (branch_of (view l) p))) (sym number)))
       (sym (settled_is (is_then (λ (t : Table). zero_records t (branch_of t p)) put gone.is) e).encoded)

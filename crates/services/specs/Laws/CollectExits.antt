@@ -13,6 +13,7 @@ use Rattle.tables.specs.Search.{is_some}
 use Rattle.tables.specs.Laws.Search.{entry_some, structure_some}
 use Rattle.rules.specs.Rules.{done, own_or_child, vacant, collect}
 use Rattle.rules.specs.Laws.Ran.{pass}
+use Rattle.words.specs.declared.Refusal.TheVariants.{WrongPartition, NoEntry, InUse}
 
 -- a slot that was read is present as its bit says
 pub slot_there : {l : List ℕ} {p i : ℕ} {f : SlotFields} {b : Bool} → Seen l p i f → f.present ≡ b → not (not (is_some ((view l).k.slot p i))) ≡ b
@@ -45,4 +46,4 @@ not_root_first p j q z = rw q (go (eqb p 0) (eqb j 0) refl refl)
 pub collect_is : (l : List ℕ) (p j : ℕ) → own_or_child (view l).k p ≡ true → (ltb j 4 && is_some ((view l).k.area p (1 + j))) ≡ true → (vacant (view l).k p j && not (eqb p 0 && eqb j 0)) ≡ true
     → collect (view l) p j ≡ done 0 0 (settled (put_structure (view l) p j none))
 unfolding collect
-collect_is l p j own present empty = pass 3 own (pass 4 present (pass 15 empty refl))
+collect_is l p j own present empty = pass WrongPartition own (pass NoEntry present (pass InUse empty refl))

@@ -1,5 +1,5 @@
 -- Delete, exit by exit: what was given to p is struck slot by slot; done, the words are those of the rule.
-use Rattle.std.specs.Prelude.{◌≡◌, true, false, List, ℕ, ◌+◌, ◌≤◌, ◌<◌, eqb}
+use Rattle.std.specs.Prelude.{◌≡◌, true, false, List, ℕ, ◌+◌, ◌≤◌, ◌<◌, eqb, Ok, Err}
 use Rattle.std.proofs.Math.Path.{refl, subst}
 use Rattle.std.proofs.Common.{ap, sym, ◌∙◌, arith}
 use Rattle.std.proofs.Math.Bool.{not}
@@ -21,7 +21,6 @@ use Rattle.tables.specs.Write.{with_slot, put_slot, clear_record}
 use Rattle.writing.specs.Laws.Stored.{is_then}
 use Rattle.tables.specs.Search.{child, has_child}
 use Rattle.tables.specs.Settle.{settled}
-use Rattle.tables.specs.declared.Outcome.TheVariants.{Refused, Done}
 use Rattle.rules.specs.Rules.{done, ungive, delete}
 use Rattle.services.specs.Zeroed.{zero_records}
 use Rattle.services.specs.Laws.Zeroed.{zero_one}
@@ -30,6 +29,7 @@ use Rattle.rules.specs.Laws.Ran.{ran_refused, pass, fail, ran_done}
 use Rattle.blocks.specs.Laws.GiveExits.{child_now}
 use Rattle.services.specs.DeleteExits.{ungive_at, ungiven}
 use Rattle.settling.specs.Laws.Settled.{settled_is}
+use Rattle.words.specs.declared.Refusal.TheVariants.{WrongPartition, InUse}
 
 -- ── one slot ──
 -- the words stay where the entry does
@@ -119,14 +119,14 @@ module _ {t : Table} {c p n : ℕ} {l : List ℕ} (inv : Ungiving t c p n l) whe
 
 -- ── delete ──
 module _ {l : List ℕ} {c : ℕ} (p : ℕ) (now : (view l).k.current ≡ c) (is : child (view l).k c p ≡ true) where
-  pub delete_parent : has_child (view l).k p ≡ true → Ran (delete (view l) p) l (Refused 15) l
+  pub delete_parent : has_child (view l).k p ≡ true → Ran (delete (view l) p) l (Err InUse) l
   unfolding delete
-  delete_parent q = ran_refused (pass 3 (child_now _ _ now is) (fail 15 _ (ap not q)))
+  delete_parent q = ran_refused (pass WrongPartition (child_now _ _ now is) (fail InUse _ (ap not q)))
 
 module _ (l : List ℕ) {c : ℕ} (p : ℕ) (now : (view l).k.current ≡ c) (is : child (view l).k c p ≡ true) where
   pub delete_is : has_child (view l).k p ≡ false → delete (view l) p ≡ done 0 0 (settled (zero_records (ungiven (view l) (view l).k.current p) (λ q. eqb q p)))
   unfolding delete
-  delete_is q = pass 3 (child_now _ _ now is) (pass 15 (ap not q) refl)
+  delete_is q = pass WrongPartition (child_now _ _ now is) (pass InUse (ap not q) refl)
 
 -- what the caller gave to p is given to nobody, and the record of p is zero
 pub deleted : (l : List ℕ) {m o : List ℕ} {c : ℕ} (p : ℕ) → (view l).k.current ≡ c → Is m (ungiven (view l) c p) → Is o (clear_record (view m) p)
@@ -137,10 +137,10 @@ deleted l {m} {o} p now was clear =
 
 module _ {l : List ℕ} {c : ℕ} (p : ℕ) (now : (view l).k.current ≡ c) (is : child (view l).k c p ≡ true) where
   pub delete_exit_done : {m o r : List ℕ} → has_child (view l).k p ≡ false → Is m (ungiven (view l) c p) → Is o (clear_record (view m) p) → r ≡ encode (settled (view o))
-      → Ran (delete (view l) p) l (Done 0 0) r
+      → Ran (delete (view l) p) l (Ok (0, 0)) r
   unfolding delete
   delete_exit_done {m} {o} q was clear e =
       let put : Is m (ungiven (view l) (view l).k.current p) = subst (λ (c : ℕ). Is m (ungiven (view l) c p)) (sym now) was in
       let gone : Is o (zero_records (view m) (λ q. eqb q p)) = subst (Is o) (zero_one (view m) p) clear in
-      ran_done (pass 3 (child_now _ _ now is) (pass 15 (ap not q) refl))
+      ran_done (pass WrongPartition (child_now _ _ now is) (pass InUse (ap not q) refl))
       (sym (settled_is (is_then (λ (t : Table). zero_records t (λ q. eqb q p)) put gone) e).encoded)

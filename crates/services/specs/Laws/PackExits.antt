@@ -1,5 +1,5 @@
 -- Pack, exit by exit: one region renamed, then all; one move; one turn; and all turns leave the words of the rule.
-use Rattle.std.specs.Prelude.{◌≡◌, Bool, true, false, List, ℕ, ◌+◌, ◌≤◌, ◌<◌}
+use Rattle.std.specs.Prelude.{◌≡◌, Bool, true, false, List, ℕ, ◌+◌, ◌≤◌, ◌<◌, Ok}
 use Rattle.std.proofs.Math.Path.{refl, ap, subst}
 use Rattle.std.proofs.Common.{sym, ◌∙◌, arith}
 use Rattle.std.proofs.Math.Decide.{ℕ_discrete}
@@ -26,7 +26,6 @@ use Rattle.tables.specs.Write.{with_slot, put_region}
 use Rattle.tables.specs.Search.{lowest, is_some, free}
 use Rattle.tables.specs.Laws.Search.{lowest_some, lowest_none}
 use Rattle.tables.specs.Settle.{open_bit, open_at}
-use Rattle.tables.specs.declared.Outcome.TheVariants.{Done}
 use Rattle.sound.specs.Whole.{Right}
 use Rattle.sound.specs.Laws.Settled.{Settled, right_settled, settled_words}
 use Rattle.rules.specs.Pack.{usable, Packing, free_in, rename, move_entry, move_to, pack_slot, packing_of, packed}
@@ -36,6 +35,7 @@ use Rattle.rules.specs.Ran.{Ran}
 use Rattle.rules.specs.Laws.Ran.{ran_done, pass}
 use Rattle.services.specs.Laws.RegionExits.{region_none, region_some}
 use Rattle.services.specs.PackExits.{rename_at, renamed, moved_to, pack_table, CanPack, Turned}
+use Rattle.words.specs.declared.Refusal.TheVariants.{WrongPartition}
 
 -- ── one region ──
 module _ {l : List ℕ} {p : ℕ} {f : RegionsFields} {x : Region} (v : SeenRegions l p f) (i j r : ℕ) (h : r < 8) (is : x ≡ nth_region f r) where
@@ -315,9 +315,9 @@ pack_settled {t} h p = record { bits = λ q i. bit q i (ℕ_discrete q p); names
         ∙ (right_settled h).names q r i (sym (row_other t.region p (packed t p).region q r z) ∙ u)
 
 pub pack_end : {l m : List ℕ} {p n moved : ℕ} → Right (view l) → own_or_child (view l).k p ≡ true → Packs (view l) p n m moved → 32 ≤ n
-    → Ran (pack (view l) p) l (Done moved 0) m
+    → Ran (pack (view l) p) l (Ok (moved, 0)) m
 unfolding pack packed
 pack_end {l} {m} {p} {n} h own inv b =
     let z : n ≡ 32 = omega (arith, inv.within) in
     let is : Is m (pack_table (view l) p (packed (view l) p)) = subst (λ (k : ℕ). Is m (pack_table (view l) p (carried (pack_slot (usable (view l).k p)) (packing_of (view l) p 0) k))) z inv.is in
-    rw (inv.number, z) (ran_done (pass 3 own refl) (settled_words is (pack_settled h p)))
+    rw (inv.number, z) (ran_done (pass WrongPartition own refl) (settled_words is (pack_settled h p)))

@@ -16,9 +16,10 @@ use Rattle.tables.specs.Laws.Seen.{entry_there, see_region}
 use Rattle.tables.specs.Settle.{settle}
 use Rattle.sound.specs.Limit.{loaded_pieces}
 use Rattle.sound.specs.Clauses.{has}
-use Rattle.rules.specs.Rules.{Result, done, refused, check, own_or_child, elsewhere, load, region_word}
+use Rattle.rules.specs.Rules.{Effect, done, refused, check, own_or_child, elsewhere, load, region_word}
 use Rattle.rules.specs.Laws.Ran.{pass, fail, there}
 use Rattle.services.specs.RegionExits.{in_another}
+use Rattle.words.specs.declared.Refusal.TheVariants.{WrongPartition, NoEntry, NotOpen, WrongRegion, ManyPieces}
 
 -- ── the number of a region ──
 pub region_high : (r : ℕ) → 7 < r → ltb r 8 ≡ false
@@ -63,24 +64,24 @@ another_some t p s r q z e = rw (ne_eqb q r z, e) refl
 
 -- ── load: the checks before 16 pass ──
 module _ (board : Board) {l : List ℕ} {p s : ℕ} {f : SlotFields} (own : own_or_child (view l).k p ≡ true) (v : Seen l p s f) (q : f.present ≡ true) (o : f.opened ≡ true) (r : ℕ) where
-  from_16 : {x : Result} → check 16 (ltb r 8 && not (elsewhere (view l) p s r))
-      (check 19 (leb (loaded_pieces board (view l).k.slot (upd (view l).region p r (some s)) p) 8) (done 0 0 (settle (view l).k (upd (view l).region p r (some s))))) ≡ x
+  from_16 : {x : Effect} → check WrongRegion (ltb r 8 && not (elsewhere (view l) p s r))
+      (check ManyPieces (leb (loaded_pieces board (view l).k.slot (upd (view l).region p r (some s)) p) 8) (done 0 0 (settle (view l).k (upd (view l).region p r (some s))))) ≡ x
       → load board (view l) p s r ≡ x
   unfolding load
-  from_16 e = pass 3 own (there 4 _ _ (entry_there v q) (pass 5 (v.opened ∙ o) e))
+  from_16 e = pass WrongPartition own (there NoEntry _ _ (entry_there v q) (pass NotOpen (v.opened ∙ o) e))
 
-  pub load_high : 7 < r → load board (view l) p s r ≡ refused 16
-  load_high h = from_16 (fail 16 _ (rw (region_high r h) refl))
+  pub load_high : 7 < r → load board (view l) p s r ≡ refused WrongRegion
+  load_high h = from_16 (fail WrongRegion _ (rw (region_high r h) refl))
 
-  pub load_twice : r ≤ 7 → elsewhere (view l) p s r ≡ true → load board (view l) p s r ≡ refused 16
-  load_twice h e = from_16 (fail 16 _ (rw (region_low r h, e) refl))
+  pub load_twice : r ≤ 7 → elsewhere (view l) p s r ≡ true → load board (view l) p s r ≡ refused WrongRegion
+  load_twice h e = from_16 (fail WrongRegion _ (rw (region_low r h, e) refl))
 
   module _ (h : r ≤ 7) (e : elsewhere (view l) p s r ≡ false) {n : ℕ} (is : n ≡ loaded_pieces board (view l).k.slot (upd (view l).region p r (some s)) p) where
-    from_19 : {x : Result} → check 19 (leb n 8) (done 0 0 (settle (view l).k (upd (view l).region p r (some s)))) ≡ x → load board (view l) p s r ≡ x
-    from_19 q = from_16 (pass 16 (rw (region_low r h, e) refl) (rw (← is) q))
+    from_19 : {x : Effect} → check ManyPieces (leb n 8) (done 0 0 (settle (view l).k (upd (view l).region p r (some s)))) ≡ x → load board (view l) p s r ≡ x
+    from_19 q = from_16 (pass WrongRegion (rw (region_low r h, e) refl) (rw (← is) q))
 
-    pub load_many : 8 < n → load board (view l) p s r ≡ refused 19
-    load_many w = from_19 (fail 19 _ (lt-leb n 8 w))
+    pub load_many : 8 < n → load board (view l) p s r ≡ refused ManyPieces
+    load_many w = from_19 (fail ManyPieces _ (lt-leb n 8 w))
 
     pub load_exit_done : n ≤ 8 → load board (view l) p s r ≡ done 0 0 (settle (view l).k (upd (view l).region p r (some s)))
-    load_exit_done w = from_19 (pass 19 (le-leb n 8 w) refl)
+    load_exit_done w = from_19 (pass ManyPieces (le-leb n 8 w) refl)

@@ -1,5 +1,5 @@
 -- What is left to settle of a right table after each change of areas that a service makes.
-use Rattle.std.specs.Prelude.{◌≡◌, refl, Bool, true, false, not, ◌&&◌, List, eqb}
+use Rattle.std.specs.Prelude.{◌≡◌, refl, Bool, true, false, not, ◌&&◌, List, eqb, Ok}
 use Rattle.std.proofs.Common.{ap, sym, ◌∙◌, ⊎_elim, arith, lt-ltb}
 use Rattle.std.proofs.Math.Path.{subst}
 use Rattle.std.proofs.Math.Bool.{cond, and-false}
@@ -22,12 +22,11 @@ use Rattle.settling.specs.Areas.{off}
 use Rattle.settling.specs.Laws.Areas.{off_meets}
 use Rattle.settling.specs.Settled.{off_entry, Came, Gone}
 use Rattle.settling.specs.Laws.Settled.{settled_is}
-use Rattle.tables.specs.declared.Outcome.TheVariants.{Done}
 use Rattle.sound.specs.Whole.{Right}
 use Rattle.sound.specs.Laws.Tests.{and_says}
 use Rattle.sound.specs.Laws.Meets.{meets_not, clear_means}
 use Rattle.sound.specs.Laws.Settled.{entry_clear, right_settled}
-use Rattle.rules.specs.Rules.{Result, done, ungive, vacant}
+use Rattle.rules.specs.Rules.{Effect, done, ungive, vacant}
 use Rattle.rules.specs.Ran.{Ran}
 use Rattle.rules.specs.Laws.Ran.{ran_done}
 use Rattle.rules.specs.Laws.Removed.{records_was}
@@ -209,5 +208,5 @@ gone_branch {l} {p = p} gone h = gone_words gone.is (gone_zeroed h (branch_of (v
 
 -- ── settled ──
 -- what is done has the words of the table that the rule settles
-pub ran_settled : {l m r : List ℕ} {x : Result} {v w : ℕ} {t : Table} → x ≡ done v w (settled t) → Is m t → r ≡ encode (settled (view m)) → Ran x l (Done v w) r
+pub ran_settled : {l m r : List ℕ} {x : Effect} {v w : ℕ} {t : Table} → x ≡ done v w (settled t) → Is m t → r ≡ encode (settled (view m)) → Ran x l (Ok (v, w)) r
 ran_settled rule was e = ran_done rule (sym (settled_is was e).encoded)

@@ -5,6 +5,3 @@ use Rattle.settling.proofs.used_slots.Given as goal
 
 abbrev pub invariant-loop-j : goal.invariant-loop-j
 invariant-loop-j l = AbsentStructures (view l.t).k l.p.0 l.j
-
-abbrev pub decreases-loop-j : goal.decreases-loop-j
-decreases-loop-j l = l.j

@@ -1,20 +1,18 @@
 -- Slots that are closed because an area has come, or opened because areas have gone, lead to the settled table; and the words are seen as that table.
-use Rattle.std.specs.Prelude.{◌≡◌, false, cond, ◌&&◌}
+use Rattle.std.specs.Prelude.{◌≡◌, false, cond, ◌&&◌, Result, ℕ}
 use Rattle.std.proofs.Math.Path.{refl, ap, sym, subst}
 use Rattle.std.proofs.Common.{◌∙◌}
 use Rattle.std.proofs.Math.Bool.{Bool, true}
 use Rattle.std.proofs.lemmas.Bool.{false≢true}
 use mathlib.Core.List.{List}
-use Prim.Native.Nat.{ℕ, ◌+◌, ◌-◌, ◌*◌, ◌/◌, ◌%◌, ◌^◌, ◌≤◌, ◌<◌}
+use Prim.Native.Nat.{ℕ, ◌+◌, ◌-◌, ◌*◌, ◌/◌, ◌≤◌, ◌<◌}
 use Rattle.std.proofs.Math.Decide.{ℕ_discrete, dec_lt}
 use native.Mathlib.Omega.{arith}
 use Rattle.std.proofs.Math.ListN.{set}
 use Rattle.loops.specs.Loops.{names, rest}
-use Rattle.loops.specs.Laws.Left.{bit_not, bits_half, bits_few, none_from}
 use Rattle.words.specs.Kind.{writing}
 use Rattle.words.specs.Words.{slot}
 use Rattle.words.specs.Laws.Kinds.{slot_range}
-use Rattle.words.specs.declared.Written.{Written}
 use Rattle.words.specs.declared.slot_word.SlotFields.{SlotFields}
 use Rattle.words.specs.declared.structure_word.StructureFields.{StructureFields}
 use Rattle.tables.specs.State.{Opt, none, some, K, Table}
@@ -35,10 +33,12 @@ use Rattle.tables.specs.Laws.Store.{store_word}
 use Rattle.tables.specs.Settle.{open_bit, open_at, keep, settle, settled}
 use Rattle.tables.specs.Kept.{keep_regions}
 use Rattle.tables.specs.Laws.Kept.{keep_same, keep_some}
+use Rattle.settling.specs.declared.areas.Areas.{Areas}
 use Rattle.settling.specs.Areas.{AreasOf, off, clear_of}
 use Rattle.settling.specs.Laws.Areas.{clear_quick}
 use Rattle.settling.specs.Settled.{Housed, RegionsNamed, UsedEnd, off_entry, Came, Gone, settle_slot, settle_record, Fixed, FixedBut, Nearer, SlotDone, RecordDone}
 use Rattle.loops.specs.Laws.Every.{all_at}
+use Rattle.words.specs.declared.Refusal.{Refusal}
 
 -- ── two results are equal ──
 pub slot_done_one : {P : Table → Type 0} {p i : ℕ} {l m o : List ℕ} → SlotDone P p i l m → SlotDone P p i l o → m ≡ o
@@ -119,7 +119,7 @@ module _ {l : List ℕ} {p i : ℕ} {f : SlotFields} (c : Canon l) (v : Seen l p
       go false u = sym ((fit_view c).closed p i (entry_none v u)) ∙ v.opened ∙ q
 
   -- a present slot is written with its new open bit
-  bit_put : (o : Bool) {w : Written} → p < 16 → i < 32 → f.present ≡ true → w ≡ writing slot (with_opened f o) → Is (stored l (slot_place p i) w) (bit_to (view l) p i o)
+  bit_put : (o : Bool) {w : Result ℕ Refusal} → p < 16 → i < 32 → f.present ≡ true → w ≡ writing slot (with_opened f o) → Is (stored l (slot_place p i) w) (bit_to (view l) p i o)
   unfolding slot_word
   bit_put o {w} hp hi h u = rw words (subst (Is (set_to o)) same_table (slot_put (canon_is c) p i (some (entry_of f)) o hp hi fits))
     where
@@ -249,10 +249,10 @@ module _ {l : List ℕ} {p i a b : ℕ} {f : SlotFields} (c : Canon l) (h : Came
   stays_open q z = came_done (slot_stays p i c h.named (by_lines q ∙ z ∙ sym (v.opened ∙ q)))
 
   -- it is written as closed, and the regions follow
-  pub close_canon : {m : List ℕ} {w : Written} → p < 16 → i < 32 → f.opened ≡ true → w ≡ writing slot (with_opened f false) → m ≡ stored l (slot_place p i) w → Canon m
+  pub close_canon : {m : List ℕ} {w : Result ℕ Refusal} → p < 16 → i < 32 → f.opened ≡ true → w ≡ writing slot (with_opened f false) → m ≡ stored l (slot_place p i) w → Canon m
   close_canon hp hi q u e = rw e (is_canon (bit_put c v false hp hi (open_present c v q) u))
 
-  pub closes : {m o : List ℕ} {w : Written} → p < 16 → i < 32 → f.opened ≡ true → off a b f.start.0 f.end.0 ≡ false → w ≡ writing slot (with_opened f false)
+  pub closes : {m o : List ℕ} {w : Result ℕ Refusal} → p < 16 → i < 32 → f.opened ≡ true → off a b f.start.0 f.end.0 ≡ false → w ≡ writing slot (with_opened f false)
       → m ≡ stored l (slot_place p i) w → Is o (keep_regions (view m) p) → SlotDone (Came a b) p i l o
   closes {m} {o} hp hi q z u e kept = came_done (subst (Is o) (ap (λ (t : Table). keep_regions t p) seen) kept)
     where
@@ -290,13 +290,13 @@ module _ {l : List ℕ} {p i : ℕ} {f : SlotFields} (c : Canon l) (h : Gone (vi
   pub open_stays : f.opened ≡ true → SlotDone Gone p i l l
   open_stays q = gone_done (slot_stays p i c h.named (h.stays p i (v.opened ∙ q) ∙ sym (v.opened ∙ q)))
 
-  pub opens : {m : List ℕ} {n : ℕ} {s e : List ℕ} {o : Bool} {w : Written} → p < 16 → i < 32 → AreasOf (view l).k n s e → f.present ≡ true
-      → o ≡ clear_of n s e f.start.0 f.end.0 → w ≡ writing slot (with_opened f o) → m ≡ stored l (slot_place p i) w → SlotDone Gone p i l m
+  pub opens : {m : List ℕ} {g : Areas} {o : Bool} {w : Result ℕ Refusal} → p < 16 → i < 32 → AreasOf (view l).k g → f.present ≡ true
+      → o ≡ clear_of g f.start.0 f.end.0 → w ≡ writing slot (with_opened f o) → m ≡ stored l (slot_place p i) w → SlotDone Gone p i l m
   unfolding open_at open_bit
-  opens {m} {o = o} {w} hp hi g q z u y = gone_done (rw y (subst (Is (stored l (slot_place p i) w)) (ap (bit_to (view l) p i) bit ∙ only_bit h p i) (bit_put c v o hp hi q u)))
+  opens {m} {o = o} {w} hp hi a q z u y = gone_done (rw y (subst (Is (stored l (slot_place p i) w)) (ap (bit_to (view l) p i) bit ∙ only_bit h p i) (bit_put c v o hp hi q u)))
     where
       bit : o ≡ open_at (view l).k p i
-      bit = z ∙ clear_quick (view l).k g f.start.0 f.end.0 ∙ rw (entry_there v q) refl
+      bit = z ∙ clear_quick (view l).k a f.start.0 f.end.0 ∙ rw (entry_there v q) refl
 
 -- ── steps ──
 module _ {P : Table → Type 0} where
@@ -310,8 +310,8 @@ module _ {P : Table → Type 0} where
   unfolding settle
   near_k a = ap (λ (t : Table). t.k) a.same
 
-  pub near_areas : {l m : List ℕ} {n : ℕ} {s e : List ℕ} → Nearer P l m → AreasOf (view l).k n s e → AreasOf (view m).k n s e
-  near_areas {n = n} {s} {e} a = subst (λ (k : K). AreasOf k n s e) (sym (near_k a))
+  pub near_areas : {l m : List ℕ} {g : Areas} → Nearer P l m → AreasOf (view l).k g → AreasOf (view m).k g
+  near_areas {g = g} a = subst (λ (k : K). AreasOf k g) (sym (near_k a))
 
 -- ── the slots of p ──
 -- the record of q is as it was
@@ -388,12 +388,20 @@ module _ {P : Table → Type 0} where
   pub settled_all_start : {l : List ℕ} → Canon l → P (view l) → AllTo P l 0 l
   settled_all_start c h = record { near = near_start c h; fixed = λ p j b. absurd (omega arith) }
 
-  pub settled_all_more : {l m o : List ℕ} {n : ℕ} → AllTo P l n m → RecordDone P n m o → AllTo P l (n + 1) o
-  settled_all_more {o = o} {n} inv d = record { near = near_on inv.near d.near; fixed = λ p j c. go p j c (ℕ_discrete p n) }
+  -- one more: what was fixed is fixed still, and n is
+  more : {l m o : List ℕ} {n : ℕ} → AllTo P l n m → Nearer P m o → ((j : ℕ) → Fixed o n j) → AllTo P l (n + 1) o
+  more {o = o} {n} inv near own = record { near = near_on inv.near near; fixed = λ p j c. go p j c (ℕ_discrete p n) }
     where
       go : (p j : ℕ) → p < n + 1 → Dec (p ≡ n) → Fixed o p j
-      go p j c (yes z) = rw z (d.fixed j)
-      go p j c (no z) = d.near.keeps p j (inv.fixed p j (omega arith))
+      go p j c (yes z) = rw z (own j)
+      go p j c (no z) = near.keeps p j (inv.fixed p j (omega arith))
+
+  pub settled_all_more : {l m o : List ℕ} {n : ℕ} → AllTo P l n m → RecordDone P n m o → AllTo P l (n + 1) o
+  settled_all_more inv d = more inv d.near d.fixed
+
+  -- whom a mask does not name is fixed from the beginning
+  pub settled_all_pass : {mask n : ℕ} {l m : List ℕ} → FixedBut mask l → AllTo P l n m → n < 16 → names mask n ≡ false → AllTo P l (n + 1) m
+  settled_all_pass {n = n} but inv b z = more inv (near_start inv.near.canon inv.near.still) (λ j. inv.near.keeps n j (but.at n j b z))
 
   -- the table is its own settled one, and so the one that was to be settled
   pub settled_all_end : {l m : List ℕ} {n : ℕ} → AllTo P l n m → RegionsNamed (view m) → 16 ≤ n → m ≡ encode (settled (view l))
@@ -413,14 +421,6 @@ module _ {P : Table → Type 0} where
         region = λ p r. keep_same (open_at (view m).k p) ((view m).region p r) (λ i u. bit p i (dec_lt p n) ∙ names.at p r i u) x;
       }
 
--- ── all whom a mask names ──
--- At p, with `rest` left of the mask, the bits of so many are fixed.
-pub record MaskedTo (P : Table → Type 0) (mask : ℕ) (l : List ℕ) (p rest : ℕ) (m : List ℕ) : Type 0 where
-  pub within : p ≤ 16
-  pub left : rest ≡ mask / 2 ^ p
-  pub near : Nearer P l m
-  pub fixed : (q i : ℕ) → q < p → Fixed m q i
-
 -- a mask with all sixteen bits leaves nobody out
 all_set : (q : ℕ) → q < 16 → names 0xffff q ≡ true
 unfolding names rest
@@ -428,53 +428,6 @@ all_set = all_at 16 (names 0xffff) refl
 
 pub fixed_all : (l : List ℕ) → FixedBut 0xffff l
 fixed_all l = record { small = omega arith; at = λ p i b z. absurd (false≢true (sym z ∙ all_set p b)) }
-
-module _ {P : Table → Type 0} {mask : ℕ} {l : List ℕ} where
-  pub masked_start : Canon l → P (view l) → MaskedTo P mask l 0 mask l
-  masked_start c h = record { within = omega arith; left = omega arith; near = near_start c h; fixed = λ q i b. absurd (omega arith) }
-
-  module _ {p rest : ℕ} {m : List ℕ} (but : FixedBut mask l) (inv : MaskedTo P mask l p rest m) where
-    pub masked_small : 0 < rest → p < 16
-    masked_small h = bits_few mask p inv.left but.small inv.within (λ z. omega arith)
-
-    -- one more: what was fixed is fixed still, and p is
-    more : {o : List ℕ} → p < 16 → Nearer P m o → ((i : ℕ) → Fixed o p i) → MaskedTo P mask l (p + 1) (rest / 2) o
-    more {o} b near own = record {
-      within = omega arith;
-      left = bits_half mask p inv.left;
-      near = near_on inv.near near;
-      fixed = λ q i c. go q i c (ℕ_discrete q p);
-    }
-      where
-        go : (q i : ℕ) → q < p + 1 → Dec (q ≡ p) → Fixed o q i
-        go q i c (yes z) = rw z (own i)
-        go q i c (no z) = near.keeps q i (inv.fixed q i (omega arith))
-
-    pub masked_done : {o : List ℕ} → 0 < rest → RecordDone P p m o → MaskedTo P mask l (p + 1) (rest / 2) o
-    masked_done h d = more (masked_small h) d.near d.fixed
-
-    -- who is not named is fixed from the beginning
-    pub masked_pass : 0 < rest → (rest % 2 ≡ 1 → ⊥) → MaskedTo P mask l (p + 1) (rest / 2) m
-    masked_pass h z = more (masked_small h) (near_start inv.near.canon inv.near.still) (λ i. inv.near.keeps p i (but.at p i (masked_small h) (bit_not mask p inv.left z)))
-
-    -- nobody is left: the table is its own settled one, and so the one that was to be settled
-    pub masked_end : RegionsNamed (view m) → rest ≡ 0 → m ≡ encode (settled (view l))
-    unfolding settle
-    masked_end named nobody = sym inv.near.canon.same ∙ ap encode (sym own ∙ inv.near.same)
-      where
-        bit : (q i : ℕ) → Dec (q < p) → Dec (q < 16) → Fixed m q i
-        bit q i (yes a) _ = inv.fixed q i a
-        bit q i (no a) (yes b) = inv.near.keeps q i (but.at q i b (none_from mask p (sym nobody ∙ inv.left) q (omega arith)))
-        bit q i (no a) (no b) =
-            no_entry inv.near.canon q i
-            (never_some ((view m).k.slot q i) (λ e u. let z = ((fit_view inv.near.canon).slot q i e u).0 in omega arith))
-
-        own : settled (view m) ≡ view m
-        own = λ x. record {
-          k = (view m).k;
-          opened = λ q i. bit q i (dec_lt q p) (dec_lt q 16) x;
-          region = λ q r. keep_same (open_at (view m).k q) ((view m).region q r) (λ i u. bit q i (dec_lt q p) (dec_lt q 16) ∙ named.at q r i u) x;
-        }
 
 -- ── what settle leaves is seen as the settled table ──
 fit_settled : (t : Table) → Fit t → Fit (settled t)

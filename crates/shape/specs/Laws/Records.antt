@@ -11,7 +11,7 @@ use Rattle.loops.specs.Laws.Scan.{seek_start, seek_hit, seek_on, seek_end}
 use Rattle.words.specs.Kind.{fields_in, zeroed}
 use Rattle.words.specs.Words.{header, structure, regions}
 use Rattle.words.specs.declared.regions_word.Region.{Region}
-use Rattle.regionwords.specs.Later.{later_regions}
+use Rattle.words.specs.Later.{later_regions}
 use Rattle.tables.specs.State.{K}
 use Rattle.tables.specs.View.{area_word_at, slot_word_at, nth_region, view, regions_word_at, regions_at}
 use Rattle.tables.specs.Search.{is_some}

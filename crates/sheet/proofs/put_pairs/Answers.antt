@@ -8,19 +8,19 @@ use native.Mathlib.Omega.{arith}
 use Rattle.sheet.proofs.put_pairs.Goals as goal
 
 pub loop-p-init : goal.loop-p-init
-loop-p-init c = (omega arith, sheet_start (sheet_of (view c.args.t.now)) c.requires.1)
+loop-p-init c = sheet_start (sheet_of (view c.args.t.now)) c.requires.1
 
 pub mask_of-children-requires : goal.mask_of-children-requires
 mask_of-children-requires c = (omega arith, c.requires.0.size)
 
 pub put_pair-requires : goal.put_pair-requires
-put_pair-requires c = (omega arith, children_few _ _ (c.mask_of-children.ensures ∙ c.requires.0.at _ (omega arith)), c.loop-p.invariant.1.size, c.requires.2)
+put_pair-requires c = (omega arith, children_few _ _ (c.mask_of-children.ensures ∙ c.requires.0.at _ (omega arith)), c.loop-p.invariant.size, c.requires.2)
 
 pub loop-p-preserved : goal.loop-p-preserved
-loop-p-preserved c = (omega arith, sheet_on (sheet_of (view c.args.t.now)) _ c.loop-p.invariant.1 (omega arith) (pair_sheet _ _ (omega arith) _ (with_children c.requires.2 _ (c.mask_of-children.ensures ∙ c.requires.0.at _ (omega arith))) refl c.put_pair.ensures))
+loop-p-preserved c = sheet_on (sheet_of (view c.args.t.now)) _ c.loop-p.invariant (omega arith) (pair_sheet _ _ (omega arith) _ (with_children c.requires.2 _ (c.mask_of-children.ensures ∙ c.requires.0.at _ (omega arith))) refl c.put_pair.ensures)
 
 pub shape_of-sheet : goal.shape_of-sheet
-shape_of-sheet c = c.loop-p.invariant.1.size ∙ sym c.requires.1
+shape_of-sheet c = c.loop-p.invariant.size ∙ sym c.requires.1
 
 pub returns : goal.returns
-returns c = sheet_end (sheet_of (view c.args.t.now)) c.loop-p.invariant.1 (omega arith)
+returns c = sheet_end (sheet_of (view c.args.t.now)) c.loop-p.invariant (omega arith)

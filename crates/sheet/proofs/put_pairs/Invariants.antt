@@ -1,5 +1,5 @@
 -- src/lib.rt, put_pairs: sheet.new ≡ sheet_bytes (sheet_of (view t.now))
-use Prim.Native.Nat.{◌*◌, ◌-◌, ◌≤◌}
+use Prim.Native.Nat.{◌*◌}
 use Rattle.loops.specs.Loops.{Filling}
 use Rattle.tables.specs.View.{view}
 use Rattle.memory.specs.Bytes.{byte_of}
@@ -7,7 +7,4 @@ use Rattle.sheetrules.specs.Sheet.{sheet_of}
 use Rattle.sheet.proofs.put_pairs.Given as goal
 
 abbrev pub invariant-loop-p : goal.invariant-loop-p
-invariant-loop-p l = (l.p ≤ 16) × Filling (λ k x. byte_of (sheet_of (view l.t)) k) l.initial.sheet 256 (16 * l.p) l.sheet
-
-abbrev pub decreases-loop-p : goal.decreases-loop-p
-decreases-loop-p l = 16 - l.p
+invariant-loop-p l = Filling (λ k x. byte_of (sheet_of (view l.t)) k) l.initial.sheet 256 (16 * l.p) l.sheet

@@ -1,5 +1,5 @@
 -- The pairs of some partitions, put over the bytes of a sheet: of one, of those in a mask, of those who are absent, of those who stand above one.
-use Rattle.std.specs.Prelude.{◌≡◌, Bool, List, ℕ, ◌+◌, ◌-◌, ◌*◌, ◌/◌, ◌%◌, ◌^◌, ◌≤◌, ◌<◌, eqb, length, ◌||◌, ◌⊎◌, suc}
+use Rattle.std.specs.Prelude.{◌≡◌, Bool, List, ℕ, ◌+◌, ◌*◌, ◌/◌, ◌%◌, ◌^◌, ◌≤◌, ◌<◌, eqb, length, ◌||◌, ◌⊎◌, suc}
 use Rattle.std.proofs.Math.Path.{refl}
 use Rattle.std.proofs.Common.{ap, sym, ◌∙◌, arith, eq-eqb, ne_eqb, inl, inr}
 use Rattle.std.proofs.Math.Bool.{true, false, cond}
@@ -126,11 +126,11 @@ module _ {m : ℕ} {t : Table} {s : List ℕ} where
         go n (yes d) = inv.filled.below n d
         go n (no d) = inv.filled.above n (omega arith) ∙ rw (none_from m p (sym z ∙ inv.bits) (n / 16) (omega arith)) refl
 
--- ── the walk from p up: at q, with so many turns left, the pairs of all below it are put ──
-pub record GoingUp (t : Table) (p : ℕ) (s : List ℕ) (q left : ℕ) (u : List ℕ) : Type 0 where
+-- ── the walk from p up: at q, after so many of the 16 turns, the pairs of all below it are put ──
+pub record GoingUp (t : Table) (p : ℕ) (s : List ℕ) (q turn : ℕ) (u : List ℕ) : Type 0 where
   pub small : q < 16
   pub steps : ℕ
-  pub turns : left ≡ suc steps
+  pub turns : turn + suc steps ≡ 16
   pub climbs : Reaches t.k.parent steps q
   pub way : Above t.k.parent q p
   pub size : length u ≡ 256
@@ -138,7 +138,7 @@ pub record GoingUp (t : Table) (p : ℕ) (s : List ℕ) (q left : ℕ) (u : List
   pub put : (n : ℕ) → n < 256 → above t.k p (n / 16) ≡ true → (get_or u n 0 ≡ byte_of (sheet_of t) n) ⊎ Above t.k.parent (n / 16) q
 
 module _ {t : Table} (h : Core t.k) {p : ℕ} (b : p < 16) {s : List ℕ} where
-  pub rise_start : length s ≡ 256 → GoingUp t p s p 16 s
+  pub rise_start : length s ≡ 256 → GoingUp t p s p 0 s
   rise_start size = record {
     small = b;
     steps = 15;
@@ -150,7 +150,7 @@ module _ {t : Table} (h : Core t.k) {p : ℕ} (b : p < 16) {s : List ℕ} where
     put = λ n _ a. inr ((above_means h p (n / 16) b).0 a);
   }
 
-  module _ {q left : ℕ} {u v : List ℕ} (inv : GoingUp t p s q left u) (put : v ≡ pair_put u q (masks_word t q) (lines_word t q)) where
+  module _ {q turn : ℕ} {u v : List ℕ} (inv : GoingUp t p s q turn u) (put : v ≡ pair_put u q (masks_word t q) (lines_word t q)) where
     pub now_size : length v ≡ 256
     now_size = pair_size t q inv.small u inv.size put
 
@@ -178,7 +178,7 @@ module _ {t : Table} (h : Core t.k) {p : ℕ} (b : p < 16) {s : List ℕ} where
         go n c true x = last n (now_put n c x)
         go n c false x = now_stay n c x
 
-    pub rise_on : (q ≡ 0 → ⊥) → {r : ℕ} → t.k.parent q ≡ r → GoingUp t p s r (left - 1) v
+    pub rise_on : (q ≡ 0 → ⊥) → {r : ℕ} → t.k.parent q ≡ r → GoingUp t p s r (turn + 1) v
     rise_on z {r} e =
         let (m, d, c) = step inv.climbs in
         record {

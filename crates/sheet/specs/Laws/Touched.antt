@@ -4,10 +4,11 @@ use Rattle.std.proofs.Common.{subst, ◌∙◌, true≢false, inl, inr, arith}
 use Rattle.std.specs.Prelude.{Bool, false, cond, ◌||◌, List, ℕ, ◌+◌, ◌*◌, ◌/◌, ◌%◌, ◌^◌, ◌<◌, eqb, get_or}
 use Rattle.std.proofs.Math.Bool.{true, false≢true}
 use Rattle.std.proofs.Math.Decide.{ℕ_discrete}
-use borrow.Author.Tests.{eq-eqb, ne_eqb}
+use borrow.Author.Tests.{eq-eqb}
 use Rattle.loops.specs.Laws.Rewrite.{length_tab, tab_at, tab_is, tab_ext}
 use Rattle.words.specs.Kind.{fields_in}
 use Rattle.words.specs.Laws.Kind.{fields_back}
+use Rattle.words.specs.Fields.{SmallCall}
 use Rattle.words.specs.Laws.Fields.{masks_few, call_small}
 use Rattle.words.specs.Words.{call, masks}
 use Rattle.words.specs.Laws.Kinds.{masks_lawful}
@@ -19,7 +20,7 @@ use Rattle.tables.specs.State.{Opt, none, some, Entry, given_to, Area, K, Table}
 use Rattle.tables.specs.Update.{upd}
 use Rattle.tables.specs.Laws.Update.{upd_same, upd_other, row_other}
 use Rattle.tables.specs.View.{view}
-use Rattle.tables.specs.Search.{is_some, is_none, lowest, present, absent, absent_child, child, given_in}
+use Rattle.tables.specs.Search.{is_some, is_none, present, absent, child, given_in}
 use Rattle.tables.specs.Write.{with_slot, with_current}
 use Rattle.tables.specs.Settle.{open_bit, open_at, settle}
 use Rattle.tables.specs.Fitting.{Words}
@@ -29,7 +30,10 @@ use Rattle.sound.specs.Sound.{Present}
 use Rattle.sound.specs.Core.{Core}
 use Rattle.sound.specs.Laws.Settled.{right_settled}
 use Rattle.sound.specs.Whole.{Right}
-use Rattle.rules.specs.Rules.{done, create_k, remove_k, serve, call_on}
+use Rattle.rules.specs.declared.Service.{Service}
+use Rattle.rules.specs.Services.{code_of}
+use Rattle.rules.specs.Rules.{done, create_k, remove_k, uses, serve, call_on}
+use Rattle.rules.specs.Laws.Calls.{other_than}
 use Rattle.rules.specs.Laws.Each.{done_each}
 use Rattle.isolation.specs.Ladders.{OwnOrChild}
 use Rattle.isolation.specs.Laws.Remove.{Goes}
@@ -274,7 +278,7 @@ module _ (b : Board) (l : List ℕ) (w : ℕ) (small : Words l) (named : Named (
   call_put = follows.bytes
 
 -- ── the exits of the code ──
-abbrev number_in : Whose → ℕ
+abbrev pub number_in : Whose → ℕ
 number_in Nobody = 0
 number_in (One p) = p.0
 number_in (Up p) = p.0
@@ -283,54 +287,39 @@ number_in Gone = 0
 named_by : {x : Whose} → number_in x < 16 → Named x
 named_by {x} h = record { one = λ q e. omega (arith, ap number_in e); up = λ q e. omega (arith, ap number_in e) }
 
--- touched_of_caller: p is the child, whom the slot is given to, or the caller
-module _ (n : ℕ) (k : K) (s : ℕ) (p : Partition) where
-  pub caller_creates : n ≡ 1 → p.0 ≡ next_in (lowest 16 (absent_child k)) → p.0 < 16 → (Up p ≡ touched_of_caller n k s) × Named (Up p)
-  unfolding touched_of_caller
-  caller_creates z e h = (rw (eq-eqb n 1 z) (ap (λ (m : ℕ). Up (record { 0 = m })) e), named_by h)
-
-  pub caller_cuts : k.current ≡ p.0 → p.0 < 16 → (n ≡ 1 → ⊥) → (n ≡ 6 → ⊥) → {x : Bool} → x ≡ eqb n 7 || eqb n 8 → x ≡ true → (One p ≡ touched_of_caller n k s) × Named (One p)
-  unfolding touched_of_caller
-  caller_cuts c h a b e z = (rw (ne_eqb n 1 a, ne_eqb n 6 b, sym e ∙ z) (ap (λ (m : ℕ). One (record { 0 = m })) (sym c)), named_by h)
-
-  pub caller_takes : {c : ℕ} → (n ≡ 1 → ⊥) → n ≡ 6 → k.current ≡ c → p.0 ≡ given_in (k.slot c s) → p.0 < 16 → (One p ≡ touched_of_caller n k s) × Named (One p)
-  unfolding touched_of_caller
-  caller_takes a z c e h = (rw (ne_eqb n 1 a, eq-eqb n 6 z) (ap (λ (m : ℕ). One (record { 0 = m })) (e ∙ ap (λ (c : ℕ). given_in (k.slot c s)) (sym c))), named_by h)
-
-pub caller_else : (n : ℕ) (k : K) (s : ℕ) → (n ≡ 1 → ⊥) → (n ≡ 6 → ⊥) → {x : Bool} → x ≡ eqb n 7 || eqb n 8 → x ≡ false → (Nobody ≡ touched_of_caller n k s) × Named Nobody
-unfolding touched_of_caller
-caller_else n k s a b e z = (rw (ne_eqb n 1 a, ne_eqb n 6 b, sym e ∙ z) refl, named_by (omega arith))
-
 -- touched: f are the fields of the word
-pub told_slot : (w : ℕ) {f : CallFields} → f ≡ fields_in call w → f.slot.0 < 32
-told_slot w is = subst (λ (f : CallFields). f.slot.0 < 32) (sym is) (call_small w).slot
+module _ (w : ℕ) {f : CallFields} (is : f ≡ fields_in call w) where
+  told_small : SmallCall f
+  told_small = subst SmallCall (sym is) (call_small w)
 
-module _ (k : K) (w : ℕ) {f : CallFields} (is : f ≡ fields_in call w) where
-  told : {x : Whose} → x ≡ touched_by f.service k f → x ≡ touched k w
-  told q = q ∙ ap (λ (f : CallFields). touched_by f.service k f) is
+  pub told_slot : f.slot.0 < 32
+  told_slot = told_small.slot
 
-  small_p : f.partition.0 < 16
-  small_p = subst (λ (f : CallFields). f.partition.0 < 16) (sym is) (call_small w).partition
+  pub told_partition : f.partition.0 < 16
+  told_partition = told_small.partition
 
-  -- whether the service is one of two
-  module _ {a : Bool} (q : a ≡ eqb f.service 2 || eqb f.service 14) where
-    pub told_gone : a ≡ true → (Gone ≡ touched k w) × Named Gone
-    unfolding touched_by
-    told_gone z = (told (rw (sym q ∙ z) refl), named_by (omega arith))
+  module _ (k : K) where
+    told : {x : Whose} → x ≡ touched_by f.service k f → x ≡ touched k w
+    told q = q ∙ ap (λ (f : CallFields). touched_by f.service k f) is
 
-    module _ (u : a ≡ false) {b : Bool} (r : b ≡ eqb f.service 3 || eqb f.service 4) where
-      pub told_up : b ≡ true → (Up f.partition ≡ touched k w) × Named (Up f.partition)
-      unfolding touched_by
-      told_up z = (told (rw (sym q ∙ u, sym r ∙ z) refl), named_by small_p)
+    -- the number is no service's
+    pub told_none : uses f.service ≡ none → (Nobody ≡ touched k w) × Named Nobody
+    unfolding touched_by touched_of_caller uses
+    told_none q = (told (rw (no 1 refl, no 2 refl, no 3 refl, no 4 refl, no 5 refl, no 6 refl, no 7 refl, no 8 refl, no 14 refl, no 15 refl) refl), named_by (omega arith))
+      where
+        no : (i : ℕ) → is_some (uses i) ≡ true → eqb f.service i ≡ false
+        no i = other_than f.service i q
 
-      module _ (v : b ≡ false) {c : Bool} (s : c ≡ eqb f.service 5 || eqb f.service 15) where
-        pub told_one : c ≡ true → (One f.partition ≡ touched k w) × Named (One f.partition)
-        unfolding touched_by
-        told_one z = (told (rw (sym q ∙ u, sym r ∙ v, sym s ∙ z) refl), named_by small_p)
+    -- it is that of s, which is r
+    pub told_at : {s : Service} (r : Service) → code_of s ≡ f.service → s ≡ r → {x : Whose} → x ≡ touched_by (code_of r) k f → number_in x < 16 → (x ≡ touched k w) × Named x
+    told_at r q e z h = (told (z ∙ ap (λ (n : ℕ). touched_by n k f) (sym (ap code_of e) ∙ q)), named_by h)
 
-        pub told_else : {x : Whose} → c ≡ false → (x ≡ touched_of_caller f.service k f.slot.0) × Named x → (x ≡ touched k w) × Named x
-        unfolding touched_by
-        told_else z (e, named) = (told (rw (sym q ∙ u, sym r ∙ v, sym s ∙ z) e), named)
+-- p is so numbered
+pub up_of : {p : Partition} {n : ℕ} → p.0 ≡ n → Up p ≡ Up (record { 0 = n })
+up_of e = ap (λ (m : ℕ). Up (record { 0 = m })) e
+
+pub one_of : {p : Partition} {n : ℕ} → p.0 ≡ n → One p ≡ One (record { 0 = n })
+one_of e = ap (λ (m : ℕ). One (record { 0 = m })) e
 
 -- the two words of p are put afresh
 pub few_again : (w : ℕ) {f : MasksFields} → f ≡ fields_in masks w → f.children < 2 ^ 16

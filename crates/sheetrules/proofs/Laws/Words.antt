@@ -1,5 +1,5 @@
 -- The fields of the sheet fit their bits, so they are read back from its words.
-use Rattle.std.specs.Prelude.{◌≡◌, Bool, ℕ, ◌^◌, ◌≤◌, ◌<◌}
+use Rattle.std.specs.Prelude.{◌≡◌, Bool, ℕ, ◌^◌, ◌≤◌, ◌<◌, Ok}
 use Rattle.std.proofs.Math.Path.{refl}
 use Rattle.std.proofs.Math.Bool.{true, false, cond}
 use native.Mathlib.Omega.{arith}
@@ -10,8 +10,6 @@ use Rattle.words.specs.Kind.{word_of, reading, InRange}
 use Rattle.words.specs.Laws.Kind.{word_small}
 use Rattle.words.specs.Words.{masks, lines}
 use Rattle.words.specs.Laws.Kinds.{masks_range, lines_range, masks_lawful, lines_lawful, masks_read, lines_read}
-use Rattle.words.specs.declared.masks_word.MasksRead.TheVariants.{Fields as MasksAre}
-use Rattle.words.specs.declared.lines_word.LinesRead.TheVariants.{Fields as LinesAre}
 use Rattle.tables.specs.State.{Table}
 use Rattle.tables.specs.Search.{present, child}
 use Rattle.sound.specs.Whole.{Right}
@@ -57,11 +55,11 @@ module _ {t : Table} (h : Right t) (p : ℕ) where
       go false = omega arith
 
   -- ── what is read of a present partition ──
-  pub masks_back : present t.k p ≡ true → reading masks (masks_word t p) ≡ MasksAre (masks_of t.k p)
+  pub masks_back : present t.k p ≡ true → reading masks (masks_word t p) ≡ Ok (masks_of t.k p)
   unfolding masks_word
   masks_back q = rw q (masks_read (masks_of t.k p) masks_in)
 
-  pub lines_back : present t.k p ≡ true → reading lines (lines_word t p) ≡ LinesAre (lines_for t p)
+  pub lines_back : present t.k p ≡ true → reading lines (lines_word t p) ≡ Ok (lines_for t p)
   unfolding lines_word
   lines_back q = rw q (lines_read (lines_for t p) lines_in_law)
 

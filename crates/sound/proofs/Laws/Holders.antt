@@ -1,5 +1,5 @@
 -- The exits of the descent to the deepest holder, and of holders; there are at most 16; and two results are equal.
-use Rattle.std.specs.Prelude.{◌≡◌, Bool, true, false, List, length}
+use Rattle.std.specs.Prelude.{◌≡◌, Bool, true, false, List, length, Ok, Err}
 use Rattle.std.proofs.Math.Path.{refl}
 use Rattle.std.proofs.Common.{ap, ap₂, sym, subst, ◌∙◌}
 use borrow.Author.Tests.{eq-eqb, ne_eqb, lt-leb, le-leb, le-ltb, lt-ltb}
@@ -12,11 +12,11 @@ use Rattle.tables.specs.View.{view, entry_in}
 use Rattle.tables.specs.Search.{lowest, holds_at}
 use Rattle.tables.specs.WayUp.{way_up, digits, way_in, names_over, WayWritten}
 use Rattle.tables.specs.Laws.WayUp.{way_few, way_told}
-use Rattle.tables.specs.declared.Outcome.{Outcome}
-use Rattle.tables.specs.declared.Outcome.TheVariants.{Done, Refused}
 use Rattle.sound.specs.Clauses.{sound}
 use Rattle.sound.proofs.Laws.List.{sound_means}
 use Rattle.sound.specs.Holders.{receiver, given_by, heir, deepest, trail, holders_of, looks_of, in_memory, holders_outcome, holders_bytes, Writes, HoldersListed}
+use Rattle.tables.specs.Outcomes.{Outcome}
+use Rattle.words.specs.declared.Refusal.TheVariants.{NotSound, WrongLine, ShortList}
 
 -- ── the exits of the descent ──
 module _ (k : K) (l p n : ℕ) where
@@ -68,12 +68,12 @@ writes_one x y = (x.outcome ∙ sym y.outcome, x.bytes ∙ sym y.bytes)
 
 -- .. from the climb of the deepest, which the word w tells, and the sum of the searches
 pub writes_from : (t : List ℕ) {l p w r c : ℕ} {before after : List ℕ} → p ≡ deepest (view t).k l 0 15 → p < 16
-    → w ≡ digits (way_up (view t).k.parent 15 p) 0 → WayWritten w before r after → c ≡ looks_of (view t).k l → Writes (view t).k l before (Done r c) after
+    → w ≡ digits (way_up (view t).k.parent 15 p) 0 → WayWritten w before r after → c ≡ looks_of (view t).k l → Writes (view t).k l before (Ok (r, c)) after
 unfolding holders_of trail
 writes_from t {l} {p} {w} {r} {c} {before} q b u h s =
     let e : way_in w ≡ holders_of (view t).k l = ap way_in u ∙ way_told t 15 p b (omega arith) (omega arith) ∙ ap (λ (x : ℕ). trail (view t).k x 15) q in
     record {
-      outcome = ap₂ Done (h.number ∙ ap length e) s;
+      outcome = ap₂ (λ (x y : ℕ). Ok (x, y)) (h.number ∙ ap length e) s;
       bytes = h.bytes ∙ ap (λ (hs : List ℕ). names_over hs before) e;
     }
 
@@ -83,15 +83,15 @@ holders_one x y = (x.outcome ∙ sym y.outcome, x.bytes ∙ sym y.bytes)
 
 -- ── the exits of holders ──
 module _ {board : Board} {t : List ℕ} {l : ℕ} {before : List ℕ} where
-  pub listed_unsound : sound board t ≡ false → HoldersListed board t l before (Refused 1) before
+  pub listed_unsound : sound board t ≡ false → HoldersListed board t l before (Err NotSound) before
   unfolding holders_outcome holders_bytes
   listed_unsound q = record { outcome = rw q refl; bytes = rw q refl }
 
-  pub listed_outside : sound board t ≡ true → in_memory (view t).k l ≡ false → HoldersListed board t l before (Refused 7) before
+  pub listed_outside : sound board t ≡ true → in_memory (view t).k l ≡ false → HoldersListed board t l before (Err WrongLine) before
   unfolding holders_outcome holders_bytes
   listed_outside q n = record { outcome = rw (q, n) refl; bytes = rw (q, n) refl }
 
-  pub listed_short : sound board t ≡ true → in_memory (view t).k l ≡ true → length before < 16 → HoldersListed board t l before (Refused 17) before
+  pub listed_short : sound board t ≡ true → in_memory (view t).k l ≡ true → length before < 16 → HoldersListed board t l before (Err ShortList) before
   unfolding holders_outcome holders_bytes
   listed_short q n h = record { outcome = rw (q, n, lt-leb 16 (length before) h) refl; bytes = rw (q, n, lt-leb 16 (length before) h) refl }
 

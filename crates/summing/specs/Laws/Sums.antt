@@ -32,15 +32,12 @@ module _ {f : ℕ → ℕ} where
   ending_start : Ending f 32 0
   ending_start = record { within = omega arith; few = omega arith; made = omega arith }
 
-  module _ {i x : ℕ} (inv : Ending f i x) where
-    ending_room : {y : ℕ} → 0 < i → y ≤ 0x7ff_ffff → x + y < 2 ^ 32
-    ending_room h l = omega (arith, inv.few, inv.within)
+  module _ (i : ℕ) {x : ℕ} (inv : Ending f (i + 1) x) where
+    ending_room : {y : ℕ} → y ≤ 0x7ff_ffff → x + y < 2 ^ 32
+    ending_room l = omega (arith, inv.few, inv.within)
 
-    ending_on : {y : ℕ} → 0 < i → y ≡ f (i - 1) → y ≤ 0x7ff_ffff → Ending f (i - 1) (x + y)
-    ending_on {y} h q l =
-        let e : i - 1 + 1 ≡ i = omega arith in
-        let more : sum i f ≡ sum (i - 1) f + f (i - 1) = ap (λ (n : ℕ). sum n f) (sym e) ∙ sum_more (i - 1) f in
-        record { within = omega (arith, inv.within); few = omega (arith, inv.few, inv.within); made = omega (arith, inv.made, more, q) }
+    ending_on : {y : ℕ} → y ≡ f i → y ≤ 0x7ff_ffff → Ending f i (x + y)
+    ending_on q l = record { within = omega (arith, inv.within); few = omega (arith, inv.few, inv.within); made = omega (arith, inv.made, sum_more i f, q) }
 
   ending_skip : (i : ℕ) {x : ℕ} → Ending f (i + 8) x → ((k : ℕ) → i ≤ k → k < i + 8 → f k ≡ 0) → Ending f i x
   ending_skip i inv h = record { within = omega (arith, inv.within); few = omega (arith, inv.few); made = omega (arith, inv.made, sum_skip f i 8 h) }
@@ -106,34 +103,35 @@ right_ranged h p i = record { ends = h.core.s5_range p i }
 pub entry_range : {l : List ℕ} {p i : ℕ} {f : SlotFields} → Ranged (view l) p i → Seen l p i f → f.present ≡ true → (f.present ≡ true) × (f.start.0 < f.end.0)
 entry_range {f = f} h seen q = (q, h.ends (entry_of f) (entry_there seen q))
 
--- slot i - 1 joins
-module _ {l : List ℕ} {p i : ℕ} {x : Sums} {f : SlotFields} (seen : Seen l p (i - 1) f) (inv : Adding (view l) p i x) (h : 0 < i) where
+-- slot i joins
+module _ {l : List ℕ} {p i : ℕ} {x : Sums} {f : SlotFields} (seen : Seen l p i f) (inv : Adding (view l) p (i + 1) x) where
   add_slot : {a b c : ℕ} → a ≡ bit_of (is_some (entry_in f)) → b ≡ number_of_lines (entry_in f) → c ≡ cond f.opened (number_of_lines (entry_in f)) 0
-      → Adding (view l) p (i - 1) (record { slots = 2 * x.slots + a; held = x.held + b; opened = x.opened + c })
+      → Adding (view l) p i (record { slots = 2 * x.slots + a; held = x.held + b; opened = x.opened + c })
   add_slot {a} {b} {c} q r s =
       let few = lines_small f seen.end_small in
+      let e : i + 1 - 1 ≡ i = omega arith in
       record {
-        slots = map_on inv.slots h (rw seen.slot q);
-        held = ending_on inv.held h (rw seen.slot r) (omega arith);
-        opened = ending_on inv.opened h (rw (seen.slot, seen.opened) s) (let z = open_small f.opened few in omega arith);
+        slots = rw e at (map_on inv.slots (omega arith) {y = a} (rw (e, seen.slot) q));
+        held = ending_on i inv.held (rw seen.slot r) (omega arith);
+        opened = ending_on i inv.opened (rw (seen.slot, seen.opened) s) (let z = open_small f.opened few in omega arith);
       }
 
   -- .. with an entry
   pub add_entry : f.present ≡ true → {b c : ℕ} → b ≡ number_of_lines (entry_in f) → c ≡ cond f.opened (number_of_lines (entry_in f)) 0
-      → Adding (view l) p (i - 1) (record { slots = 2 * x.slots + 1; held = x.held + b; opened = x.opened + c })
+      → Adding (view l) p i (record { slots = 2 * x.slots + 1; held = x.held + b; opened = x.opened + c })
   add_entry q r s = add_slot {a = 1} (rw (entry_some, q) refl) r s
 
   -- .. with none
-  pub skip_slot : f.present ≡ false → Adding (view l) p (i - 1) (record { slots = 2 * x.slots; held = x.held; opened = x.opened })
+  pub skip_slot : f.present ≡ false → Adding (view l) p i (record { slots = 2 * x.slots; held = x.held; opened = x.opened })
   unfolding number_of_lines entry_in
   skip_slot q =
       with_nothing (add_slot {a = 0} {b = 0} {c = 0} (rw (entry_some, q) refl) (rw q refl) (rw q (sym (nothing f.opened))))
 
   pub held_room : {b : ℕ} → b ≡ number_of_lines (entry_in f) → x.held + b < 2 ^ 32
-  held_room q = ending_room inv.held h (let z = lines_small f seen.end_small in omega arith)
+  held_room q = ending_room i inv.held (let z = lines_small f seen.end_small in omega arith)
 
   pub opened_room : {c : ℕ} → c ≡ cond f.opened (number_of_lines (entry_in f)) 0 → x.opened + c < 2 ^ 32
-  opened_room q = ending_room inv.opened h (let z = open_small f.opened (lines_small f seen.end_small) in omega arith)
+  opened_room q = ending_room i inv.opened (let z = open_small f.opened (lines_small f seen.end_small) in omega arith)
 
 -- the slots of an absent structure join
 module _ {t : Table} {p : ℕ} (j : ℕ) {x : Sums} (inv : Adding t p (8 * j + 8) x) where

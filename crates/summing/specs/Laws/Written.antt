@@ -1,12 +1,11 @@
 -- The exits of the code that writes the two words of a partition.
 use Rattle.std.proofs.Math.Path.{◌≡◌, refl, ap}
 use Rattle.std.proofs.Common.{◌∙◌}
-use Rattle.std.specs.Prelude.{true, false, ℕ, ◌^◌, ◌<◌}
+use Rattle.std.specs.Prelude.{true, false, ℕ, ◌^◌, ◌<◌, Result}
 use Rattle.loops.specs.Loops.{map_of}
 use Rattle.loops.specs.Laws.Map.{map_lt}
 use Rattle.words.specs.Kind.{writing}
 use Rattle.words.specs.Laws.Kind.{write_done}
-use Rattle.words.specs.declared.Written.{Written}
 use Rattle.words.specs.Words.{masks, lines}
 use Rattle.words.specs.declared.masks_word.MasksFields.{MasksFields}
 use Rattle.words.specs.declared.lines_word.LinesFields.{LinesFields}
@@ -18,6 +17,7 @@ use Rattle.sheetrules.proofs.Laws.Words.{with_in, lines_in_law}
 use Rattle.summing.specs.Sums.{word_in, Adding, children_of, masks_with}
 use Rattle.summing.specs.declared.sums.Sums.{Sums}
 use Rattle.summing.specs.Laws.Sums.{adding_end}
+use Rattle.words.specs.declared.Refusal.{Refusal}
 
 -- a mask of children is below 2^16
 pub children_few : (k : K) (p : ℕ) {c : ℕ} → c ≡ children_of k p → c < 2 ^ 16
@@ -34,7 +34,7 @@ module _ {t : Table} (h : Right t) (p : ℕ) where
   with_children e = rw e refl
 
   module _ (q : present t.k p ≡ true) {x : Sums} (sums : Adding t p 0 x) where
-    pub masks_written : {c s : ℕ} {w : Written} {r : ℕ} → c < 2 ^ 16 → s ≡ map_of 4 (structured t.k p)
+    pub masks_written : {c s : ℕ} {w : Result ℕ Refusal} {r : ℕ} → c < 2 ^ 16 → s ≡ map_of 4 (structured t.k p)
         → w ≡ writing masks (record { children = c; slots = x.slots; structures = s }) → r ≡ word_in w → r ≡ masks_with c t p
     unfolding masks_with
     masks_written {c} {s} few e u v =
@@ -45,7 +45,7 @@ module _ {t : Table} (h : Right t) (p : ℕ) where
         same : {b c' b'' c'' : ℕ} → b ≡ b'' → c' ≡ c'' → ◌≡◌ {A = MasksFields} (record { children = c; slots = b; structures = c' }) (record { children = c; slots = b''; structures = c'' })
         same y z = cc
 
-    pub lines_written : {w : Written} {r : ℕ} → w ≡ writing lines (record { held = x.held; opened = x.opened }) → r ≡ word_in w → r ≡ lines_word t p
+    pub lines_written : {w : Result ℕ Refusal} {r : ℕ} → w ≡ writing lines (record { held = x.held; opened = x.opened }) → r ≡ word_in w → r ≡ lines_word t p
     unfolding lines_word
     lines_written u v =
         v

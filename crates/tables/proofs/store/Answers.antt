@@ -3,9 +3,9 @@ use mathlib.Core.Path.{refl}
 use Rattle.tables.specs.Store.{stored}
 use Rattle.tables.proofs.store.Goals as goal
 
-pub returns-in-Word : goal.returns-in-Word
+pub returns-in-Ok : goal.returns-in-Ok
 unfolding stored
-returns-in-Word c = rw c.in-Word.is refl
+returns-in-Ok c = rw c.in-Ok.is refl
 
 pub returns-in_default : goal.returns-in_default
 unfolding stored

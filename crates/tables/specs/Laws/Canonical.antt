@@ -26,7 +26,7 @@ use Rattle.tables.specs.Seen.{SeenHeader, SeenStructure, Seen}
 use Rattle.tables.specs.Laws.Seen.{see_header, see_structure, see_regions, see}
 
 -- a word with its zero bits zero is the one written for its fields
-written : {A R : Type 0} {k : Kind A R} → Lawful k → (w : ℕ) → w < 2 ^ 64 → Zeroed k w → {g : A} → fields_in k w ≡ g → w ≡ word_of k g
+written : {A : Type 0} {k : Kind A} → Lawful k → (w : ℕ) → w < 2 ^ 64 → Zeroed k w → {g : A} → fields_in k w ≡ g → w ≡ word_of k g
 written {k = k} law w small z e = sym (word_back law w small z) ∙ ap (word_of k) e
 
 -- a region that names slot 0 unless it is loaded is written as it was read

@@ -1,5 +1,5 @@
 -- What is kept of a region; and with the word of all eight written anew the words are the table with those that are kept.
-use Rattle.std.specs.Prelude.{◌≡◌, Bool, cond, List, ℕ, ◌+◌, ◌*◌, ◌<◌, set}
+use Rattle.std.specs.Prelude.{◌≡◌, Bool, cond, List, ℕ, ◌+◌, ◌*◌, ◌<◌, set, Result}
 use Rattle.std.proofs.Math.Path.{refl}
 use Rattle.std.proofs.Common.{ap, sym, ◌∙◌}
 use Rattle.std.proofs.Math.Bool.{true, false}
@@ -9,7 +9,6 @@ use Rattle.std.proofs.Math.Dec.{eqb, ltb}
 use borrow.Author.Tests.{eqb-true}
 use Rattle.words.specs.Kind.{writing}
 use Rattle.words.specs.Words.{regions}
-use Rattle.words.specs.declared.Written.{Written}
 use Rattle.words.specs.declared.regions_word.Region.{Region}
 use Rattle.words.specs.declared.regions_word.RegionsFields.{RegionsFields}
 use Rattle.tables.specs.State.{Opt, none, some, Table}
@@ -27,6 +26,7 @@ use Rattle.tables.specs.Settle.{keep}
 use Rattle.tables.specs.Store.{stored}
 use Rattle.tables.specs.Laws.Store.{store_word}
 use Rattle.tables.specs.Kept.{with_regions, keep_regions}
+use Rattle.words.specs.declared.Refusal.{Refusal}
 
 -- ── what is kept ──
 pub keep_none : (o : ℕ → Bool) (x : Opt ℕ) → x ≡ none → x ≡ keep o x
@@ -109,7 +109,7 @@ module _ {l : List ℕ} {t : Table} (was : Is l t) (p : ℕ) (f : ℕ → Opt �
           go true true e g = rw (e, g) (ap regions_word (upd1_other t.region p f q (λ w. z (w, eqb-true m 5 g))))
           go true false e g = rw (e, g) refl
 
-pub regions_settled : {l : List ℕ} {p : ℕ} {w : Written} → Canon l → p < 16
+pub regions_settled : {l : List ℕ} {p : ℕ} {w : Result ℕ Refusal} → Canon l → p < 16
     → w ≡ writing regions (regions_for (λ r. keep ((view l).opened p) ((view l).region p r))) → Is (stored l (regions_place p) w) (keep_regions (view l) p)
 unfolding regions_word
 regions_settled {l} {p} c hp e =

@@ -5,8 +5,8 @@ use Rattle.std.proofs.Common.{sym, subst, ◌∙◌, arith, add-zero}
 use Rattle.words.specs.Kind.{fields_in}
 use Rattle.words.specs.Words.{regions}
 use Rattle.words.specs.Fields.{no_region}
-use Rattle.regionwords.specs.Later.{later_regions}
-use Rattle.regionwords.specs.Laws.Later.{later_fields, bytes_left, bytes_few, bytes_later}
+use Rattle.words.specs.Later.{later_regions}
+use Rattle.words.specs.Laws.Later.{later_fields, bytes_left, bytes_few, bytes_later}
 use Rattle.tables.specs.View.{nth_region}
 use Rattle.tables.specs.Laws.ZeroWord.{region_in}
 

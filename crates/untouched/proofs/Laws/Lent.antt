@@ -18,7 +18,7 @@ use Rattle.sound.specs.Properties.{Child}
 use Rattle.sound.specs.Whole.{Right}
 use Rattle.rules.specs.Branch.{Under, itself as is-top, below}
 use Rattle.rules.specs.Laws.Branch.{under_parent}
-use Rattle.rules.specs.Rules.{Result, done, refused, call_on, words_after}
+use Rattle.rules.specs.Rules.{Effect, done, refused, call_on, words_after}
 use Rattle.rules.specs.Laws.Calls.{call_as}
 use Rattle.rules.specs.Laws.Each.{serve_done, perform_at}
 use Rattle.rules.specs.Laws.Ran.{check_done}
@@ -35,6 +35,7 @@ use Rattle.isolation.specs.Laws.Written.{first_at_law}
 use Rattle.untouched.specs.Untouched.{Within, Outside}
 use Rattle.untouched.specs.Lent.{LentBack}
 use Rattle.untouched.proofs.Laws.Theorem.{up_present, call_left, after_left}
+use Rattle.words.specs.declared.Refusal.TheVariants.{NotSound}
 
 -- who is in the branch of c, and not c, is in that of a child of c
 module _ {up : ℕ → ℕ} {c : ℕ} where
@@ -59,8 +60,8 @@ module _ (c : ℕ) (a : Entry) (whole : a.whole ≡ true) where
       h : Right (view l)
       h = good_right g
 
-      own : (view l).k.current ≡ c → (r : Result) → call_on board l w ≡ r → Kept (words_after l r)
-      own z (refused n) y = (i, at)
+      own : (view l).k.current ≡ c → (r : Effect) → call_on board l w ≡ r → Kept (words_after l r)
+      own z (refused why) y = (i, at)
       own z (done v x new) y =
           let here : (view l).k.slot (view l).k.current i ≡ some a = rw z at in
           rw (view_encode new (right_fit (call_right board l w g.small y)), ← z) (own_stays h here whole board (fields_in call w) (served board l w g.small y).2)
@@ -112,8 +113,8 @@ switch_kept {board} {l} g w e {p} {s} {c} b = go (call_on board l w) refl
     f : CallFields
     f = fields_in call w
 
-    go : (r : Result) → call_on board l w ≡ r → LentWhole (view (words_after l r)).k p s c
-    go (refused n) y = b
+    go : (r : Effect) → call_on board l w ≡ r → LentWhole (view (words_after l r)).k p s c
+    go (refused why) y = b
     go (done v x new) y =
         let (_, h, z) = served board l w g.small y in
         let (_, q) = switch_done h f.partition.0 (sym (perform_at board 13 (view l) f e) ∙ (serve_done board (view l) f z).1) in
@@ -159,4 +160,4 @@ lent_back = record {
   where
     -- a call that is done was asked of a sound table
     good_of : (board : Board) (l : List ℕ) (w : ℕ) → Words l → {v x : ℕ} {t : Table} → call_on board l w ≡ done v x t → Good board l
-    good_of board l w small y = record { small = small; sound = (sound_means board l).0 (check_done 1 (sound board l) (sym (call_as board l w) ∙ y)).0 }
+    good_of board l w small y = record { small = small; sound = (sound_means board l).0 (check_done NotSound (sound board l) (sym (call_as board l w) ∙ y)).0 }

@@ -21,7 +21,7 @@ use Rattle.sound.specs.Core.{Core}
 use Rattle.sound.specs.Properties.{Above, itself, higher}
 use Rattle.sound.specs.Whole.{Right}
 use Rattle.rules.specs.Branch.{Under, itself as is-top, below}
-use Rattle.rules.specs.Rules.{Result, done, refused, call_on, words_after}
+use Rattle.rules.specs.Rules.{Effect, done, refused, call_on, words_after}
 use Rattle.isolation.specs.Laws.Fits.{Good, right_fit, good_canon, good_right}
 use Rattle.isolation.specs.Whole.{after_all}
 use Rattle.isolation.proofs.Whole.{served, after_good, call_right, next_good}
@@ -109,8 +109,8 @@ module _ {b : ℕ} where
       right : Right (view l)
       right = good_right g
 
-      one : (r : Result) → call_on board l w ≡ r → Dec (b ≡ 0) → Left b (view l) (view (words_after l r))
-      one (refused n) z d = left_same
+      one : (r : Effect) → call_on board l w ≡ r → Dec (b ≡ 0) → Left b (view l) (view (words_after l r))
+      one (refused why) z d = left_same
       one (done v x new) z (yes e) = root_left right e
       one (done v x new) z (no e) =
           let q = call_right board l w g.small z in

@@ -1,5 +1,5 @@
 -- So after either of two such lists from one table, with a partition beside the branch current then, find and read region on itself answer it the same.
-use Rattle.std.specs.Prelude.{◌≡◌, Bool, false, List, ℕ, ltb}
+use Rattle.std.specs.Prelude.{◌≡◌, Bool, false, List, ℕ, ltb, Ok}
 use Rattle.std.proofs.Math.Path.{refl, ap}
 use Rattle.std.proofs.Common.{sym, ◌∙◌, inl, inr, eq-eqb}
 use Rattle.std.proofs.Math.Bool.{true}
@@ -13,11 +13,10 @@ use Rattle.tables.specs.Encode.{slot_word}
 use Rattle.tables.specs.Laws.Back.{view_encode}
 use Rattle.tables.specs.Write.{with_current, put_current}
 use Rattle.tables.specs.Search.{lowest, holds, holds_at}
-use Rattle.tables.specs.declared.Outcome.TheVariants.{Done}
 use Rattle.sound.specs.Sound.{Present}
 use Rattle.sound.specs.Whole.{Right}
 use Rattle.sound.proofs.Laws.List.{sound_means}
-use Rattle.rules.specs.Rules.{Result, check, need, own_or_child, region_word, read_region, find, known, perform, serve, call_on}
+use Rattle.rules.specs.Rules.{Effect, check, need, own_or_child, region_word, read_region, find, known, perform, serve, call_on}
 use Rattle.rules.specs.Ran.{outcome_of}
 use Rattle.rules.specs.Calls.{caller_of}
 use Rattle.rules.specs.Laws.Calls.{call_as}
@@ -28,6 +27,9 @@ use Rattle.isolation.specs.Whole.{Reads, after_all}
 use Rattle.isolation.proofs.Whole.{after_good}
 use Rattle.untouched.specs.Untouched.{Within, Beside, turned_to, SameAnswers, BranchWords}
 use Rattle.untouched.proofs.Laws.Theorem.{untouched, beside_same}
+use Rattle.tables.specs.Outcomes.{Outcome}
+use Rattle.words.specs.declared.Refusal.{Refusal}
+use Rattle.words.specs.declared.Refusal.TheVariants.{BadWord, WrongPartition, WrongLine, WrongRegion}
 
 -- ── a table stays right where another that is present becomes current ──
 turned_right : {t : Table} {p : ℕ} → Right t → Present t.k p → Right (put_current t p)
@@ -71,18 +73,22 @@ record Sees (t u : Table) (p : ℕ) : Type 0 where
   opened : (i : ℕ) → t.opened p i ≡ u.opened p i
   region : (r : ℕ) → t.region p r ≡ u.region p r
 
-need_alike : (n : ℕ) {o q : Opt ℕ} (f g : ℕ → Result) → o ≡ q → ((i : ℕ) → outcome_of (f i) ≡ outcome_of (g i)) → outcome_of (need n o f) ≡ outcome_of (need n q g)
+need_alike : (why : Refusal) {o q : Opt ℕ} (f g : ℕ → Effect) → o ≡ q → ((i : ℕ) → outcome_of (f i) ≡ outcome_of (g i)) → outcome_of (need why o f) ≡ outcome_of (need why q g)
 unfolding need
-need_alike n {o} {q} f g e h = rw e (go q)
+need_alike why {o} {q} f g e h = rw e (go q)
   where
-    go : (q : Opt ℕ) → outcome_of (need n q f) ≡ outcome_of (need n q g)
+    go : (q : Opt ℕ) → outcome_of (need why q f) ≡ outcome_of (need why q g)
     go none = refl
     go (some i) = h i
 
-check_alike : (n : ℕ) (b : Bool) (r s : Result) → outcome_of r ≡ outcome_of s → outcome_of (check n b r) ≡ outcome_of (check n b s)
+check_alike : (why : Refusal) (b : Bool) (r s : Effect) → outcome_of r ≡ outcome_of s → outcome_of (check why b r) ≡ outcome_of (check why b s)
 unfolding check
-check_alike n true r s h = h
-check_alike n false r s h = refl
+check_alike why true r s h = h
+check_alike why false r s h = refl
+
+-- done with these values
+answer : ℕ → ℕ → Outcome
+answer v w = Ok (v, w)
 
 module _ {t u : Table} {p : ℕ} (s : Sees t u p) where
   own : (k : K) → own_or_child (with_current k p) p ≡ true
@@ -96,8 +102,8 @@ module _ {t u : Table} {p : ℕ} (s : Sees t u p) where
   found_same l = let slots : t.k.slot p ≡ u.k.slot p = λ x i. s.slot i x in ap (λ (g : ℕ → Opt Entry). lowest 32 (λ i. holds l (g i))) slots
 
   find_alike : (l : ℕ) → outcome_of (find (put_current t p) p l) ≡ outcome_of (find (put_current u p) p l)
-  unfolding find outcome_of
-  find_alike l = rw (own t.k, own u.k) (check_alike 3 true _ _ (need_alike 7 _ _ (found_same l) (λ i. ap (Done i) (entry_same i))))
+  unfolding find outcome_of answer
+  find_alike l = rw (own t.k, own u.k) (check_alike WrongPartition true _ _ (need_alike WrongLine _ _ (found_same l) (λ i. ap (answer i) (entry_same i))))
 
   region_same : (r : ℕ) → region_word (put_current t p) p (t.region p r) ≡ region_word (put_current u p) p (u.region p r)
   unfolding region_word
@@ -108,13 +114,13 @@ module _ {t u : Table} {p : ℕ} (s : Sees t u p) where
       go (some i) = entry_same i
 
   read_alike : (r : ℕ) → outcome_of (read_region (put_current t p) p r) ≡ outcome_of (read_region (put_current u p) p r)
-  unfolding read_region outcome_of
-  read_alike r = rw (own t.k, own u.k) (check_alike 3 true _ _ (check_alike 16 (ltb r 8) _ _ (ap (Done 0) (region_same r))))
+  unfolding read_region outcome_of answer
+  read_alike r = rw (own t.k, own u.k) (check_alike WrongPartition true _ _ (check_alike WrongRegion (ltb r 8) _ _ (ap (answer 0) (region_same r))))
 
   -- a call word of service 11 or 12 whose P is p
   serve_alike : (board : Board) (f : CallFields) → Reads f → f.partition.0 ≡ p → outcome_of (serve board (put_current t p) f) ≡ outcome_of (serve board (put_current u p) f)
   unfolding serve
-  serve_alike board f e z = check_alike 2 (known f) _ _ (go e)
+  serve_alike board f e z = check_alike BadWord (known f) _ _ (go e)
     where
       go : Reads f → outcome_of (perform board (put_current t p) f) ≡ outcome_of (perform board (put_current u p) f)
       go (inl e) = rw (perform_at board 11 (put_current t p) f e, perform_at board 11 (put_current u p) f e, z) (read_alike f.other)
@@ -135,7 +141,7 @@ module _ {board : Board} {l : List ℕ} (p : ℕ) (g : Good board l) (v : Presen
 
 -- a call on words with p current is its service on that table
 turned_serves : {board : Board} {l : List ℕ} (p : ℕ) → Good board l → Present (view l).k p → (w : ℕ)
-    → call_on board (turned_to p l) w ≡ check 2 (zeroed call w) (serve board (put_current (view l) p) (fields_in call w))
+    → call_on board (turned_to p l) w ≡ check BadWord (zeroed call w) (serve board (put_current (view l) p) (fields_in call w))
 unfolding check
 turned_serves {board} {l} p g v w =
     call_as board (turned_to p l) w ∙ rw ((sound_means board (turned_to p l)).1 (turned_good p g v).sound, view_encode (put_current (view l) p) (right_fit (put_current_right p g v))) refl
@@ -158,7 +164,7 @@ module _ {board : Board} (l ws vs : List ℕ) (b : ℕ) (g : Good board l) (one 
   pub same_answers : SameAnswers board p (after_all board l ws) (after_all board l vs)
   same_answers w e z =
       rw (turned_serves p (after_good g ws) (still_present ws one) w, turned_serves p (after_good g vs) (still_present vs two) w)
-      (check_alike 2 (zeroed call w) _ _ (serve_alike sees board (fields_in call w) e z))
+      (check_alike BadWord (zeroed call w) _ _ (serve_alike sees board (fields_in call w) e z))
 
 -- REQUEST 112, over words
 pub branch_words : (board : Board) → BranchWords board

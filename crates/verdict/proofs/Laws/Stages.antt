@@ -1,10 +1,11 @@
 -- The stages one after the other: each exit of the loops over the tests, and what a stage knows from those before it.
-use Rattle.std.specs.Prelude.{◌≡◌, refl, Bool, true, ◌&&◌, ◌||◌, List, ℕ, ◌+◌, ◌-◌, ◌*◌, ◌/◌, ◌%◌, ◌≤◌, ◌<◌, eqb, length}
+use Rattle.std.specs.Prelude.{◌≡◌, refl, Bool, true, ◌&&◌, ◌||◌, List, ℕ, ◌+◌, ◌-◌, ◌*◌, ◌/◌, ◌%◌, ◌≤◌, ◌<◌, eqb, length, Option, Some, None, is_some, unwrap_or}
 use Rattle.std.proofs.Common.{ap, ◌∙◌, inl, inr, arith}
+use Rattle.std.proofs.lemmas.Bool.{false≢true}
 use Rattle.std.proofs.Math.Path.{sym}
 use Rattle.std.proofs.Math.Bool.{false, not, and-true as and-unit}
 use Rattle.std.proofs.Math.Decide.{ℕ_discrete}
-use borrow.Author.Tests.{not-true, not-false, lt-ltb, eq-eqb, ne_eqb}
+use borrow.Author.Tests.{not-true, not-false, eq-eqb, ne_eqb}
 use Rattle.loops.specs.Loops.{NoneBelow, all}
 use Rattle.loops.specs.Laws.Every.{all_of}
 use Rattle.loops.specs.Laws.Scan.{Sought, seek_law, seek_first, seek_none}
@@ -33,7 +34,7 @@ use Rattle.verdict.specs.declared.Verdict.TheVariants.{Accepted, Length}
 use Rattle.verdict.specs.Verdict.{fails_at, failing, verdict, image_verdict}
 use Rattle.verdict.proofs.Laws.Names.{none_lower, lower_none}
 use Rattle.covering.specs.Cover.{covers_for}
-use Rattle.verdict.specs.Stages.{Before11, lowest_of, said_of, Reached}
+use Rattle.verdict.specs.Stages.{Before11, lowest_of, Reached}
 
 -- ── the loops over the tests ──
 -- none before number m fails
@@ -52,9 +53,9 @@ module _ {board : Board} {l : List ℕ} {m : ℕ} (h : NoneFails board l m) wher
   cleared_reached b = record { from = omega arith; to = omega arith; lower = none_lower board l m (1 + m / 16) (omega arith) (omega arith) h.none }
 
   module _ {r : Bool} (e : r ≡ clause_at board l (1 + m / 16) (m % 16)) where
-    pub cleared_hit : (n : ℕ) → m < n → not r ≡ true → m ≡ lowest_of board l n
+    pub cleared_hit : (n : ℕ) → m < n → not r ≡ true → Some m ≡ lowest_of board l n
     unfolding lowest_of fails_at
-    cleared_hit n b q = sym (seek_first (fails_at board l) (λ m. m) n n m b (ap not (sym e) ∙ q) h.none)
+    cleared_hit n b q = sym (seek_first (fails_at board l) (λ k. Some k) None n m b (ap not (sym e) ∙ q) h.none)
 
     pub cleared_on : not r ≡ false → NoneFails board l (m + 1)
     unfolding fails_at
@@ -64,43 +65,38 @@ module _ {board : Board} {l : List ℕ} {m : ℕ} (h : NoneFails board l m) wher
         go j b (yes z) = rw z (ap not (sym e) ∙ q)
         go j b (no z) = h.none j (omega arith)
 
-  pub cleared_end : (n : ℕ) → m ≡ n → m ≡ lowest_of board l n
+  pub cleared_end : (n : ℕ) → n ≤ m → None ≡ lowest_of board l n
   unfolding lowest_of
-  cleared_end n z = z ∙ sym (seek_none (fails_at board l) (λ m. m) n n (λ j b. h.none j (omega arith)))
+  cleared_end n z = sym (seek_none (fails_at board l) (λ k. Some k) None n (λ j b. h.none j (omega arith)))
 
 -- ── the verdict from what they find ──
-module _ (board : Board) (l : List ℕ) {m : ℕ} where
-  -- none of the first 96 fails
-  pub early_reached : m ≡ lowest_of board l 96 → 96 ≤ m → Reached board l 7
-  unfolding lowest_of
-  early_reached e b = go (seek_law (fails_at board l) (λ m. m) 96 96)
-    where
-      go : Sought (fails_at board l) (λ m. m) 96 96 (lowest_of board l 96) → Reached board l 7
-      go (inl (k, r)) = absurd (omega (arith, r.below, r.is, e))
-      go (inr r) = record { from = omega arith; to = omega arith; lower = none_lower board l 96 7 (omega arith) (omega arith) r.none }
-
+module _ (board : Board) (l : List ℕ) where
   -- one that fails is the lowest of all
-  pub early_said : {r : Verdict} → m ≡ lowest_of board l 96 → m < 96 → r ≡ said_of m → r ≡ verdict board l
-  unfolding lowest_of said_of verdict
-  early_said e b q = q ∙ rw (lt-ltb m 176 (omega arith)) (go (seek_law (fails_at board l) (λ m. m) 96 96))
+  pub one_said : (n m : ℕ) → n ≤ 176 → Some m ≡ lowest_of board l n → failing m ≡ verdict board l
+  unfolding lowest_of verdict
+  one_said n m b e = go (seek_law (fails_at board l) (λ k. Some k) None n)
     where
-      go : Sought (fails_at board l) (λ m. m) 96 96 (lowest_of board l 96) → failing m ≡ verdict board l
+      go : Sought (fails_at board l) (λ k. Some k) None n (lowest_of board l n) → failing m ≡ verdict board l
       go (inl (k, r)) =
-          let z : m ≡ k = e ∙ r.is in
+          let z : m ≡ k = ap (λ (o : Option ℕ). unwrap_or o 0) (e ∙ r.is) in
           rw z (sym (seek_first (fails_at board l) failing Accepted 176 k (omega (arith, r.below)) r.holds r.before))
-      go (inr r) = absurd (omega (arith, r.is, e))
+      go (inr r) = absurd (false≢true (sym (ap is_some (e ∙ r.is))))
 
-  pub late_said : {r : Verdict} → m ≡ lowest_of board l 176 → r ≡ said_of m → r ≡ verdict board l
-  unfolding lowest_of said_of verdict
-  late_said e q = q ∙ go (seek_law (fails_at board l) (λ m. m) 176 176)
+  none_before : (n : ℕ) → None ≡ lowest_of board l n → NoneBelow (fails_at board l) n
+  unfolding lowest_of
+  none_before n e = go (seek_law (fails_at board l) (λ k. Some k) None n)
     where
-      go : Sought (fails_at board l) (λ m. m) 176 176 (lowest_of board l 176) → said_of m ≡ verdict board l
-      go (inl (k, r)) =
-          let z : m ≡ k = e ∙ r.is in
-          rw (z, lt-ltb k 176 r.below) (sym (seek_first (fails_at board l) failing Accepted 176 k r.below r.holds r.before))
-      go (inr r) =
-          let z : m ≡ 176 = e ∙ r.is in
-          rw z (sym (seek_none (fails_at board l) failing Accepted 176 r.none))
+      go : Sought (fails_at board l) (λ k. Some k) None n (lowest_of board l n) → NoneBelow (fails_at board l) n
+      go (inl (k, r)) = absurd (false≢true (ap is_some (e ∙ r.is)))
+      go (inr r) = r.none
+
+  -- none of the first 96 fails; none of all
+  pub early_reached : None ≡ lowest_of board l 96 → Reached board l 7
+  early_reached e = record { from = omega arith; to = omega arith; lower = none_lower board l 96 7 (omega arith) (omega arith) (none_before 96 e) }
+
+  pub none_said : None ≡ lowest_of board l 176 → Accepted ≡ verdict board l
+  unfolding verdict
+  none_said e = sym (seek_none (fails_at board l) failing Accepted 176 (none_before 176 e))
 
 -- ── of an image's bytes ──
 pub image_other : (board : Board) (b : List ℕ) → (length b ≡ 5128 → ⊥) → Length ≡ image_verdict board b

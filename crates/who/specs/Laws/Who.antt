@@ -1,5 +1,5 @@
 -- The numbers of an item, one by one.
-use Rattle.std.specs.Prelude.{◌≡◌, Bool, true, false, List, [], ◌∷◌, ℕ, ◌≤◌, ◌<◌, length, eqb}
+use Rattle.std.specs.Prelude.{◌≡◌, Bool, true, false, List, [], ◌∷◌, ℕ, ◌≤◌, ◌<◌, length, eqb, Some, None}
 use Rattle.std.proofs.Math.Path.{refl}
 use Rattle.std.proofs.Common.{ap, sym, ◌∙◌}
 use borrow.Author.Tests.{eq-eqb, ne_eqb, le-leb, lt-leb}
@@ -15,6 +15,7 @@ use Rattle.tables.specs.View.{entry_in, nth_region, view, named as slotNamed}
 use Rattle.tables.specs.Seen.{SeenRegions}
 use Rattle.tables.specs.Search.{look_for}
 use Rattle.sound.specs.Clauses.{has}
+use Rattle.who.specs.declared.facts.CanWrite.TheVariants.{Closed, NoRight, ManyPieces, IfLoaded, IfCurrent, Now}
 use Rattle.who.specs.Who.{entry_numbers, names_it, can_write, entry_end, place_in, place_of}
 
 pub entry_numbers_law :
@@ -38,44 +39,45 @@ module _ {l : List ℕ} {p : ℕ} {f : RegionsFields} {x : Region} (s : ℕ) (v 
 
 -- ── the exits of can ──
 module _ (b : Board) (t : Table) (p s : ℕ) (e : Entry) (o : Bool) where
-  pub can_0 : o ≡ false → 0 ≡ can_write b t p s e o
+  pub can_closed : o ≡ false → Closed ≡ can_write b t p s e o
   unfolding can_write
-  can_0 q = rw q refl
+  can_closed q = rw q refl
 
   module _ (u : o ≡ true) where
-    pub can_1 : e.rights.write ≡ false → 1 ≡ can_write b t p s e o
+    pub can_no_right : e.rights.write ≡ false → NoRight ≡ can_write b t p s e o
     unfolding can_write
-    can_1 q = rw (u, q) refl
+    can_no_right q = rw (u, q) refl
 
     module _ (v : e.rights.write ≡ true) where
       module _ {n : ℕ} (x : any 8 (names_it t p s) ≡ false) (is : n ≡ length (pieces_for b e.start e.stop)) where
-        pub can_2 : 8 < n → 2 ≡ can_write b t p s e o
+        pub can_pieces : 8 < n → ManyPieces ≡ can_write b t p s e o
         unfolding can_write
-        can_2 q = rw (u, v, x, ← is, lt-leb n 8 q) refl
+        can_pieces q = rw (u, v, x, ← is, lt-leb n 8 q) refl
 
-        pub can_3 : n ≤ 8 → 3 ≡ can_write b t p s e o
+        pub can_if_loaded : n ≤ 8 → IfLoaded ≡ can_write b t p s e o
         unfolding can_write
-        can_3 q = rw (u, v, x, ← is, le-leb n 8 q) refl
+        can_if_loaded q = rw (u, v, x, ← is, le-leb n 8 q) refl
 
       module _ {c : ℕ} (x : any 8 (names_it t p s) ≡ true) (is : t.k.current ≡ c) where
-        pub can_4 : (c ≡ p → ⊥) → 4 ≡ can_write b t p s e o
+        pub can_if_current : (c ≡ p → ⊥) → IfCurrent ≡ can_write b t p s e o
         unfolding can_write
-        can_4 q = rw (u, v, x, is, ne_eqb c p q) refl
+        can_if_current q = rw (u, v, x, is, ne_eqb c p q) refl
 
-        pub can_5 : c ≡ p → 5 ≡ can_write b t p s e o
+        pub can_now : c ≡ p → Now ≡ can_write b t p s e o
         unfolding can_write
-        can_5 q = rw (u, v, x, is, eq-eqb c p q) refl
+        can_now q = rw (u, v, x, is, eq-eqb c p q) refl
 
 -- ── the exits of place_of ──
 module _ (k : K) (p l : ℕ) where
-  pub place_of_none : (look_for k l p).slot ≡ none → record { slot = record { 0 = 32 }; end = record { 0 = l } } ≡ place_of k p l
+  pub place_of_none : (look_for k l p).slot ≡ none → None ≡ place_of k p l
   unfolding place_of place_in
   place_of_none q = rw q refl
 
-  pub place_of_entry : (s : Slot) (f : SlotFields) → (look_for k l p).slot ≡ some s.0 → k.slot p s.0 ≡ entry_in f → f.present ≡ true → record { slot = s; end = f.end } ≡ place_of k p l
-  unfolding place_of place_in entry_end entry_in
-  place_of_entry s f q u v = rw (q, u, v) refl
+  module _ (s : Slot) (f : SlotFields) (at : (look_for k l p).slot ≡ some s.0) (is : k.slot p s.0 ≡ entry_in f) where
+    pub place_of_entry : f.present ≡ true → Some (record { slot = s; end = f.end }) ≡ place_of k p l
+    unfolding place_of place_in entry_end entry_in
+    place_of_entry q = rw (at, is, q) refl
 
-  pub place_of_empty : (s : Slot) (f : SlotFields) → (look_for k l p).slot ≡ some s.0 → k.slot p s.0 ≡ entry_in f → f.present ≡ false → record { slot = s; end = record { 0 = l } } ≡ place_of k p l
-  unfolding place_of place_in entry_end entry_in
-  place_of_empty s f q u v = rw (q, u, v) refl
+    pub place_of_empty : f.present ≡ false → Some (record { slot = s; end = record { 0 = l } }) ≡ place_of k p l
+    unfolding place_of place_in entry_end entry_in
+    place_of_empty q = rw (at, is, q) refl

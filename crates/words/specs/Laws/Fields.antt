@@ -1,17 +1,17 @@
 -- Fields that were read are below their widths; those of the zero word are absent and 0; and what the reader of a call word answers.
-use Rattle.std.specs.Prelude.{◌≡◌, refl, false, cond, ℕ, ◌^◌, ◌<◌}
+use Rattle.std.specs.Prelude.{◌≡◌, refl, false, cond, ℕ, ◌^◌, ◌<◌, Ok, Err}
 use Rattle.std.proofs.Common.{ap, sym, ◌∙◌, arith}
 use Rattle.words.specs.Kind.{fields_in, word_of, zeroed, reading, Zeroed}
 use Rattle.words.specs.Laws.Kind.{zero_back}
 use Rattle.words.specs.Words.{first, header, structure, regions, slot, call, masks}
 use Rattle.words.specs.Laws.Kinds.{regions_lawful}
-use Rattle.words.specs.declared.call_word.CallRead.TheVariants.{Fields as CallIs, Refused as CallRefused}
 use Rattle.words.specs.declared.first_word.FirstFields.{FirstFields}
 use Rattle.words.specs.declared.header_word.HeaderFields.{HeaderFields}
 use Rattle.words.specs.declared.regions_word.RegionsFields.{RegionsFields}
 use Rattle.words.specs.declared.slot_word.SlotFields.{SlotFields}
 use Rattle.words.specs.declared.structure_word.StructureFields.{StructureFields}
 use Rattle.words.specs.Fields.{SmallCall, no_region}
+use Rattle.words.specs.declared.Refusal.TheVariants.{BadWord}
 
 -- ── fields that stand in a word are below their widths ──
 pub record SmallFirst (f : FirstFields) : Type 0 where
@@ -120,6 +120,6 @@ unfolding slot
 slot_zeroed w = tt
 
 -- ── what the reader of a call word answers ──
-pub call_reading : (w : ℕ) → reading call w ≡ cond (zeroed call w) (CallIs (fields_in call w)) (CallRefused 2)
+pub call_reading : (w : ℕ) → reading call w ≡ cond (zeroed call w) (Ok (fields_in call w)) (Err BadWord)
 unfolding call
 call_reading w = refl

@@ -1,13 +1,13 @@
 -- Of a lawful kind what was read is in range, and both round trips hold.
-use Rattle.std.specs.Prelude.{◌≡◌, refl, ℕ, ◌^◌, ◌<◌, true, ◌↔◌, eqb}
+use Rattle.std.specs.Prelude.{◌≡◌, refl, ℕ, ◌^◌, ◌<◌, true, ◌↔◌, eqb, Ok, Err}
 use Rattle.std.proofs.Common.{ap, sym, subst, ◌∙◌, arith, eqb-true, eq-eqb}
 use Rattle.words.specs.Parts.{pack_parts, FieldsFit, zero_sum}
 use Rattle.words.specs.Laws.Parts.{clean_sum, pack_unpack, unpack_fit, unpack_pack, pack_lt, pack_clean, clean_true, clean_says, clean_false, sum_clean, zero_clean, fit_true, fit_false}
-use Rattle.words.specs.declared.Written.TheVariants.{Word, Refused}
 use Rattle.words.specs.Kind.{Kind, fields_in, word_of, Zeroed, InRange, Lawful, RoundTrips, zeroed, reading, writing}
 use Rattle.loops.specs.Laws.Every.{bool_ext}
+use Rattle.words.specs.declared.Refusal.TheVariants.{BadWord}
 
-module _ {A R : Type 0} (k : Kind A R) where
+module _ {A : Type 0} (k : Kind A) where
   pub zeroed_means : (w : ℕ) → (zeroed k w ≡ true) ↔ Zeroed k w
   zeroed_means w = (clean_says k.parts w, clean_true k.parts w)
 
@@ -23,20 +23,20 @@ module _ {A R : Type 0} (k : Kind A R) where
   zero_zeroed = zero_clean k.parts
 
   -- ── the exits of a reader and of a writer ──
-  pub read_done : (w : ℕ) → zero_sum k.parts w ≡ 0 → reading k w ≡ k.fields (fields_in k w)
+  pub read_done : (w : ℕ) → zero_sum k.parts w ≡ 0 → reading k w ≡ Ok (fields_in k w)
   read_done w h = rw (clean_true k.parts w (sum_clean k.parts w h)) refl
 
-  pub read_refused : (w : ℕ) → (zero_sum k.parts w ≡ 0 → ⊥) → reading k w ≡ k.refused 2
+  pub read_refused : (w : ℕ) → (zero_sum k.parts w ≡ 0 → ⊥) → reading k w ≡ Err BadWord
   read_refused w h = rw (clean_false k.parts w (λ c. h (clean_sum k.parts w c))) refl
 
-  pub write_done : (f : A) → InRange k f → writing k f ≡ Word (word_of k f)
+  pub write_done : (f : A) → InRange k f → writing k f ≡ Ok (word_of k f)
   write_done f h = rw (fit_true k.parts (k.list f) h) refl
 
-  pub write_refused : (f : A) → (InRange k f → ⊥) → writing k f ≡ Refused 2
+  pub write_refused : (f : A) → (InRange k f → ⊥) → writing k f ≡ Err BadWord
   write_refused f h = rw (fit_false k.parts (k.list f) h) refl
 
 -- ── both round trips ──
-module _ {A R : Type 0} {k : Kind A R} (law : Lawful k) where
+module _ {A : Type 0} {k : Kind A} (law : Lawful k) where
   -- what was read is in range
   pub in_range : (w : ℕ) → InRange k (fields_in k w)
   in_range w = subst (FieldsFit k.parts) (sym (law.list_of w)) (unpack_fit k.parts w)
@@ -61,6 +61,6 @@ module _ {A R : Type 0} {k : Kind A R} (law : Lawful k) where
 
   pub round_trips : RoundTrips k
   round_trips = record {
-    words = λ w h c. (read_done k w (clean_sum k.parts w c), write_done k (fields_in k w) (in_range w) ∙ ap Word (word_back w h c));
-    values = λ f h. (write_done k f h, read_done k (word_of k f) (clean_sum k.parts (word_of k f) (word_zeroed f h)) ∙ ap k.fields (fields_back f h));
+    words = λ w h c. (read_done k w (clean_sum k.parts w c), write_done k (fields_in k w) (in_range w) ∙ ap Ok (word_back w h c));
+    values = λ f h. (write_done k f h, read_done k (word_of k f) (clean_sum k.parts (word_of k f) (word_zeroed f h)) ∙ ap Ok (fields_back f h));
   }

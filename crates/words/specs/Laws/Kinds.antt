@@ -1,5 +1,5 @@
 -- Which fields of each kind are in range; each kind is lawful; and a mark fits 32 bits.
-use Rattle.std.specs.Prelude.{◌≡◌, refl, ℕ, ◌^◌, ◌<◌}
+use Rattle.std.specs.Prelude.{◌≡◌, refl, ℕ, ◌^◌, ◌<◌, Ok}
 use Rattle.std.proofs.Common.{ap, arith}
 use Rattle.loops.specs.Laws.Bit.{flag_bit, bit_mod, bit_lt}
 use Rattle.words.specs.Kind.{fields_in, word_of, reading, InRange, Lawful}
@@ -10,10 +10,8 @@ use Rattle.words.specs.declared.call_word.CallFields.{CallFields}
 use Rattle.words.specs.declared.first_word.FirstFields.{FirstFields}
 use Rattle.words.specs.declared.header_word.HeaderFields.{HeaderFields}
 use Rattle.words.specs.declared.lines_word.LinesFields.{LinesFields}
-use Rattle.words.specs.declared.lines_word.LinesRead.TheVariants.{Fields as LinesAre}
 use Rattle.words.specs.declared.mark_word.MarkFields.{MarkFields}
 use Rattle.words.specs.declared.masks_word.MasksFields.{MasksFields}
-use Rattle.words.specs.declared.masks_word.MasksRead.TheVariants.{Fields as MasksAre}
 use Rattle.words.specs.declared.regions_word.RegionsFields.{RegionsFields}
 use Rattle.words.specs.declared.slot_word.SlotFields.{SlotFields}
 use Rattle.words.specs.declared.structure_word.StructureFields.{StructureFields}
@@ -105,11 +103,11 @@ mark_lawful = record { whole = refl; of_list = λ f. refl; list_of = λ w. refl 
 
 -- ── the words of a sheet ──
 -- fields that were written are read
-pub masks_read : (f : MasksFields) → InRange masks f → reading masks (word_of masks f) ≡ MasksAre f
+pub masks_read : (f : MasksFields) → InRange masks f → reading masks (word_of masks f) ≡ Ok f
 unfolding masks
 masks_read f h = ((round_trips masks_lawful).values f h).1
 
-pub lines_read : (f : LinesFields) → InRange lines f → reading lines (word_of lines f) ≡ LinesAre f
+pub lines_read : (f : LinesFields) → InRange lines f → reading lines (word_of lines f) ≡ Ok f
 unfolding lines
 lines_read f h = ((round_trips lines_lawful).values f h).1
 

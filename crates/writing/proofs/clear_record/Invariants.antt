@@ -1,10 +1,6 @@
 -- src/lib.rt, clear_record: Is t.new (clear_record (view t.old) p.0)
-use Prim.Native.Nat.{◌-◌}
 use Rattle.writing.specs.Laws.Clearing.{Clearing}
 use Rattle.writing.proofs.clear_record.Given as goal
 
 abbrev pub invariant-loop-o : goal.invariant-loop-o
 invariant-loop-o l = Clearing l.initial.t l.p.0 l.o l.t
-
-abbrev pub decreases-loop-o : goal.decreases-loop-o
-decreases-loop-o l = 40 - l.o

@@ -1,14 +1,10 @@
 -- src/take_service.rt, returned_slot: result ≡ found_of (lowest 32 (returned (view t.now) (entry_of e)))
 use mathlib.Core.Path.{ap, sym, ◌∙◌}
-use Rattle.loops.specs.Laws.Scan.{seek_start, seek_hit, seek_on, seek_end}
+use Rattle.loops.specs.Laws.Scan.{seek_hit, seek_on, seek_end}
 use Rattle.tables.specs.Search.{lowest}
 use Rattle.tables.specs.Answers.{found_of}
 use native.Mathlib.Omega.{arith}
 use Rattle.blocks.proofs.take_service.returned_slot.Goals as goal
-
-pub loop-i-init : goal.loop-i-init
-unfolding lowest found_of
-loop-i-init c = seek_start
 
 pub returns-then-is_returned : goal.returns-then-is_returned
 unfolding lowest found_of

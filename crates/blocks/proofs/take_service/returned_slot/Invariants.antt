@@ -1,5 +1,4 @@
 -- src/take_service.rt, returned_slot: result ≡ found_of (lowest 32 (returned (view t.now) (entry_of e)))
-use Prim.Native.Nat.{◌-◌}
 use Rattle.loops.specs.Laws.Scan.{Seeking}
 use Rattle.tables.specs.State.{none, some}
 use Rattle.tables.specs.View.{view, entry_of}
@@ -8,6 +7,3 @@ use Rattle.blocks.proofs.take_service.returned_slot.Given as goal
 
 abbrev pub invariant-loop-i : goal.invariant-loop-i
 invariant-loop-i l = Seeking (returned (view l.t) (entry_of l.e)) some none 32 l.i
-
-abbrev pub decreases-loop-i : goal.decreases-loop-i
-decreases-loop-i l = 32 - l.i

@@ -3,8 +3,8 @@ use Rattle.board8.specs.Laws.Regions.{write_lent, write_lent_not}
 use borrow.Author.Rules.{rules}
 use Rattle.board8.proofs.regions.ulavrepit_region_write.Goals as goal
 
-pub returns-in-Pair : goal.returns-in-Pair
-returns-in-Pair c = write_lent _ _ _ _ _ c.pair_bytes.ensures _ c.in-Pair.is
+pub returns-in-Ok : goal.returns-in-Ok
+returns-in-Ok c = write_lent _ _ _ _ _ c.pair_bytes.ensures _ c.in-Ok.is
 
-pub returns-in-Refused : goal.returns-in-Refused
-returns-in-Refused c = write_lent_not _ _ _ _ _ c.pair_bytes.ensures _ c.in-Refused.is
+pub returns-in-Err : goal.returns-in-Err
+returns-in-Err c = write_lent_not _ _ _ _ _ c.pair_bytes.ensures _ c.from.ensures c.in-Err.is

@@ -3,6 +3,7 @@ use mathlib.Core.Path.{refl, sym}
 use borrow.Author.Tests.{not-false, eq-eqb}
 use Rattle.sound.specs.Laws.Tests.{not_says}
 use Rattle.sound.proofs.Laws.MeansRegions.{beq_means}
+use Rattle.words.specs.Laws.Same.{ne_same, ne_apart}
 use Rattle.decide.specs.Laws.Tiles.{compare_start, set_start, set_on, few, stuck_as, other_bits, same_bits, tile_start, tile_none, tile_elsewhere, tile_over, tile_unlike, tile_next, compare_next, not_first}
 use native.Mathlib.Omega.{arith}
 use borrow.Author.Rules.{rules}
@@ -17,8 +18,8 @@ returns-then-k-n c = stuck_as (few c.requires.0) (tile_none c.requires.0 c.loop-
 pub entry_at-f-requires : goal.entry_at-f-requires
 entry_at-f-requires c = let h = c.requires.0 in (h.in_p, omega (arith, h.rows.ordered.few), h.rows.ordered.under _ (omega arith))
 
-pub returns-then-f-at : goal.returns-then-f-at
-returns-then-f-at c = stuck_as (few c.requires.0) (tile_elsewhere c.requires.0 c.loop-at.invariant.1 (omega arith) (omega arith) c.entry_at-f.ensures c.if-f-at.true)
+pub returns-then-ne : goal.returns-then-ne
+returns-then-ne c = stuck_as (few c.requires.0) (tile_elsewhere c.requires.0 c.loop-at.invariant.1 (omega arith) (omega arith) c.entry_at-f.ensures (ne_apart c.ne.ensures c.if-ne.true))
 
 pub returns-then-f-hi : goal.returns-then-f-hi
 returns-then-f-hi c = stuck_as (few c.requires.0) (tile_over c.requires.0 c.loop-at.invariant.1 (omega arith) (omega arith) c.entry_at-f.ensures c.if-f-hi.true)
@@ -34,7 +35,7 @@ loop-at-smaller c = omega arith
 
 pub loop-at-preserved : goal.loop-at-preserved
 loop-at-preserved c =
-    let u = c.if-f-at.false in (
+    let u = ne_same c.ne.ensures c.if-ne.false in (
       omega arith,
       tile_next c.requires.0 c.loop-at.invariant.1 (omega arith) (omega arith) c.entry_at-f.ensures c.loop-at.invariant.2 u (omega arith) (rw (← c.loop-at.invariant.3, ← c.follows.ensures) c.if-not-follows.false),
       compare_next c.requires.0 c.loop-at.invariant.1 (omega arith) (omega arith) c.entry_at-f.ensures c.loop-at.invariant.2 u (omega arith) (rw (← c.loop-at.invariant.3, ← c.follows.ensures) c.if-not-follows.false),

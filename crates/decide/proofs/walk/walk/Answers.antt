@@ -1,4 +1,4 @@
--- src/walk.rt, walk: WalkSays t.now order.now counts.now mark.now 16 0 result next.new
+-- src/walk.rt, walk: WalkSays t.now order.now.slots order.now.counts mark.now 16 0 result next.new
 use native.Mathlib.Omega.{arith}
 use Rattle.decide.specs.Laws.Walk.{all_done, walk_says, walk_fails}
 use mathlib.Core.Path.{ap}

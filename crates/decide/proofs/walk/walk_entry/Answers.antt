@@ -1,4 +1,4 @@
--- src/walk.rt, walk_entry: WalkSays t.now order.now counts.now mark.now q.0 (j + 1) result next.new
+-- src/walk.rt, walk_entry: WalkSays t.now order.now.slots order.now.counts mark.now q.0 (j + 1) result next.new
 use native.Mathlib.Omega.{arith}
 use Rattle.decide.specs.Laws.Decide.{passed}
 use Rattle.decide.specs.Laws.Tiles.{seen_present}

@@ -1,4 +1,4 @@
--- src/walk.rt, walk_partition: WalkSays t.now order.now counts.now mark.now (q.0 + 1) 0 result next.new
+-- src/walk.rt, walk_partition: WalkSays t.now order.now.slots order.now.counts mark.now (q.0 + 1) 0 result next.new
 use mathlib.Core.Path.{sym, ◌∙◌, ap}
 use Rattle.decide.specs.Laws.Decide.{passed}
 use Rattle.decide.specs.Laws.Walk.{row_absent, walk_says}

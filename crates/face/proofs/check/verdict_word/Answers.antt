@@ -14,9 +14,9 @@ pub packed-requires-in-Fails : goal.packed-requires-in-Fails
 unfolding result_of checked
 packed-requires-in-Fails c = let h = c.requires.fails _ _ c.in-Fails.is in (omega arith, omega arith, omega (arith, h.0, h.1))
 
-pub packed-requires-in-Length : goal.packed-requires-in-Length
+pub refused-requires : goal.refused-requires
 unfolding result_of checked
-packed-requires-in-Length c = (omega arith, omega arith, omega arith)
+refused-requires c = omega arith
 
 pub returns-in-Accepted : goal.returns-in-Accepted
 unfolding result_of checked
@@ -28,4 +28,4 @@ returns-in-Fails c = c.packed-in-Fails.ensures ∙ ap (λ (v : Verdict). result_
 
 pub returns-in-Length : goal.returns-in-Length
 unfolding result_of checked
-returns-in-Length c = c.packed-in-Length.ensures ∙ ap (λ (v : Verdict). result_of 0 (checked v)) (sym c.in-Length.is)
+returns-in-Length c = c.refused.ensures ∙ ap (λ (v : Verdict). result_of 0 (checked v)) (sym c.in-Length.is)

@@ -7,16 +7,16 @@ use Rattle.face.proofs.lists.answer_word.Goals as goal
 
 pub packed-requires : goal.packed-requires
 unfolding result_of
-packed-requires c = (omega arith, omega arith, subst Small c.in-Done.is c.requires)
+packed-requires c = (omega arith, omega arith, subst Small c.in-Ok.is c.requires)
 
-pub packed-requires-in-Refused : goal.packed-requires-in-Refused
+pub refused-requires : goal.refused-requires
 unfolding result_of
-packed-requires-in-Refused c = (subst Small c.in-Refused.is c.requires, omega arith, omega arith)
+refused-requires c = omega arith
 
-pub returns-in-Done : goal.returns-in-Done
+pub returns-in-Ok : goal.returns-in-Ok
 unfolding result_of
-returns-in-Done c = c.packed.ensures ∙ ap (result_of 0) (sym c.in-Done.is)
+returns-in-Ok c = c.packed.ensures ∙ ap (result_of 0) (sym c.in-Ok.is)
 
-pub returns-in-Refused : goal.returns-in-Refused
+pub returns-in-Err : goal.returns-in-Err
 unfolding result_of
-returns-in-Refused c = c.packed-in-Refused.ensures ∙ ap (result_of 0) (sym c.in-Refused.is)
+returns-in-Err c = c.refused.ensures ∙ ap (result_of 0) (sym c.in-Err.is)

@@ -13,7 +13,7 @@ use Rattle.face.proofs.lists.plan_bytes.Goals as goal
 
 pub returns-then-table-ne5128 : goal.returns-then-table-ne5128
 unfolding result_of
-returns-then-table-ne5128 c = ready_none _ _ _ (λ z. omega (arith, z)) c.requires
+returns-then-table-ne5128 c = rw c.refused.ensures (ready_none _ _ _ (λ z. omega (arith, z)) c.requires)
 
 pub load-top-requires : goal.load-top-requires
 unfolding result_of

@@ -1,5 +1,4 @@
 -- src/limit.rt, loaded_pieces: result ≡ pieces_of board (view t.now) p.0 f
-use Prim.Native.Nat.{◌-◌}
 use Rattle.loops.specs.Laws.Count.{Summing}
 use Rattle.tables.specs.View.{nth_region, named, view}
 use Rattle.sound.specs.Limit.{region_pieces}
@@ -7,6 +6,3 @@ use Rattle.loaded.proofs.limit.loaded_pieces.Given as goal
 
 abbrev pub invariant-loop-r : goal.invariant-loop-r
 invariant-loop-r l = Summing (λ q. region_pieces l.board ((view l.t).k.slot l.p.0) (named (nth_region l.f q))) 52 8 l.r l.n
-
-abbrev pub decreases-loop-r : goal.decreases-loop-r
-decreases-loop-r l = 8 - l.r

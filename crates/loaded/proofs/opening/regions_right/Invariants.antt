@@ -1,5 +1,5 @@
 -- src/opening.rt, regions_right: result ≡ s10 board (view t.now) p.0
-use Rattle.regionwords.specs.Laws.Later.{bytes_left}
+use Rattle.words.specs.Laws.Later.{bytes_left}
 use Rattle.loaded.specs.Laws.Regions.{WeighingLeft}
 use Rattle.loaded.proofs.opening.regions_right.Given as goal
 

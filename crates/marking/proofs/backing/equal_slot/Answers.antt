@@ -10,10 +10,6 @@ pub loop-i-init : goal.loop-i-init
 unfolding backs
 loop-i-init c = seek_start
 
-pub entry-f-requires : goal.entry-f-requires
-unfolding backs
-entry-f-requires c = (c.requires.0, omega (arith, c.used_slots-used.ensures.bound.within))
-
 pub returns-then-backs : goal.returns-then-backs
 unfolding backs
 returns-then-backs c = seek_hit c.loop-i.invariant (omega (arith, c.used_slots-used.ensures.bound.within)) (rw (c.entry-f.ensures.slot, ← c.backs.ensures) c.if-backs.true)

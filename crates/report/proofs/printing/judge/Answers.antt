@@ -5,8 +5,8 @@ use borrow.Author.Rules.{rules}
 use borrow.Author.Tests.{ltb-true, ltb-false}
 use Rattle.std.specs.Io.KnownBytes.{Appends, Consumes, IsAtEnd}
 use Rattle.shapes.specs.declared.Board.{Board}
-use Rattle.verdict.specs.Verdict.{image_verdict, ClauseNamed}
-use Rattle.verdict.proofs.Theorem.{image_few, image_length}
+use Rattle.verdict.specs.Verdict.{image_verdict}
+use Rattle.verdict.proofs.Theorem.{image_length}
 use Rattle.report.specs.Report.{printed_line}
 use Rattle.report.proofs.printing.judge.Goals as goal
 
@@ -36,14 +36,11 @@ module _ (board : Board) (image : List ℕ) (n : ℕ) (room : 5128 < length imag
   judged (Ok x) (Some xs) (Some rest) w v line taken ended same said =
       subst (Appends w v) (same ∙ ap printed_line (whole xs rest ended taken)) said
 
-pub of_verdict-line-requires : goal.of_verdict-line-requires
-of_verdict-line-requires g c = subst ClauseNamed (sym c.of_image.ensures) (image_few _ _)
-
 pub returns : goal.returns
 returns g c =
-    judged c.args.board c.read_full.new.buffer c.in_ok-len.len (search rules) c.in_ok-len.ensures.within.0 c.show.result
+    judged c.args.board c.read_full.new.buffer c.in_ok-len.len (search rules) c.in_ok-len.ensures.within.0 c.print.result
     (g.R.Read.remaining c.args.input.now) (g.R.Read.remaining c.read_full.new.input)
-    (g.W.Write.contents c.args.out.now) (g.W.Write.contents c.show.new.out)
-    (take c.of_verdict-line.result.len c.of_verdict-line.result.bytes)
+    (g.W.Write.contents c.args.out.now) (g.W.Write.contents c.print.new.out)
+    (printed_line c.of_image.result)
     c.in_ok-len.ensures.bytes c.in_ok-len.ensures.end
-    (c.of_verdict-line.ensures.line ∙ ap printed_line c.of_image.ensures) (c.show.ensures (search rules))
+    (ap printed_line c.of_image.ensures) c.print.ensures

@@ -4,6 +4,3 @@ use Rattle.runs.proofs.pieces.climb.Given as goal
 
 abbrev pub invariant-loop-d : goal.invariant-loop-d
 invariant-loop-d l = Climbing l.way l.depth l.l.0 l.d
-
-abbrev pub decreases-loop-d : goal.decreases-loop-d
-decreases-loop-d l = l.d

@@ -1,26 +1,10 @@
 -- src/pieces.rt, hop_at: Hopped (view t.now).k l.0 p.0 result × Passed (view t.now).k order.now l.0 places.new
 use native.Mathlib.Omega.{arith}
-use Rattle.runs.specs.Laws.Pieces.{holder_small}
 use Rattle.runs.specs.Laws.Places.{pass_in, pass_on, pass_here, passed_set}
 use Rattle.runs.proofs.pieces.hop_at.Goals as goal
 
-pub offset_bounds-places-at : goal.offset_bounds-places-at
-offset_bounds-places-at c = omega (arith, holder_small c.requires.0 c.requires.3)
-
-pub bounds-places-at : goal.bounds-places-at
-bounds-places-at c = omega (arith, holder_small c.requires.0 c.requires.3)
-
-pub loop-a-init : goal.loop-a-init
-loop-a-init c = record { passing = c.requires.2.at _ (holder_small c.requires.0 c.requires.3); passed = c.requires.2 }
-
 pub entry_at-f-requires : goal.entry_at-f-requires
 entry_at-f-requires c = pass_in c.requires.0 c.requires.1 c.requires.3 c.loop-a.invariant.passing
-
-pub offset_bounds-places-at-then-l-f : goal.offset_bounds-places-at-then-l-f
-offset_bounds-places-at-then-l-f c = omega (arith, holder_small c.requires.0 c.requires.3)
-
-pub bounds-places-at-then-l-f : goal.bounds-places-at-then-l-f
-bounds-places-at-then-l-f c = omega (arith, holder_small c.requires.0 c.requires.3)
 
 pub returns-then-l-f : goal.returns-then-l-f
 returns-then-l-f c = (

@@ -1,5 +1,5 @@
 -- src/clear_service.rt, clear_children: Cleared t.old p.0 (result + 1) t.new; clear_partition: Cleared t.old p.0 result t.new
-use Prim.Native.Nat.{◌+◌, ◌-◌, ◌*◌}
+use Prim.Native.Nat.{◌+◌, ◌*◌}
 use Rattle.tables.specs.View.{view}
 use Rattle.services.specs.Laws.ClearExits.{left, Emptying}
 use Rattle.services.proofs.clear_service.+clear_children_clear_partition.Given as goal
@@ -13,6 +13,3 @@ decreases-clear_partition l = 2 * left l.t.now
 
 abbrev pub invariant-clear_children-loop-q : goal.invariant-clear_children-loop-q
 invariant-clear_children-loop-q l = Emptying (view l.initial.t) l.p.0 l.q l.n l.t
-
-abbrev pub decreases-clear_children-loop-q : goal.decreases-clear_children-loop-q
-decreases-clear_children-loop-q l = 16 - l.q

@@ -9,10 +9,11 @@ use Rattle.services.specs.Laws.Unsettled.{right_gone, gone_words, gone_ungiven, 
 use Rattle.services.specs.Laws.ClearExits.{ungiven_child, clear_is, cleared_out}
 use Rattle.services.specs.Laws.Masked.{fixed_removed}
 use Rattle.services.proofs.clear_service.clear_out.Goals as goal
+use Rattle.words.specs.declared.Refusal.TheVariants.{WrongPartition}
 
 pub returns-then-not-is_child : goal.returns-then-not-is_child
 unfolding clear_out
-returns-then-not-is_child c = ran_refused (fail 3 _ (child_now _ _ c.first.ensures.current (sym c.is_child.ensures ∙ c.if-not-is_child.true)))
+returns-then-not-is_child c = ran_refused (fail WrongPartition _ (child_now _ _ c.first.ensures.current (sym c.is_child.ensures ∙ c.if-not-is_child.true)))
 
 pub clear_partition-n-requires : goal.clear_partition-n-requires
 unfolding clear_out

@@ -9,14 +9,15 @@ use Rattle.services.specs.Laws.CollectExits.{no_such, structure_there, occupied_
 use Rattle.services.specs.Laws.Masked.{fixed_collect}
 use native.Mathlib.Omega.{arith}
 use Rattle.services.proofs.collect_service.collect.Goals as goal
+use Rattle.words.specs.declared.Refusal.TheVariants.{WrongPartition, NoEntry, InUse}
 
 pub returns-then-not-own_or_child : goal.returns-then-not-own_or_child
 unfolding collect
-returns-then-not-own_or_child c = ran_refused (fail 3 _ (sym c.own_or_child.ensures ∙ c.if-not-own_or_child.true))
+returns-then-not-own_or_child c = ran_refused (fail WrongPartition _ (sym c.own_or_child.ensures ∙ c.if-not-own_or_child.true))
 
 pub returns-then-j-ge4 : goal.returns-then-j-ge4
 unfolding collect
-returns-then-j-ge4 c = ran_refused (pass 3 (sym c.own_or_child.ensures ∙ c.if-not-own_or_child.false) (fail 4 _ (no_such _ _ c.if-j-ge4.true)))
+returns-then-j-ge4 c = ran_refused (pass WrongPartition (sym c.own_or_child.ensures ∙ c.if-not-own_or_child.false) (fail NoEntry _ (no_such _ _ c.if-j-ge4.true)))
 
 pub structure-f-requires : goal.structure-f-requires
 unfolding collect
@@ -24,7 +25,7 @@ structure-f-requires c = (c.requires.1, c.if-j-ge4.false)
 
 pub returns-then-not-f : goal.returns-then-not-f
 unfolding collect
-returns-then-not-f c = ran_refused (pass 3 (sym c.own_or_child.ensures ∙ c.if-not-own_or_child.false) (fail 4 _ (structure_there c.structure-f.ensures c.if-j-ge4.false (not-true _ c.if-not-f.true))))
+returns-then-not-f c = ran_refused (pass WrongPartition (sym c.own_or_child.ensures ∙ c.if-not-own_or_child.false) (fail NoEntry _ (structure_there c.structure-f.ensures c.if-j-ge4.false (not-true _ c.if-not-f.true))))
 
 pub vacant-requires : goal.vacant-requires
 unfolding collect
@@ -32,7 +33,7 @@ vacant-requires c = (c.requires.1, c.if-j-ge4.false)
 
 pub returns-then-not-vacant : goal.returns-then-not-vacant
 unfolding collect
-returns-then-not-vacant c = ran_refused (pass 3 (sym c.own_or_child.ensures ∙ c.if-not-own_or_child.false) (pass 4 (structure_there c.structure-f.ensures c.if-j-ge4.false (not-false _ c.if-not-f.false)) (fail 15 _ (occupied_exit c.args.p.0 c.args.j (sym c.vacant.ensures ∙ c.if-not-vacant.true)))))
+returns-then-not-vacant c = ran_refused (pass WrongPartition (sym c.own_or_child.ensures ∙ c.if-not-own_or_child.false) (pass NoEntry (structure_there c.structure-f.ensures c.if-j-ge4.false (not-false _ c.if-not-f.false)) (fail InUse _ (occupied_exit c.args.p.0 c.args.j (sym c.vacant.ensures ∙ c.if-not-vacant.true)))))
 
 pub overflow_add-p : goal.overflow_add-p
 unfolding collect
@@ -40,7 +41,7 @@ overflow_add-p c = omega (arith, c.requires.1, c.if-j-ge4.false)
 
 pub returns-then-p-j-eq0 : goal.returns-then-p-j-eq0
 unfolding collect
-returns-then-p-j-eq0 c = ran_refused (pass 3 (sym c.own_or_child.ensures ∙ c.if-not-own_or_child.false) (pass 4 (structure_there c.structure-f.ensures c.if-j-ge4.false (not-false _ c.if-not-f.false)) (fail 15 _ (root_first _ _ (sym c.vacant.ensures ∙ c.if-not-vacant.false) c.if-p-j-eq0.true))))
+returns-then-p-j-eq0 c = ran_refused (pass WrongPartition (sym c.own_or_child.ensures ∙ c.if-not-own_or_child.false) (pass NoEntry (structure_there c.structure-f.ensures c.if-j-ge4.false (not-false _ c.if-not-f.false)) (fail InUse _ (root_first _ _ (sym c.vacant.ensures ∙ c.if-not-vacant.false) c.if-p-j-eq0.true))))
 
 pub up_from-above-requires : goal.up_from-above-requires
 unfolding collect

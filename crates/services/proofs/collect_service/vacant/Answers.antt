@@ -1,17 +1,9 @@
 -- src/collect_service.rt, vacant: result ≡ vacant (view t.now).k p.0 j
-use Rattle.loops.specs.Laws.Scan.{seek_start, seek_hit, seek_on, seek_end}
+use Rattle.loops.specs.Laws.Scan.{seek_hit, seek_on, seek_end}
 use Rattle.rules.specs.Rules.{vacant}
 use Rattle.services.specs.Laws.CollectExits.{slot_there}
 use native.Mathlib.Omega.{arith}
 use Rattle.services.proofs.collect_service.vacant.Goals as goal
-
-pub loop-i-init : goal.loop-i-init
-unfolding vacant
-loop-i-init c = seek_start
-
-pub entry-f-requires : goal.entry-f-requires
-unfolding vacant
-entry-f-requires c = (c.requires.0, omega (arith, c.requires.1))
 
 pub returns-then-f : goal.returns-then-f
 unfolding vacant

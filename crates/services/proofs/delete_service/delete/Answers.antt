@@ -9,6 +9,7 @@ use Rattle.services.specs.Laws.Unsettled.{right_gone, gone_words, gone_ungiven, 
 use Rattle.services.specs.Laws.DeleteExits.{delete_parent, delete_is, deleted}
 use Rattle.services.specs.Laws.Masked.{fixed_removed}
 use Rattle.services.proofs.delete_service.delete.Goals as goal
+use Rattle.words.specs.declared.Refusal.TheVariants.{WrongPartition}
 
 pub is_child-requires : goal.is_child-requires
 unfolding delete
@@ -16,7 +17,7 @@ is_child-requires c = c.requires.1
 
 pub returns-then-not-is_child : goal.returns-then-not-is_child
 unfolding delete
-returns-then-not-is_child c = ran_refused (fail 3 _ (child_now _ _ c.first.ensures.current (sym c.is_child.ensures ∙ c.if-not-is_child.true)))
+returns-then-not-is_child c = ran_refused (fail WrongPartition _ (child_now _ _ c.first.ensures.current (sym c.is_child.ensures ∙ c.if-not-is_child.true)))
 
 pub returns-then-has_child : goal.returns-then-has_child
 unfolding delete

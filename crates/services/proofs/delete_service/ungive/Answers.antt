@@ -1,5 +1,4 @@
 -- src/delete_service.rt, ungive: Is t.new (ungiven (view t.old) c.0 p.0)
-use Rattle.tables.specs.Laws.Encode.{is_canon}
 use Rattle.tables.specs.Laws.FitView.{fit_view}
 use Rattle.services.specs.Laws.DeleteExits.{ungive_start, ungive_more, ungive_end}
 use native.Mathlib.Omega.{arith}
@@ -7,9 +6,6 @@ use Rattle.services.proofs.delete_service.ungive.Goals as goal
 
 pub loop-i-init : goal.loop-i-init
 loop-i-init c = ungive_start c.requires.0
-
-pub ungive_slot-requires : goal.ungive_slot-requires
-ungive_slot-requires c = (is_canon c.loop-i.invariant.is, c.requires.1, omega arith)
 
 pub loop-i-preserved : goal.loop-i-preserved
 loop-i-preserved c = ungive_more c.loop-i.invariant (omega arith) c.ungive_slot.ensures

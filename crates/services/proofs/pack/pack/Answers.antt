@@ -5,14 +5,11 @@ use Rattle.rules.specs.Rules.{pack}
 use Rattle.rules.specs.Laws.Ran.{ran_refused, fail}
 use Rattle.services.specs.Laws.PackExits.{pack_start, can_turn, pack_more, pack_end}
 use Rattle.services.proofs.pack.pack.Goals as goal
-
-pub own_or_child-requires : goal.own_or_child-requires
-unfolding pack
-own_or_child-requires c = c.requires.1
+use Rattle.words.specs.declared.Refusal.TheVariants.{WrongPartition}
 
 pub returns-then-not-own_or_child : goal.returns-then-not-own_or_child
 unfolding pack
-returns-then-not-own_or_child c = ran_refused (fail 3 _ (sym c.own_or_child.ensures ∙ c.if-not-own_or_child.true))
+returns-then-not-own_or_child c = ran_refused (fail WrongPartition _ (sym c.own_or_child.ensures ∙ c.if-not-own_or_child.true))
 
 pub loop-i-init : goal.loop-i-init
 unfolding pack

@@ -13,10 +13,10 @@ pub returns-in_default : goal.returns-in_default
 returns-in_default c = turn_full c.requires c.entry-f.ensures (not-false _ c.if-not-f.false) (found_is _ (sym c.in_default.is ∙ c.free_slot-found.ensures))
 
 pub returns-then-j-i : goal.returns-then-j-i
-returns-then-j-i c = turn_above c.requires c.entry-f.ensures (not-false _ c.if-not-f.false) _ (found_is _ (sym c.in-At.is ∙ c.free_slot-found.ensures)) c.if-j-i.true
+returns-then-j-i c = turn_above c.requires c.entry-f.ensures (not-false _ c.if-not-f.false) _ (found_is _ (sym c.in-Some.is ∙ c.free_slot-found.ensures)) c.if-j-i.true
 
 pub move_entry-requires : goal.move_entry-requires
-move_entry-requires c = (record { canon = c.requires.canon; in_p = c.requires.in_p; in_i = (lowest_some 32 _ _ (found_is _ (sym c.in-At.is ∙ c.free_slot-found.ensures))).below; present = (not-false _ c.if-not-f.false); given_small = c.entry-f.ensures.given_small; start_small = c.entry-f.ensures.start_small; end_small = c.entry-f.ensures.end_small }, c.requires.in_i)
+move_entry-requires c = (record { canon = c.requires.canon; in_p = c.requires.in_p; in_i = (lowest_some 32 _ _ (found_is _ (sym c.in-Some.is ∙ c.free_slot-found.ensures))).below; present = (not-false _ c.if-not-f.false); given_small = c.entry-f.ensures.given_small; start_small = c.entry-f.ensures.start_small; end_small = c.entry-f.ensures.end_small }, c.requires.in_i)
 
 pub returns : goal.returns
-returns c = turn_moves c.requires c.entry-f.ensures (not-false _ c.if-not-f.false) _ (found_is _ (sym c.in-At.is ∙ c.free_slot-found.ensures)) c.if-j-i.false c.move_entry.ensures
+returns c = turn_moves c.requires c.entry-f.ensures (not-false _ c.if-not-f.false) _ (found_is _ (sym c.in-Some.is ∙ c.free_slot-found.ensures)) c.if-j-i.false c.move_entry.ensures

@@ -1,5 +1,4 @@
 -- src/pack.rt, rename_regions: Is t.new (renamed (view t.old) p.0 i.0 j.0)
-use Rattle.tables.specs.Laws.Encode.{is_canon}
 use Rattle.tables.specs.Laws.FitView.{fit_view}
 use Rattle.services.specs.Laws.PackExits.{rename_start, rename_more, rename_end}
 use native.Mathlib.Omega.{arith}
@@ -7,9 +6,6 @@ use Rattle.services.proofs.pack.rename_regions.Goals as goal
 
 pub loop-r-init : goal.loop-r-init
 loop-r-init c = rename_start c.requires.0
-
-pub rename_region-requires : goal.rename_region-requires
-rename_region-requires c = (is_canon c.loop-r.invariant.is, c.requires.1, c.requires.2, omega arith)
 
 pub loop-r-preserved : goal.loop-r-preserved
 loop-r-preserved c = rename_more c.loop-r.invariant (omega arith) c.rename_region.ensures

@@ -8,6 +8,7 @@ use Rattle.rules.specs.Laws.Ran.{ran_refused, ran_done, pass, fail, there, missi
 use Rattle.services.specs.Laws.RegionExits.{load_high, load_twice, load_many, load_exit_done}
 use native.Mathlib.Omega.{arith}
 use Rattle.services.proofs.region_services.load.Goals as goal
+use Rattle.words.specs.declared.Refusal.TheVariants.{WrongPartition, NoEntry, NotOpen}
 
 pub own_or_child-requires : goal.own_or_child-requires
 unfolding load
@@ -15,7 +16,7 @@ own_or_child-requires c = c.requires.1
 
 pub returns-then-not-own_or_child : goal.returns-then-not-own_or_child
 unfolding load
-returns-then-not-own_or_child c = ran_refused (fail 3 _ (sym c.own_or_child.ensures ∙ c.if-not-own_or_child.true))
+returns-then-not-own_or_child c = ran_refused (fail WrongPartition _ (sym c.own_or_child.ensures ∙ c.if-not-own_or_child.true))
 
 pub entry-f-requires : goal.entry-f-requires
 unfolding load
@@ -23,11 +24,11 @@ entry-f-requires c = (c.requires.1, c.requires.2)
 
 pub returns-then-not-f : goal.returns-then-not-f
 unfolding load
-returns-then-not-f c = ran_refused (pass 3 (sym c.own_or_child.ensures ∙ c.if-not-own_or_child.false) (missing 4 _ (entry_none c.entry-f.ensures (not-true _ c.if-not-f.true))))
+returns-then-not-f c = ran_refused (pass WrongPartition (sym c.own_or_child.ensures ∙ c.if-not-own_or_child.false) (missing NoEntry _ (entry_none c.entry-f.ensures (not-true _ c.if-not-f.true))))
 
 pub returns-then-not-f-2 : goal.returns-then-not-f-2
 unfolding load
-returns-then-not-f-2 c = ran_refused (pass 3 (sym c.own_or_child.ensures ∙ c.if-not-own_or_child.false) (there 4 _ _ (entry_there c.entry-f.ensures (not-false _ c.if-not-f.false)) (fail 5 _ (c.entry-f.ensures.opened ∙ not-true _ c.if-not-f-2.true))))
+returns-then-not-f-2 c = ran_refused (pass WrongPartition (sym c.own_or_child.ensures ∙ c.if-not-own_or_child.false) (there NoEntry _ _ (entry_there c.entry-f.ensures (not-false _ c.if-not-f.false)) (fail NotOpen _ (c.entry-f.ensures.opened ∙ not-true _ c.if-not-f-2.true))))
 
 pub returns-then-r-gt7 : goal.returns-then-r-gt7
 unfolding load

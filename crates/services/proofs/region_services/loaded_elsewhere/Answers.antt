@@ -1,14 +1,10 @@
 -- src/region_services.rt, loaded_elsewhere: result ≡ elsewhere (view t.now) p.0 s.0 r
 use mathlib.Core.Path.{sym, ◌∙◌}
-use Rattle.loops.specs.Laws.Scan.{seek_start, seek_hit, seek_on, seek_end}
+use Rattle.loops.specs.Laws.Scan.{seek_hit, seek_on, seek_end}
 use Rattle.rules.specs.Rules.{elsewhere}
 use Rattle.services.specs.RegionExits.{in_another}
 use native.Mathlib.Omega.{arith}
 use Rattle.services.proofs.region_services.loaded_elsewhere.Goals as goal
-
-pub loop-q-init : goal.loop-q-init
-unfolding elsewhere in_another
-loop-q-init c = seek_start
 
 pub returns-then-in_another : goal.returns-then-in_another
 unfolding elsewhere in_another

@@ -3,22 +3,16 @@ use Rattle.rules.specs.Laws.Changes.{mask_up_start, mask_up_root, mask_up_on, ma
 use native.Mathlib.Omega.{arith}
 use Rattle.services.proofs.who.up_from.Goals as goal
 
-pub loop-left-init : goal.loop-left-init
-loop-left-init c = mask_up_start c.requires
+pub loop-init : goal.loop-init
+loop-init c = mask_up_start c.requires
 
 pub returns-then-q-eq0 : goal.returns-then-q-eq0
-returns-then-q-eq0 c = mask_up_root c.loop-left.invariant c.if-q-eq0.true
+returns-then-q-eq0 c = mask_up_root c.loop.invariant c.if-q-eq0.true
 
-pub header-h-requires : goal.header-h-requires
-header-h-requires c = c.loop-left.invariant.small
-
-pub one_partition-mask-requires : goal.one_partition-mask-requires
-one_partition-mask-requires c = c.loop-left.invariant.small
-
-pub loop-left-preserved : goal.loop-left-preserved
-loop-left-preserved c =
+pub loop-preserved : goal.loop-preserved
+loop-preserved c =
     let parent = c.header-h.ensures in
-    mask_up_on c.loop-left.invariant c.if-q-eq0.false (omega arith) parent.parent parent.parent_small c.one_partition-mask.ensures
+    mask_up_on c.loop.invariant c.if-q-eq0.false (omega arith) parent.parent parent.parent_small c.one_partition-mask.ensures
 
 pub returns : goal.returns
-returns c = mask_up_end c.loop-left.invariant (omega arith)
+returns c = mask_up_end c.loop.invariant (omega arith)

@@ -3,16 +3,8 @@ use Rattle.settling.specs.Laws.Settled.{settled_row_start, settled_row_more, set
 use native.Mathlib.Omega.{arith}
 use Rattle.settling.proofs.came.close_slots.Goals as goal
 
-pub used_slots-n-requires : goal.used_slots-n-requires
-used_slots-n-requires c = c.requires.2
-
 pub loop-i-init : goal.loop-i-init
 loop-i-init c = settled_row_start c.requires.0 c.requires.1
-
-pub close_slot-requires : goal.close_slot-requires
-close_slot-requires c =
-    let n = c.loop-i.invariant.near in
-    (n.canon, n.still, c.requires.2, omega (arith, c.used_slots-n.ensures.is, c.used_slots-n.ensures.within))
 
 pub loop-i-preserved : goal.loop-i-preserved
 loop-i-preserved c = settled_row_more c.loop-i.invariant c.close_slot.ensures

@@ -11,10 +11,10 @@ returns-then-f c =
     let h = c.requires in
     open_stays h.0 h.1 c.entry-f.ensures c.if-f.true
 
-pub clear_of-requires : goal.clear_of-requires
-clear_of-requires c = c.requires.2.rising.few
+pub is_clear_of-requires : goal.is_clear_of-requires
+is_clear_of-requires c = c.requires.2.rising.few
 
 pub returns : goal.returns
 returns c =
     let h = c.requires in
-    opens h.0 h.1 c.entry-f.ensures h.3 h.4 h.2 (not-false _ c.if-not-f.false) c.clear_of.ensures c.write.ensures c.store.ensures
+    opens h.0 h.1 c.entry-f.ensures h.3 h.4 h.2 (not-false _ c.if-not-f.false) c.is_clear_of.ensures c.write.ensures c.store.ensures

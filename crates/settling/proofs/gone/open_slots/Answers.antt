@@ -3,9 +3,6 @@ use Rattle.settling.specs.Laws.Settled.{settled_row_start, settled_row_more, set
 use native.Mathlib.Omega.{arith}
 use Rattle.settling.proofs.gone.open_slots.Goals as goal
 
-pub used_slots-m-requires : goal.used_slots-m-requires
-used_slots-m-requires c = c.requires.3
-
 pub loop-i-init : goal.loop-i-init
 loop-i-init c = settled_row_start c.requires.0 c.requires.1
 

@@ -1,34 +1,22 @@
 -- src/gone.rt, settle_named: t.new ≡ encode (settled (view t.old))
 use mathlib.Core.Path.{refl}
-use Rattle.tables.specs.Laws.Top.{top_16}
-use Rattle.settling.specs.Laws.Settled.{masked_start, masked_small, masked_done, masked_pass, masked_end, near_areas}
+use Rattle.loops.specs.Laws.Left.{bit_not}
+use Rattle.settling.specs.Laws.Settled.{settled_all_more, settled_all_pass, settled_all_end, near_areas}
 use native.Mathlib.Omega.{arith}
 use Rattle.settling.proofs.gone.settle_named.Goals as goal
-use Rattle.settling.proofs.gone.settle_named.Goals.{then-rest-eq1, else-rest-eq1}
-
-pub gather_areas-n-requires : goal.gather_areas-n-requires
-gather_areas-n-requires c = (top_16 _, refl, refl)
-
-pub loop-rest-init : goal.loop-rest-init
-loop-rest-init c = masked_start c.requires.0 c.requires.1
+use Rattle.settling.proofs.gone.settle_named.Goals.{then-mask-p-eq1, else-mask-p-eq1}
 
 pub open_slots-requires : goal.open_slots-requires
 open_slots-requires c =
-    let n = c.loop-rest.invariant.near in
-    (n.canon, n.still, near_areas n c.gather_areas-n.ensures.areas, masked_small c.requires.2 c.loop-rest.invariant (omega arith))
+    let n = c.loop-p.invariant.near in
+    (n.canon, n.still, near_areas n c.gather.ensures.areas, omega arith)
 
-pub overflow_add-p : goal.overflow_add-p
-overflow_add-p c = omega (arith, c.loop-rest.invariant.within)
-
-pub loop-rest-smaller : goal.loop-rest-smaller
-loop-rest-smaller c = omega arith
-
-pub loop-rest-preserved : goal.loop-rest-preserved
-loop-rest-preserved c =
-    elim c.if-rest-eq1.branch [
-      | then-rest-eq1 w ↦ rw w.t-is (masked_done c.requires.2 c.loop-rest.invariant (omega arith) w.open_slots.ensures)
-      | else-rest-eq1 w ↦ rw w.t-is (masked_pass c.requires.2 c.loop-rest.invariant (omega arith) w.if-rest-eq1.false)
+pub loop-p-preserved : goal.loop-p-preserved
+loop-p-preserved c =
+    elim c.if-mask-p-eq1.branch [
+      | then-mask-p-eq1 w ↦ rw w.t-is (settled_all_more c.loop-p.invariant w.open_slots.ensures)
+      | else-mask-p-eq1 w ↦ rw w.t-is (settled_all_pass c.requires.2 c.loop-p.invariant (omega arith) (bit_not _ _ refl w.if-mask-p-eq1.false))
     ]
 
 pub returns : goal.returns
-returns c = masked_end c.requires.2 c.loop-rest.invariant c.loop-rest.invariant.near.still.named (omega arith)
+returns c = settled_all_end c.loop-p.invariant c.loop-p.invariant.near.still.named (omega arith)

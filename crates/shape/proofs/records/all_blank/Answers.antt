@@ -1,7 +1,7 @@
 -- src/records.rt, all_blank: result ≡ all 8 (λ i. blank_region (nth_region (fields_in regions w) i))
 use mathlib.Core.Path.{sym, ◌∙◌}
 use native.Mathlib.Omega.{arith}
-use Rattle.regionwords.specs.Laws.Later.{bytes_fall}
+use Rattle.words.specs.Laws.Later.{bytes_fall}
 use Rattle.shape.specs.Laws.Records.{blank_start, blank_fails, blank_on, blank_end}
 use Rattle.shape.proofs.records.all_blank.Goals as goal
 

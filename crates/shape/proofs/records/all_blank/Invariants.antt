@@ -1,5 +1,5 @@
 -- src/records.rt, all_blank: result ≡ all 8 (λ i. blank_region (nth_region (fields_in regions w) i))
-use Rattle.regionwords.specs.Laws.Later.{bytes_left}
+use Rattle.words.specs.Laws.Later.{bytes_left}
 use Rattle.shape.specs.Laws.Records.{BlankTo}
 use Rattle.shape.proofs.records.all_blank.Given as goal
 

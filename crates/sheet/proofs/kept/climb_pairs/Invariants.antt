@@ -3,8 +3,5 @@ use Rattle.tables.specs.View.{view}
 use Rattle.sheet.specs.Laws.Those.{GoingUp}
 use Rattle.sheet.proofs.kept.climb_pairs.Given as goal
 
-abbrev pub invariant-loop-left : goal.invariant-loop-left
-invariant-loop-left l = GoingUp (view l.t) l.initial.q l.initial.sheet l.q l.left l.sheet
-
-abbrev pub decreases-loop-left : goal.decreases-loop-left
-decreases-loop-left l = l.left
+abbrev pub invariant-loop : goal.invariant-loop
+invariant-loop l = GoingUp (view l.t) l.initial.q l.initial.sheet l.q l.counter l.sheet

@@ -6,25 +6,25 @@ use Rattle.sheet.proofs.kept.zero_absent.Goals as goal
 use Rattle.sheet.proofs.kept.zero_absent.Goals.{then-not-is_present, else-not-is_present}
 
 pub loop-p-init : goal.loop-p-init
-loop-p-init c = (omega arith, zero_start _ c.requires)
+loop-p-init c = zero_start _ c.requires
 
 pub is_present-requires : goal.is_present-requires
 is_present-requires c = omega arith
 
 pub zero_pair-requires : goal.zero_pair-requires
-zero_pair-requires c = (omega arith, c.loop-p.invariant.1.size)
+zero_pair-requires c = (omega arith, c.loop-p.invariant.size)
 
 pub loop-p-preserved : goal.loop-p-preserved
 loop-p-preserved c =
     let inv = c.loop-p.invariant in
     let seen = c.is_present.ensures in
     elim c.if-not-is_present.branch [
-      | then-not-is_present w ↦ (omega arith, rw w.sheet-is (zero_put _ _ inv.1 (omega arith) (sym seen ∙ w.if-not-is_present.true) w.zero_pair.ensures))
-      | else-not-is_present w ↦ (omega arith, rw w.sheet-is (zero_skip _ _ inv.1 (omega arith) (sym seen ∙ w.if-not-is_present.false)))
+      | then-not-is_present w ↦ rw w.sheet-is (zero_put _ _ inv (omega arith) (sym seen ∙ w.if-not-is_present.true) w.zero_pair.ensures)
+      | else-not-is_present w ↦ rw w.sheet-is (zero_skip _ _ inv (omega arith) (sym seen ∙ w.if-not-is_present.false))
     ]
 
 pub shape_of-sheet : goal.shape_of-sheet
-shape_of-sheet c = c.loop-p.invariant.1.size ∙ sym c.requires
+shape_of-sheet c = c.loop-p.invariant.size ∙ sym c.requires
 
 pub returns : goal.returns
-returns c = zero_end _ c.loop-p.invariant.1 (omega arith)
+returns c = zero_end _ c.loop-p.invariant (omega arith)

@@ -6,6 +6,3 @@ use Rattle.summing.proofs.pairs.structures.Given as goal
 
 abbrev pub invariant-loop-j : goal.invariant-loop-j
 invariant-loop-j l = Mapping (structured (view l.t).k l.p.0) 0 4 l.j l.mask
-
-abbrev pub decreases-loop-j : goal.decreases-loop-j
-decreases-loop-j l = l.j

@@ -3,7 +3,7 @@ use mathlib.Core.Path.{◌≡◌}
 use Prim.Native.Nat.{◌*◌}
 use borrow.Author.Tests.{not-true}
 use Rattle.tables.specs.Laws.Search.{structure_some}
-use Rattle.summing.specs.Laws.Sums.{right_ranged, absent_room, add_absent}
+use Rattle.summing.specs.Laws.Sums.{adding_at, right_ranged, absent_room, add_absent}
 use native.Mathlib.Omega.{arith}
 use Rattle.summing.proofs.sums.add_structure.Goals as goal
 
@@ -17,7 +17,7 @@ pub loop-i-init : goal.loop-i-init
 loop-i-init c = (omega arith, c.requires.3)
 
 pub add_slot-sums-requires : goal.add_slot-sums-requires
-add_slot-sums-requires c = let asked = c.requires in (asked.0, omega arith, c.loop-i.invariant.1, right_ranged asked.2 _ _)
+add_slot-sums-requires c = let asked = c.requires in (asked.0, adding_at _ _ (omega arith) c.loop-i.invariant.1, right_ranged asked.2 _ _)
 
 pub loop-i-preserved : goal.loop-i-preserved
 loop-i-preserved c = (omega arith, c.add_slot-sums.ensures)

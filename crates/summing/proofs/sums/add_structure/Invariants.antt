@@ -6,6 +6,3 @@ use Rattle.summing.proofs.sums.add_structure.Given as goal
 
 abbrev pub invariant-loop-i : goal.invariant-loop-i
 invariant-loop-i l = (8 * l.j ≤ l.i) × Adding (view l.t) l.p.0 l.i l.sums
-
-abbrev pub decreases-loop-i : goal.decreases-loop-i
-decreases-loop-i l = l.i

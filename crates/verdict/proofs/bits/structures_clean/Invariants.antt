@@ -1,5 +1,5 @@
 -- src/bits.rt, structures_clean: result ≡ all 4 (λ j. zeroed structure (area_word_at t.now p.0 (1 + j)))
-use Prim.Native.Nat.{◌+◌, ◌-◌}
+use Prim.Native.Nat.{◌+◌}
 use Rattle.loops.specs.Laws.Every.{Passing}
 use Rattle.words.specs.Kind.{zeroed}
 use Rattle.words.specs.Words.{structure}
@@ -8,6 +8,3 @@ use Rattle.verdict.proofs.bits.structures_clean.Given as goal
 
 abbrev pub invariant-loop-j : goal.invariant-loop-j
 invariant-loop-j l = Passing (λ i. zeroed structure (area_word_at l.t l.p.0 (1 + i))) 4 l.j
-
-abbrev pub decreases-loop-j : goal.decreases-loop-j
-decreases-loop-j l = 4 - l.j

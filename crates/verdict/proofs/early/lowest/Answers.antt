@@ -6,16 +6,16 @@ use mathlib.Core.Bool.{not}
 use Rattle.verdict.proofs.early.lowest.Goals as goal
 
 pub loop-m-init : goal.loop-m-init
-loop-m-init c = (cleared_start, omega arith)
+loop-m-init c = cleared_start
 
 pub holds-requires : goal.holds-requires
-holds-requires c = (omega arith, omega arith, cleared_reached c.loop-m.invariant.0 (omega arith))
+holds-requires c = (omega arith, omega arith, cleared_reached c.loop-m.invariant (omega arith))
 
 pub returns-then-not-holds : goal.returns-then-not-holds
-returns-then-not-holds c = cleared_hit c.loop-m.invariant.0 c.holds.ensures 96 (omega arith) (ap not c.if-not-holds.true)
+returns-then-not-holds c = cleared_hit c.loop-m.invariant c.holds.ensures 96 (omega arith) (ap not c.if-not-holds.true)
 
 pub loop-m-preserved : goal.loop-m-preserved
-loop-m-preserved c = (cleared_on c.loop-m.invariant.0 c.holds.ensures (ap not c.if-not-holds.false), omega arith)
+loop-m-preserved c = cleared_on c.loop-m.invariant c.holds.ensures (ap not c.if-not-holds.false)
 
 pub returns : goal.returns
-returns c = cleared_end c.loop-m.invariant.0 96 (omega (arith, c.loop-m.invariant.1))
+returns c = cleared_end c.loop-m.invariant 96 (omega arith)

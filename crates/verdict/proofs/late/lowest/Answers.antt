@@ -6,16 +6,16 @@ use mathlib.Core.Bool.{not}
 use Rattle.verdict.proofs.late.lowest.Goals as goal
 
 pub loop-m-init : goal.loop-m-init
-loop-m-init c = (cleared_from c.requires.reached, omega arith, omega arith)
+loop-m-init c = cleared_from c.requires.reached
 
 pub holds-requires : goal.holds-requires
-holds-requires c = (omega arith, omega (arith, c.loop-m.invariant.1), cleared_reached c.loop-m.invariant.0 (omega arith), c.requires)
+holds-requires c = (omega arith, omega arith, cleared_reached c.loop-m.invariant (omega arith), c.requires)
 
 pub returns-then-not-holds : goal.returns-then-not-holds
-returns-then-not-holds c = cleared_hit c.loop-m.invariant.0 c.holds.ensures 176 (omega arith) (ap not c.if-not-holds.true)
+returns-then-not-holds c = cleared_hit c.loop-m.invariant c.holds.ensures 176 (omega arith) (ap not c.if-not-holds.true)
 
 pub loop-m-preserved : goal.loop-m-preserved
-loop-m-preserved c = (cleared_on c.loop-m.invariant.0 c.holds.ensures (ap not c.if-not-holds.false), omega (arith, c.loop-m.invariant.1), omega arith)
+loop-m-preserved c = cleared_on c.loop-m.invariant c.holds.ensures (ap not c.if-not-holds.false)
 
 pub returns : goal.returns
-returns c = cleared_end c.loop-m.invariant.0 176 (omega (arith, c.loop-m.invariant.2))
+returns c = cleared_end c.loop-m.invariant 176 (omega arith)

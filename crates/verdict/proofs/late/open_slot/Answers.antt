@@ -6,10 +6,10 @@ use Rattle.verdict.proofs.late.open_slot.Goals as goal
 pub returns-then-not-f : goal.returns-then-not-f
 returns-then-not-f c = let f = c.entry-f in let h = c.requires in open_empty f.ensures h.2 h.0 h.1 (not-true f.result.present c.if-not-f.true)
 
-pub clear_of-requires : goal.clear_of-requires
-clear_of-requires c = c.requires.3.rising.few
+pub is_clear_of-requires : goal.is_clear_of-requires
+is_clear_of-requires c = c.requires.3.rising.few
 
 pub returns : goal.returns
 returns c =
     let f = c.entry-f in
-    open_there f.ensures c.requires.3 (not-false f.result.present c.if-not-f.false) c.clear_of.ensures
+    open_there f.ensures c.requires.3 (not-false f.result.present c.if-not-f.false) c.is_clear_of.ensures

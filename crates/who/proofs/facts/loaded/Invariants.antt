@@ -1,5 +1,4 @@
 -- src/facts.rt, loaded: result ≡ any 8 (names_it (view t.now) p.0 s.0)
-use Prim.Native.Nat.{◌-◌}
 use Rattle.loops.specs.Laws.Every.{Missing}
 use Rattle.tables.specs.View.{view}
 use Rattle.who.specs.Who.{names_it}
@@ -7,6 +6,3 @@ use Rattle.who.proofs.facts.loaded.Given as goal
 
 abbrev pub invariant-loop-r : goal.invariant-loop-r
 invariant-loop-r l = Missing (names_it (view l.t) l.p.0 l.s.0) 8 l.r
-
-abbrev pub decreases-loop-r : goal.decreases-loop-r
-decreases-loop-r l = 8 - l.r

@@ -32,15 +32,15 @@ module _ (kind numbers : List ℕ) where
 
 pub loop-n-init : goal.loop-n-init
 unfolding numbers_text
-loop-n-init g c = subst (Appends _ _) (sym (append-nil c.args.kind.now)) c.in_ok-write_all.ensures.bytes
+loop-n-init g c = subst (Appends _ _) (sym (append-nil c.args.kind.now)) c.in_ok-write.ensures.bytes
 
 pub loop-n-preserved : goal.loop-n-preserved
 loop-n-preserved g c =
     subst (Appends _ _) (one_more c.args.kind.now c.args.numbers.now c.loop-n.n-index c.loop-n-test.true)
-    (Appends-trans _ _ _ _ _ c.loop-n.invariant c.in_ok-number.ensures)
+    (Appends-trans _ _ _ _ _ c.loop-n.invariant c.in_ok-write-2.ensures.bytes)
 
 pub returns : goal.returns
 returns g c =
-    line_ended c.args.kind.now c.args.numbers.now c.byte.result
-    (g.W.Write.contents c.args.out.now) (g.W.Write.contents c.loop-n.out) (g.W.Write.contents c.byte.new.out)
-    c.loop-n.n-index c.loop-n-test.false c.loop-n.invariant c.byte.ensures
+    line_ended c.args.kind.now c.args.numbers.now c.writeln.result
+    (g.W.Write.contents c.args.out.now) (g.W.Write.contents c.loop-n.out) (g.W.Write.contents c.writeln.new.self)
+    c.loop-n.n-index c.loop-n-test.false c.loop-n.invariant c.writeln.ensures.bytes

@@ -1,8 +1,0 @@
--- src/boot_word.rt, zero_bits: result ≡ zero_sum boot.parts w
-use native.Mathlib.Nat.{add-zero, div-one}
-use Rattle.words.specs.Words.{boot}
-use Rattle.otherwords.proofs.boot_word.zero_bits.Goals as goal
-
-pub returns : goal.returns
-unfolding boot
-returns c = simp (add-zero, div-one)

@@ -1,8 +1,0 @@
--- src/call_word.rt, zero_bits: result ≡ zero_sum call.parts w
-use native.Mathlib.Nat.{add-zero, div-one}
-use Rattle.words.specs.Words.{call}
-use Rattle.otherwords.proofs.call_word.zero_bits.Goals as goal
-
-pub returns : goal.returns
-unfolding call
-returns c = simp (add-zero, div-one)

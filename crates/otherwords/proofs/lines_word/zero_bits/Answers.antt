@@ -1,8 +1,0 @@
--- src/lines_word.rt, zero_bits: result ≡ zero_sum lines.parts w
-use native.Mathlib.Nat.{add-zero, div-one}
-use Rattle.words.specs.Words.{lines}
-use Rattle.otherwords.proofs.lines_word.zero_bits.Goals as goal
-
-pub returns : goal.returns
-unfolding lines
-returns c = simp (add-zero, div-one)

@@ -1,8 +1,0 @@
--- src/pair_word.rt, fields: result ≡ fields_in pair w
-use native.Mathlib.Nat.{div-one}
-use Rattle.pairs.specs.Word.{pair}
-use Rattle.pairs.proofs.pair_word.fields.Goals as goal
-
-pub returns : goal.returns
-unfolding pair
-returns c = simp div-one

@@ -1,8 +1,0 @@
--- src/regions_word.rt, later_regions: result ≡ later_regions w
-use mathlib.Core.Path.{refl}
-use Rattle.regionwords.specs.Later.{later_regions}
-use Rattle.regionwords.proofs.regions_word.later_regions.Goals as goal
-
-pub returns : goal.returns
-unfolding later_regions
-returns c = refl

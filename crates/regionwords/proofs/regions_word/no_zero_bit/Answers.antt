@@ -1,8 +1,0 @@
--- src/regions_word.rt, no_zero_bit: result ≡ zeroed regions w
-use mathlib.Core.Bool.{and-true}
-use Rattle.words.specs.Words.{regions}
-use Rattle.regionwords.proofs.regions_word.no_zero_bit.Goals as goal
-
-pub returns : goal.returns
-unfolding regions
-returns c = simp and-true

@@ -1,3 +1,0 @@
-pub mod Half
-pub mod Later
-pub mod Laws

@@ -1,8 +1,0 @@
--- src/header_word.rt, zero_bits: result ≡ zero_sum header.parts w
-use native.Mathlib.Nat.{add-zero, div-one}
-use Rattle.words.specs.Words.{header}
-use Rattle.tablewords.proofs.header_word.zero_bits.Goals as goal
-
-pub returns : goal.returns
-unfolding header
-returns c = simp (add-zero, div-one)

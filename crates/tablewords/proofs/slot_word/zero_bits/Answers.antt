@@ -1,8 +1,0 @@
--- src/slot_word.rt, zero_bits: result ≡ zero_sum slot.parts w
-use mathlib.Core.Path.{refl}
-use Rattle.words.specs.Words.{slot}
-use Rattle.tablewords.proofs.slot_word.zero_bits.Goals as goal
-
-pub returns : goal.returns
-unfolding slot
-returns c = refl
