@@ -37,23 +37,31 @@ fn serve_words<W: Write>(
     Ok(number)
 }
 
-// Carries out all call words. Only the last piece of the input is not full; the bytes that it has beyond its words are counted.
+// Carries out all call words: those of the first piece, which come behind the boot word, and those of the pieces after it if it was full.
+// Only the last piece is not full; the bytes that it has beyond its words are counted.
 fn serve_input<R: Read, W: Write>(
     input: &mut R,
     out: &mut W,
     t: &mut [u64; 641],
+    first: &[u8],
+    full: bool,
 ) -> io::Result<usize> {
     let mut piece = [0u8; 4096];
-    let mut number = 0;
+    let mut more = full;
+    let (words, rest) = first.as_chunks();
+    let mut left = rest.len();
+    let mut number = serve_words(out, t, words, 0)?;
     for _ in 0..u64::MAX {
+        if !more {
+            return Ok(left);
+        }
         let len = report::read_full(input, &mut piece)?;
         let (words, rest) = piece[..len].as_chunks();
+        left = rest.len();
         number = serve_words(out, t, words, number)?;
-        if len < piece.len() {
-            return Ok(rest.len());
-        }
+        more = len == piece.len();
     }
-    Ok(0)
+    Ok(left)
 }
 
 // A run, and the names of its holders.
@@ -81,13 +89,20 @@ fn print_runs<W: Write>(out: &mut W, t: &[u64; 641]) -> io::Result<()> {
     Ok(())
 }
 
-fn session<R: Read, W: Write>(input: &mut R, out: &mut W, base: Line, end: Line) -> io::Result<()> {
+fn session<R: Read, W: Write>(
+    input: &mut R,
+    out: &mut W,
+    first: &[u8],
+    full: bool,
+    base: Line,
+    end: Line,
+) -> io::Result<()> {
     let mut t = [0u64; 641];
     let outcome = services::boot_service::boot_table(&mut t, u64::from(base.0), u64::from(end.0));
     if let Err(why) = outcome {
         return print_boot(out, why);
     }
-    let rest = serve_input(input, out, &mut t)?;
+    let rest = serve_input(input, out, &mut t, first, full)?;
     if rest != 0 {
         writeln!(out, "rest {rest}")?;
     }
@@ -97,12 +112,16 @@ fn session<R: Read, W: Write>(input: &mut R, out: &mut W, base: Line, end: Line)
 fn main(rt: HostRuntime) -> io::Result<()> {
     let mut input = rt.stdin();
     let mut out = rt.stdout();
-    let mut word = [0u8; 8];
-    if report::read_full(&mut input, &mut word)? < 8 {
+    let mut piece = [0u8; 4096];
+    let len = report::read_full(&mut input, &mut piece)?;
+    if len < 8 {
         return print_boot(&mut out, Refusal::BadWord);
     }
+    let mut word = [0u8; 8];
+    word.copy_from_slice(&piece[..8]);
+    let full = len == piece.len();
     match BootFields::read(u64::from_be_bytes(word)) {
-        Ok(f) => session(&mut input, &mut out, f.base, f.end),
+        Ok(f) => session(&mut input, &mut out, &piece[8..len], full, f.base, f.end),
         Err(why) => print_boot(&mut out, why),
     }
 }
