@@ -1,6 +1,7 @@
 #![tactic(auto)]
 
 // Reads a boot word and then call words, and prints the session: see document 01, "A session printed whole".
+use arrayvec::ArrayVec;
 use runs::Run;
 use shapes::Board;
 use std::io;
@@ -9,16 +10,29 @@ use tables::Outcome;
 use words::boot_word::BootFields;
 use words::{Line, Packed, Refusal};
 
+// A line is put together first, so that it leaves in one write. The longest, a call's, has at most 61 bytes with its end.
+type Text = ArrayVec<u8, 64>;
+
 fn print_boot<W: Write>(out: &mut W, why: Refusal) -> io::Result<()> {
-    writeln!(out, "boot {}", u64::from(why))
+    let mut line = Text::new();
+    writeln!(line, "boot {}", u64::from(why))?;
+    out.write_all(&line)
+}
+
+fn print_rest<W: Write>(out: &mut W, bytes: usize) -> io::Result<()> {
+    let mut line = Text::new();
+    writeln!(line, "rest {bytes}")?;
+    out.write_all(&line)
 }
 
 // The call's number, its refusal number or 0, and its two values.
 fn print_call<W: Write>(out: &mut W, number: u64, outcome: Outcome) -> io::Result<()> {
+    let mut line = Text::new();
     match outcome {
-        Ok((first, second)) => writeln!(out, "{number} 0 {first} {second:016x}"),
-        Err(why) => writeln!(out, "{number} {} 0 {:016x}", u64::from(why), 0),
+        Ok((first, second)) => writeln!(line, "{number} 0 {first} {second:016x}")?,
+        Err(why) => writeln!(line, "{number} {} 0 {:016x}", u64::from(why), 0)?,
     }
+    out.write_all(&line)
 }
 
 // Carries out call words, and answers the last call's number.
@@ -72,11 +86,13 @@ fn print_run<W: Write>(out: &mut W, t: &[u64; 641], run: Run) -> io::Result<()> 
     let Ok((n, _)) = outcome else {
         return Ok(());
     };
-    write!(out, "{start} {}", run.end.0)?;
+    let mut line = Text::new();
+    write!(line, "{start} {}", run.end.0)?;
     for name in list.iter().take(n as usize) {
-        write!(out, " {name}")?;
+        write!(line, " {name}")?;
     }
-    writeln!(out)
+    writeln!(line)?;
+    out.write_all(&line)
 }
 
 // No table has more than 512 runs.
@@ -104,7 +120,7 @@ fn session<R: Read, W: Write>(
     }
     let rest = serve_input(input, out, &mut t, first, full)?;
     if rest != 0 {
-        writeln!(out, "rest {rest}")?;
+        print_rest(out, rest)?;
     }
     print_runs(out, &t)
 }
