@@ -36,7 +36,8 @@ pub fn touched(t: &[u64; 641], word: u64) -> Whose
     match service {
         Service::Create => Whose::Up(next_child(t)),
         Service::Delete | Service::ClearOut => Whose::Gone,
-        Service::Prepare | Service::Collect => Whose::Up(f.partition),
+        Service::Prepare => Whose::Up(f.partition),
+        Service::Collect => Whose::Up(f.partition),
         Service::Give | Service::Pack => Whose::One(f.partition),
         Service::Take => Whose::One(searching::given_to(t, caller, f.slot)),
         Service::Cut | Service::Merge => Whose::One(caller),

@@ -32,7 +32,11 @@ returns-in-Delete c = ⊎_elim (λ e. told_at _ c.fields-f.ensures _ Delete c.in
 
 pub returns-in-Prepare : goal.returns-in-Prepare
 unfolding touched_by touched_of_caller
-returns-in-Prepare c = ⊎_elim (λ e. told_at _ c.fields-f.ensures _ Prepare c.in-Ok.ensures e refl (told_partition _ c.fields-f.ensures)) (λ e. told_at _ c.fields-f.ensures _ Collect c.in-Ok.ensures e refl (told_partition _ c.fields-f.ensures)) c.in-Prepare.is
+returns-in-Prepare c = told_at _ c.fields-f.ensures _ Prepare c.in-Ok.ensures c.in-Prepare.is refl (told_partition _ c.fields-f.ensures)
+
+pub returns-in-Collect : goal.returns-in-Collect
+unfolding touched_by touched_of_caller
+returns-in-Collect c = told_at _ c.fields-f.ensures _ Collect c.in-Ok.ensures c.in-Collect.is refl (told_partition _ c.fields-f.ensures)
 
 pub returns-in-Give : goal.returns-in-Give
 unfolding touched_by touched_of_caller
