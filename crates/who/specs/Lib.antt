@@ -1,4 +1,3 @@
 pub mod Who
 pub mod Items
-pub mod Theorem
 pub mod Laws

@@ -43,7 +43,7 @@ fn main(rt: HostRuntime) -> io::Result<()> {
             writeln!(out, "sound")?;
             tell(&mut out, board, &image[..len], u64::from_be_bytes(question))
         }
-        Verdict::Fails(n, p) => says::item(&mut out, "fails", &[n, p.0]),
+        Verdict::Fails(n, p) => says::item(&mut out, b"fails", &[n, p.0]),
         Verdict::Length => writeln!(out, "length"),
     }
 }

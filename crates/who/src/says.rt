@@ -10,10 +10,10 @@ use tables::Outcome;
 use words::{Line, Partition, Slot};
 
 // A word, and numbers.
-pub fn item<W: Write>(out: &mut W, kind: &str, numbers: &[u32]) -> io::Result<()>
+pub fn item<W: Write>(out: &mut W, kind: &[u8], numbers: &[u32]) -> io::Result<()>
     ensures { OnOk result (Appends (W.contents out.old) (W.contents out.new) (item_line kind.now numbers.now)) }
 {
-    write!(out, "{kind}")?;
+    out.write_all(kind)?;
     for n in numbers {
         write!(out, " {n}")?;
     }
@@ -22,7 +22,7 @@ pub fn item<W: Write>(out: &mut W, kind: &str, numbers: &[u32]) -> io::Result<()
 
 pub fn memory<W: Write>(out: &mut W, t: &[u64; 641]) -> io::Result<()> {
     let f = tables::read::first(t);
-    item(out, "memory", &[f.base.0, f.end.0, f.current.0])
+    item(out, b"memory", &[f.base.0, f.end.0, f.current.0])
 }
 
 // Area n of the 80 closes the entry in slot s of p, of lo to hi, if they share a line.
@@ -40,7 +40,7 @@ fn shut<W: Write>(
     let q = Partition(n / 5);
     let j = n % 5;
     if crate::facts::shares(t, q, j, lo, hi) {
-        return item(out, "shut", &[p.0, s.0, q.0, j]);
+        return item(out, b"shut", &[p.0, s.0, q.0, j]);
     }
     Ok(())
 }
@@ -64,7 +64,7 @@ fn region<W: Write>(out: &mut W, t: &[u64; 641], p: Partition, s: Slot, r: u32) 
     requires { (p.0 < 16) × (r < 8) }
 {
     if crate::facts::names(t, p, s, r) {
-        return item(out, "region", &[p.0, s.0, r]);
+        return item(out, b"region", &[p.0, s.0, r]);
     }
     Ok(())
 }
@@ -93,9 +93,9 @@ fn entry<W: Write>(
         return Ok(());
     }
     let numbers = crate::facts::entry(board, p, s, f);
-    item(out, "entry", &numbers)?;
+    item(out, b"entry", &numbers)?;
     let can = crate::facts::can(board, t, p, s, f);
-    item(out, "can", &[p.0, s.0, u32::from(can)])?;
+    item(out, b"can", &[p.0, s.0, u32::from(can)])?;
     regions(out, t, p, s)?;
     if !f.opened {
         return shuts(out, t, p, s, f.start, f.end);
@@ -118,7 +118,7 @@ fn area<W: Write>(out: &mut W, t: &[u64; 641], p: Partition, j: u32) -> io::Resu
 {
     let f = settling::areas::area(t, p, j);
     if f.start.0 < f.end.0 {
-        return item(out, "area", &[p.0, j, f.start.0, f.end.0]);
+        return item(out, b"area", &[p.0, j, f.start.0, f.end.0]);
     }
     Ok(())
 }
@@ -140,7 +140,7 @@ fn partition<W: Write>(out: &mut W, board: Board, t: &[u64; 641], p: Partition) 
     if !h.present {
         return Ok(());
     }
-    item(out, "partition", &[p.0, h.parent.0])?;
+    item(out, b"partition", &[p.0, h.parent.0])?;
     areas(out, t, p)?;
     entries(out, board, t, p)
 }
@@ -159,7 +159,7 @@ fn holder<W: Write>(out: &mut W, t: &[u64; 641], p: Partition, l: Line) -> io::R
     let Some(place) = crate::facts::place_of(t, p, l) else {
         return Ok(l);
     };
-    item(out, "holder", &[p.0, place.slot.0])?;
+    item(out, b"holder", &[p.0, place.slot.0])?;
     Ok(place.end)
 }
 
@@ -200,7 +200,7 @@ pub fn at<W: Write>(
     let Ok((n, _)) = outcome else {
         return Ok(None);
     };
-    item(out, "at", &[l])?;
+    item(out, b"at", &[l])?;
     let end = holders(out, t, &list, n, Line(l))?;
     Ok(Some(end))
 }
@@ -213,7 +213,7 @@ fn run<W: Write>(
     start: Line,
     end: Line,
 ) -> io::Result<()> {
-    item(out, "run", &[start.0, end.0])?;
+    item(out, b"run", &[start.0, end.0])?;
     let mut l = start.0;
     while l < end.0 {
         let Some(next) = at(out, board, t, u64::from(l))? else {

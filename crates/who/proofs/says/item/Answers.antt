@@ -32,12 +32,12 @@ module _ (kind numbers : List ℕ) where
 
 pub loop-n-init : goal.loop-n-init
 unfolding numbers_text
-loop-n-init g c = subst (Appends _ _) (sym (append-nil c.args.kind.now)) c.in_ok-write.ensures.bytes
+loop-n-init g c = subst (Appends _ _) (sym (append-nil c.args.kind.now)) c.in_ok-write_all.ensures.bytes
 
 pub loop-n-preserved : goal.loop-n-preserved
 loop-n-preserved g c =
     subst (Appends _ _) (one_more c.args.kind.now c.args.numbers.now c.loop-n.n-index c.loop-n-test.true)
-    (Appends-trans _ _ _ _ _ c.loop-n.invariant c.in_ok-write-2.ensures.bytes)
+    (Appends-trans _ _ _ _ _ c.loop-n.invariant c.in_ok-write.ensures.bytes)
 
 pub returns : goal.returns
 returns g c =

@@ -1,4 +1,4 @@
--- What the `can` of an entry says, by the rule of load: Closed and ManyPieces are never loaded, IfLoaded can be.
+-- What the `can` number of an entry says, by the rule of load: 0 and 2 are never loaded, 3 can be.
 use Rattle.std.specs.Prelude.{◌≡◌, Bool, true, false, ℕ, ◌<◌, length, eqb, leb}
 use Rattle.std.proofs.Math.Path.{refl}
 use Rattle.std.proofs.Common.{arith}
@@ -19,15 +19,14 @@ use Rattle.isolation.specs.Ladders.{OwnOrChild}
 use Rattle.isolation.specs.Ladder.{finished, holds, found}
 use Rattle.isolation.specs.Laws.Ladder.{answer_one}
 use Rattle.isolation.proofs.Laws.Regions.{load_exact, load_done}
-use Rattle.who.specs.declared.facts.CanWrite.{CanWrite}
-use Rattle.who.specs.declared.facts.CanWrite.TheVariants.{Closed, ManyPieces, IfLoaded}
-use Rattle.who.specs.Who.{names_it, can_write}
-use Rattle.who.specs.Laws.Pieces.{sum_only, answer, is_closed, is_many, is_if_loaded}
+use Rattle.who.specs.Who.{names_it, can_number, can_write}
+use Rattle.who.specs.Laws.Pieces.{sum_only}
+use Rattle.who.proofs.Laws.Numbers.{answer, is_closed, is_many, is_if_loaded}
 
 -- of the entry e in slot s of p, in a right table, as every sound one is (`sound_right`)
 module _ (b : Board) {t : Table} (h : Right t) (p s : ℕ) {e : Entry} (at : t.k.slot p s ≡ some e) where
-  -- what an answer says of the first test, open, and of the last, few pieces
-  tested : (A : Bool → Bool → Type 0) {n : CanWrite} → ((o w x c f : Bool) → answer o w x c f ≡ n → A o f) → can_write b t p s e (t.opened p s) ≡ n
+  -- what a number says of the first test, open, and of the last, few pieces
+  tested : (A : Bool → Bool → Type 0) {n : ℕ} → ((o w x c f : Bool) → can_number (answer o w x c f) ≡ n → A o f) → can_number (can_write b t p s e (t.opened p s)) ≡ n
       → A (t.opened p s) (leb (length (pieces_for b e.start e.stop)) 8)
   unfolding can_write
   tested A law q = law (t.opened p s) e.rights.write (any 8 (names_it t p s)) (eqb t.k.current p) (leb (length (pieces_for b e.start e.stop)) 8) q
@@ -43,11 +42,11 @@ module _ (b : Board) {t : Table} (h : Right t) (p s : ℕ) {e : Entry} (at : t.k
   others empty r m z = rw (upd_other t.region p r (some s) p m (λ w. z w.1), empty m) refl
 
   -- closed: no call loads it, into whatever region
-  pub closed_never : can_write b t p s e (t.opened p s) ≡ Closed → (r : ℕ) {v w : ℕ} {t' : Table} → load b t p s r ≡ done v w t' → ⊥
+  pub closed_never : can_number (can_write b t p s e (t.opened p s)) ≡ 0 → (r : ℕ) {v w : ℕ} {t' : Table} → load b t p s r ≡ done v w t' → ⊥
   closed_never q r x = let (f, ok, _) = load_done b h p s r x in tested (λ o _. o ≡ true → ⊥) is_closed q ((h.s9 p s f ok.at).1 ok.clear)
 
   -- many pieces: likewise
-  pub large_never : can_write b t p s e (t.opened p s) ≡ ManyPieces → (r : ℕ) {v w : ℕ} {t' : Table} → load b t p s r ≡ done v w t' → ⊥
+  pub large_never : can_number (can_write b t p s e (t.opened p s)) ≡ 2 → (r : ℕ) {v w : ℕ} {t' : Table} → load b t p s r ≡ done v w t' → ⊥
   unfolding loaded_pieces
   large_never q r x =
       let (f, ok, _) = load_done b h p s r x in
@@ -55,7 +54,7 @@ module _ (b : Board) {t : Table} (h : Right t) (p s : ℕ) {e : Entry} (at : t.k
       omega (arith, most, ok.few, needed r, leb-false (length (pieces_for b e.start e.stop)) 8 (tested (λ _ f. f ≡ false) is_many q))
 
   -- if loaded: a call of p or of its parent loads it, where p has nothing else loaded
-  pub loads : can_write b t p s e (t.opened p s) ≡ IfLoaded → OwnOrChild t.k p → ((r : ℕ) → t.region p r ≡ none) → (r : ℕ) → r < 8
+  pub loads : can_number (can_write b t p s e (t.opened p s)) ≡ 3 → OwnOrChild t.k p → ((r : ℕ) → t.region p r ≡ none) → (r : ℕ) → r < 8
       → load b t p s r ≡ done 0 0 (settle t.k (upd t.region p r (some s)))
   unfolding loaded_pieces
   loads q who empty r below =
