@@ -27,7 +27,7 @@ fn answer_word(o: Outcome) -> u64
 }
 
 // The plan of a list of so many records; the marks that its runs are read from are left in the words, which are zero so far.
-fn plan_bytes(board: Board, table: &[u8], size: usize, words: &mut [u64; 641]) -> Ready
+pub fn plan_bytes(board: Board, table: &[u8], size: usize, words: &mut [u64; 641]) -> Ready
     requires { words.old ≡ replicate 641 0 }
     ensures { (result ≡ ready_of board table.now size) × (words.new ≡ left_of board table.now) }
 {

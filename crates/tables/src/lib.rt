@@ -42,8 +42,8 @@ fn fits_word(w: u64)
     ensures { w < 2 ^ 64 }
 {}
 
-// The word goes to its place. A refusal stores nothing: no caller meets one.
-pub fn store(t: &mut [u64; 641], at: usize, word: Result<u64, Refusal>)
+// The word goes to its place. A refusal, of whatever kind, stores nothing: no caller meets one.
+pub fn store<E: Copy>(t: &mut [u64; 641], at: usize, word: Result<u64, E>)
     requires { at < 641 }
     ensures { t.new ≡ stored t.old at word }
 {

@@ -1,13 +1,13 @@
 -- The walk over the regions decides S10: what each of them weighs, and their sum; and that those that it leaves out weigh nothing.
-use Rattle.std.specs.Prelude.{◌≡◌, Bool, ◌&&◌, ◌||◌, List, Option, Some, None, ℕ, ◌+◌, ◌^◌, ◌≤◌, ◌<◌, leb, eqb, zero, suc}
+use Rattle.std.specs.Prelude.{◌≡◌, Bool, ◌&&◌, ◌||◌, List, Option, Some, None, unwrap_or, ℕ, ◌+◌, ◌^◌, ◌≤◌, ◌<◌, leb, eqb, zero, suc}
 use Rattle.std.proofs.Math.Path.{refl, ap}
-use Rattle.std.proofs.Common.{ap₂, sym, subst, ◌∙◌, add-zero, arith, le-leb}
+use Rattle.std.proofs.Common.{ap₂, sym, subst, ◌∙◌, add-zero, arith, leb-true, le-leb}
 use Rattle.std.proofs.Math.Bool.{true, false, cond, not, or-false, not-not, or-true}
 use Rattle.std.specs.Int.Bits.{bit_or}
-use Rattle.loops.specs.Loops.{all, names}
+use Rattle.loops.specs.Loops.{sum, all, names}
 use Rattle.loops.specs.Laws.Mask.{names_none, names_or, names_one}
-use Rattle.loops.specs.Laws.Count.{Summing, sum_start, sum_on, sum_end}
-use Rattle.loops.specs.Laws.Every.{all_ext, all_true, all_zero, all_more, all_of}
+use Rattle.loops.specs.Laws.Count.{Summing, sum_start, sum_on, sum_end, sum_ext, sum_at}
+use Rattle.loops.specs.Laws.Every.{all_at, fail_at, all_ext, all_true, all_zero, all_more, all_of}
 use Rattle.words.specs.Kind.{fields_in}
 use Rattle.words.specs.Words.{regions}
 use Rattle.words.specs.Fields.{no_region}
@@ -22,7 +22,7 @@ use Rattle.tables.specs.Laws.Seen.{see_regions, see_region}
 use Rattle.tables.specs.Laws.Walk.{WalkingRegions, walk_start, walk_in, walk_at, walk_on, walk_end}
 use Rattle.sound.specs.Clauses.{when, s10_names, s10_once, s10}
 use Rattle.sound.specs.Limit.{entry_pieces, region_pieces, loaded_pieces}
-use Rattle.sound.specs.Laws.Tests.{all_and, and_true, not_of}
+use Rattle.sound.specs.Laws.Tests.{all_and, never, and_true, not_of}
 use Rattle.loaded.specs.Laws.Limit.{region_empty, region_counted}
 use Rattle.loaded.specs.Opening.{is_open, slot_noted, weight, some_loaded}
 use Rattle.std.proofs.lemmas.Bool.{false≢true, not-true}
@@ -134,6 +134,23 @@ module _ (b : Board) {l : List ℕ} {p r : ℕ} {f : RegionsFields} {x : Region}
 s10_each : (board : Board) (t : Table) (p : ℕ) → all 8 (region_right t p) && leb (loaded_pieces board t.k.slot t.region p) 8 ≡ s10 board t p
 unfolding s10 region_right
 s10_each board t p = ap (λ (x : Bool). x && leb (loaded_pieces board t.k.slot t.region p) 8) (all_and 8 (s10_names t p) (λ r. all r (s10_once t p r)))
+
+-- they weigh at most 8 exactly if S10 holds, where one that is not right counts as 9
+s10_weighed : (b : Board) (t : Table) (p : ℕ) → leb (sum 8 (λ r. unwrap_or (weight_at b t p r) 9)) 8 ≡ s10 b t p
+unfolding weight_at loaded_pieces
+s10_weighed b t p = go (all 8 (region_right t p)) refl
+  where
+    heavy : ℕ → ℕ
+    heavy r = unwrap_or (weight_at b t p r) 9
+
+    go : (y : Bool) → all 8 (region_right t p) ≡ y → leb (sum 8 heavy) 8 ≡ s10 b t p
+    go true q =
+        let same : sum 8 heavy ≡ loaded_pieces b t.k.slot t.region p = sum_ext 8 _ _ (λ r h. rw (all_at 8 (region_right t p) q r h) refl) in
+        rw (← (s10_each b t p), q, same) refl
+    go false q =
+        let (k, h, w) = fail_at 8 (region_right t p) q in
+        let nine : heavy k ≡ 9 = rw w refl in
+        sym (never (leb (sum 8 heavy) 8) (λ u. omega (arith, leb-true (sum 8 heavy) 8 u, sum_at 8 heavy k h))) ∙ rw (← (s10_each b t p), q) refl
 
 -- the loop: the regions before r are right, n is what they weigh, and the mask has the slots that they name
 pub record Weighing (b : Board) (t : Table) (p : ℕ) (f : RegionsFields) (m n r : ℕ) : Type 0 where

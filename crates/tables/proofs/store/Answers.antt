@@ -5,8 +5,8 @@ use Rattle.tables.proofs.store.Goals as goal
 
 pub returns-in-Ok : goal.returns-in-Ok
 unfolding stored
-returns-in-Ok c = rw c.in-Ok.is refl
+returns-in-Ok g c = rw c.in-Ok.is refl
 
 pub returns-in_default : goal.returns-in_default
 unfolding stored
-returns-in_default c = rw c.in_default.is refl
+returns-in_default g c = rw c.in_default.is refl
