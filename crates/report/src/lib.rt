@@ -6,4 +6,4 @@ mod input;
 mod printing;
 
 pub use input::read_full;
-pub use printing::{judge, print};
+pub use printing::{judge, of_verdict, print};

@@ -1,26 +1,40 @@
-ghost use Rattle.std.specs.Prelude.{IfSome, OnOk};
+ghost use Rattle.std.specs.Prelude.{◌≡◌, ◌≤◌, length, IfSome, OnOk};
 ghost use Rattle.std.specs.Io.KnownBytes.{Appends};
-ghost use Rattle.verdict.specs.Verdict.{image_verdict};
+ghost use Rattle.verdict.specs.Verdict.{image_verdict, ClauseNamed};
 ghost use Rattle.report.specs.Report.{printed_line};
 
-use arrayvec::ArrayVec;
+use arrayvec::ArrayString;
 use shapes::Board;
 use std::io;
 use std::io::{Read, Write};
 use verdict::Verdict;
 
-// Writes the line that tells the verdict. It is put together first, so that it leaves in one write.
-#[tactic(auto, unfolding(crate::specs::Report::printed_line))]
+// The line that tells the verdict. That of a clause of 01 has at most eight bytes; there is room for any two numbers.
+pub fn of_verdict(v: Verdict) -> ArrayString<32>
+    ensures line { result.bytes ≡ printed_line v }
+    ensures within { ClauseNamed v → length result.bytes ≤ 8 }
+{
+    let mut line = ArrayString::new();
+    let mut digits = itoa::Buffer::new();
+    match v {
+        Verdict::Accepted => line.push_str("sound"),
+        Verdict::Fails(n, p) => {
+            line.push('S');
+            line.push_str(digits.format(n));
+            line.push(' ');
+            line.push_str(digits.format(p.0));
+        }
+        Verdict::Length => line.push_str("length"),
+    }
+    line.push('\n');
+    line
+}
+
+// Writes the line that tells the verdict, at once.
 pub fn print<W: Write>(out: &mut W, v: Verdict) -> io::Result<()>
     ensures { OnOk result (Appends (W.contents out.old) (W.contents out.new) (printed_line v)) }
 {
-    let mut line = ArrayVec::<u8, 32>::new();
-    match v {
-        Verdict::Accepted => writeln!(line, "sound")?,
-        Verdict::Fails(n, p) => writeln!(line, "S{n} {}", p.0)?,
-        Verdict::Length => writeln!(line, "length")?,
-    }
-    out.write_all(&line)
+    out.write_all(of_verdict(v).as_bytes())
 }
 
 // Reads an image and prints the verdict on it. What comes after the first byte too many is not read: the image has another length already.
