@@ -9,7 +9,8 @@ use std::io;
 use std::io::{Read, Write};
 use verdict::Verdict;
 
-// The line that tells the verdict. That of a clause of 01 has at most eight bytes; there is room for any two numbers.
+// The line that tells the verdict, of any two numbers; that of a clause of 01 has at most eight bytes. It is pushed and not written, since
+// `write!` may fail by what its contract says.
 pub fn of_verdict(v: Verdict) -> ArrayString<32>
     ensures line { result.bytes ≡ printed_line v }
     ensures within { ClauseNamed v → length result.bytes ≤ 8 }
